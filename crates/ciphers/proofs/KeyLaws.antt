@@ -1,0 +1,33 @@
+-- The cases of the keys' definitions, each as a way through the code meets it. Assumes nothing.
+use Prim.Native.Nat.{ℕ, _≤_, _<_}
+use native.Mathlib.Omega.{arith}
+use mathlib.Core.Path.{_≡_, sym}
+use mathlib.Core.Bool.{true, false, not}
+use mathlib.Core.List.{List}
+use lib.ListN.{getD}
+use lib.Dec.{eqb}
+use borrow.Author.Tests.{lt-ltb, le-ltb, eq-eqb, ne-eqb}
+use Rattle.octets.specs.Tests.{allBelow}
+use Rattle.ciphers.specs.Keys.{oddOctet, scrambleKey, desKey}
+use Rattle.octets.proofs.TestLaws.{all-fails}
+
+module _ (k : List ℕ) where
+  pub scramble-top : 128 ≤ getD k 0 0 → false ≡ scrambleKey k
+  unfolding scrambleKey
+  scramble-top h = rw (le-ltb _ _ h)
+
+  pub scramble-high : getD k 0 0 < 128 → (getD k 0 0 ≡ 0 → ⊥) → true ≡ scrambleKey k
+  unfolding scrambleKey
+  scramble-high h n = rw (lt-ltb _ _ h, ne-eqb _ _ n)
+
+  pub scramble-low : getD k 0 0 < 128 → getD k 0 0 ≡ 0 → not (eqb (getD k 1 0) 0) ≡ scrambleKey k
+  unfolding scrambleKey
+  scramble-low h e = rw (lt-ltb _ _ h, eq-eqb _ _ e)
+
+  pub des-fails : (i : ℕ) → i < 8 → oddOctet (getD k i 0) ≡ false → false ≡ desKey k
+  unfolding desKey
+  des-fails i h e = sym (all-fails _ 8 i h e)
+
+  pub des-all : (i : ℕ) → i ≤ 8 → 8 ≤ i → allBelow (λ j. oddOctet (getD k j 0)) i ≡ true → true ≡ desKey k
+  unfolding desKey
+  des-all i h h' e = let z : i ≡ 8 = omega arith in sym (rw z at e)

@@ -1,0 +1,15 @@
+-- The cipher types, 1 scramble, 2 DES and 3 AES, and the numbers that belong to each.
+use Prim.Native.Nat.{ℕ}
+use lib.Dec.{eqb}
+use Rattle.octets.specs.Tests.{pick}
+
+module _ {ℓ} {A : Type ℓ} where
+  -- what belongs to a cipher type: scramble's, DES's or AES's, and the last for a number that is none
+  abbrev pub byCipher : ℕ → A → A → A → A → A
+  byCipher c scramble des aes none = pick (eqb c 1) scramble (pick (eqb c 2) des (pick (eqb c 3) aes none))
+
+abbrev pub keyOctets : ℕ → ℕ
+keyOctets c = byCipher c 2 8 32 0
+
+abbrev pub sessionSlots : ℕ → ℕ
+sessionSlots c = byCipher c 4 8 8 0

@@ -1,0 +1,65 @@
+// Which keys a cipher allows.
+ghost use mathlib.Core.Path.{_≡_};
+ghost use Prim.Native.Nat.{_≤_};
+ghost use lib.ListN.{length};
+ghost use Rattle.ciphers.specs.Keys.{oddOctet, scrambleKey, desKey, keyAllowed};
+use crate::cipher::Aes;
+use crate::cipher::Des;
+use crate::cipher::Scramble;
+
+// Whether an odd number of an octet's bits are 1.
+fn odd_octet(x: u8) -> bool
+    ensures { λ r. ⌜ r ≡ oddOctet x ⌝ }
+{
+    let ones = x % 2
+        + x / 2 % 2
+        + x / 4 % 2
+        + x / 8 % 2
+        + x / 16 % 2
+        + x / 32 % 2
+        + x / 64 % 2
+        + x / 128 % 2;
+    ones % 2 == 1
+}
+
+// 15 bits, high octet first, not all zero.
+fn scramble_key(key: &[u8]) -> bool
+    requires { ⌜ 2 ≤ length (now key) ⌝ }
+    ensures { λ r. ⌜ r ≡ scrambleKey (now (key .entry)) ⌝ }
+{
+    if key[0] >= 128 {
+        return false;
+    }
+    if key[0] != 0 {
+        return true;
+    }
+    key[1] != 0
+}
+
+// Odd parity in every octet.
+fn des_key(key: &[u8]) -> bool
+    requires { ⌜ 8 ≤ length (now key) ⌝ }
+    ensures { λ r. ⌜ r ≡ desKey (now (key .entry)) ⌝ }
+{
+    let mut i = 0;
+    while i < Des::KEY_OCTETS {
+        if !odd_octet(key[i]) {
+            return false;
+        }
+        i += 1;
+    }
+    true
+}
+
+// Whether a key is allowed; its octets come first.
+pub fn key_allowed(cipher: u8, key: &[u8]) -> bool
+    requires { ⌜ 32 ≤ length (now key) ⌝ }
+    ensures { λ r. ⌜ r ≡ keyAllowed cipher (now (key .entry)) ⌝ }
+{
+    match cipher {
+        Scramble::TYPE => scramble_key(key),
+        Des::TYPE => des_key(key),
+        Aes::TYPE => true,
+        _ => false,
+    }
+}

@@ -1,0 +1,127 @@
+-- Laws of bits and octets. Assumes nothing.
+use mathlib.Core.Path.{_≡_, refl, sym, ap, ap₂, _∙_}
+use mathlib.Core.List.{List, [], _∷_}
+use Prim.Native.Nat.{ℕ, zero, suc, _+_, _-_, _*_, _/_, _%_, _^_, _≤_, _<_}
+use native.Mathlib.Nat.{div-one, div-eq-of-lt, mod-eq-of-lt, div-div-eq-div-mul}
+use native.Mathlib.Decide.{decLt}
+use native.Mathlib.Omega.{arith}
+use lib.Bits.{bitXor, differ, xor-shr, xor-step}
+use lib.ListN.{length, getD}
+use Rattle.octets.specs.Bits.{bit, flip, octet, octetsFrom, Bits, Octets}
+
+pub flip-flip : (a b : ℕ) → a < 2 → flip (flip a b) b ≡ a
+flip-flip a b h = omega arith
+
+pub flip-zero : (a : ℕ) → a < 2 → flip a 0 ≡ a
+flip-zero a h = omega arith
+
+pub flip-lt : (a b : ℕ) → flip a b < 2
+flip-lt a b = omega arith
+
+pub bit-lt : (xs : List ℕ) (n : ℕ) → bit xs n < 2
+bit-lt xs n = omega arith
+
+octet-bit : (f : ℕ → ℕ) → Bits f → (k : ℕ) → k < 8 → octet f / 2 ^ (7 - k) % 2 ≡ f k
+unfolding octet
+octet-bit f h zero l = omega (arith, h 0, h 1, h 2, h 3, h 4, h 5, h 6, h 7)
+octet-bit f h (suc zero) l = omega (arith, h 0, h 1, h 2, h 3, h 4, h 5, h 6, h 7)
+octet-bit f h (suc (suc zero)) l = omega (arith, h 0, h 1, h 2, h 3, h 4, h 5, h 6, h 7)
+octet-bit f h (suc (suc (suc zero))) l = omega (arith, h 0, h 1, h 2, h 3, h 4, h 5, h 6, h 7)
+octet-bit f h (suc (suc (suc (suc zero)))) l = omega (arith, h 0, h 1, h 2, h 3, h 4, h 5, h 6, h 7)
+octet-bit f h (suc (suc (suc (suc (suc zero))))) l = omega (arith, h 0, h 1, h 2, h 3, h 4, h 5, h 6, h 7)
+octet-bit f h (suc (suc (suc (suc (suc (suc zero)))))) l = omega (arith, h 0, h 1, h 2, h 3, h 4, h 5, h 6, h 7)
+octet-bit f h (suc (suc (suc (suc (suc (suc (suc zero))))))) l = omega (arith, h 0, h 1, h 2, h 3, h 4, h 5, h 6, h 7)
+octet-bit f h (suc (suc (suc (suc (suc (suc (suc (suc k)))))))) l = absurd (omega arith)
+
+octet-lt : (f : ℕ → ℕ) → Bits f → octet f < 256
+unfolding octet
+octet-lt f h = omega (arith, h 0, h 1, h 2, h 3, h 4, h 5, h 6, h 7)
+
+half-ext : (x y m : ℕ) → x / (m * 2) ≡ y / (m * 2) → x / m % 2 ≡ y / m % 2 → x / m ≡ y / m
+half-ext x y m h e =
+    let a : x / m / 2 ≡ y / m / 2 = div-div-eq-div-mul x m 2 ∙ h ∙ sym (div-div-eq-div-mul y m 2) in
+    omega arith
+
+-- two octets with the same eight bits
+pub octet-ext : (x y : ℕ) → x < 256 → y < 256 → ((k : ℕ) → k < 8 → x / 2 ^ (7 - k) % 2 ≡ y / 2 ^ (7 - k) % 2) → x ≡ y
+octet-ext x y hx hy e =
+    let s = half-ext x y in
+    let top : x / 256 ≡ y / 256 = div-eq-of-lt hx ∙ sym (div-eq-of-lt hy) in
+    sym (div-one x)
+    ∙ s 1 (s 2 (s 4 (s 8 (s 16 (s 32 (s 64 (s 128 top
+    (e 0 (omega arith))) (e 1 (omega arith))) (e 2 (omega arith))) (e 3 (omega arith))) (e 4 (omega arith))) (e 5 (omega arith))) (e 6 (omega arith))) (e 7 (omega arith))
+    ∙ div-one y
+
+-- bits of a longer list
+bit-head : (x : ℕ) (xs : List ℕ) (k : ℕ) → k < 8 → bit (x ∷ xs) k ≡ x / 2 ^ (7 - k) % 2
+bit-head x xs k h = rw (div-eq-of-lt h, mod-eq-of-lt h)
+
+bit-tail : (x : ℕ) (xs : List ℕ) (k : ℕ) → bit (x ∷ xs) (k + 8) ≡ bit xs k
+bit-tail x xs k =
+    let q : (k + 8) / 8 ≡ suc (k / 8) = omega arith in
+    let r : (k + 8) % 8 ≡ k % 8 = omega arith in
+    rw (q, r)
+
+-- the bits of a longer list are f's, if the first octet's and the rest's are
+cons-bits : (x : ℕ) (xs : List ℕ) (n : ℕ) (f : ℕ → ℕ) → ((k : ℕ) → k < 8 → x / 2 ^ (7 - k) % 2 ≡ f k) → ((j : ℕ) → j < 8 * n → bit xs j ≡ f (j + 8))
+    → (k : ℕ) → k < 8 * suc n → bit (x ∷ xs) k ≡ f k
+cons-bits x xs n f head tail k l = go (decLt k 8)
+  where
+    go : Dec (k < 8) → bit (x ∷ xs) k ≡ f k
+    go (yes a) = bit-head x xs k a ∙ head k a
+    go (no a) =
+        let e : k ≡ k - 8 + 8 = omega arith in
+        rw e (bit-tail x xs (k - 8) ∙ tail (k - 8) (omega arith))
+
+-- the octets of f have f's bits
+pub bit-octetsFrom : (n : ℕ) (f : ℕ → ℕ) → Bits f → (k : ℕ) → k < 8 * n → bit (octetsFrom n f) k ≡ f k
+unfolding octetsFrom
+bit-octetsFrom zero f h k l = absurd (omega arith)
+bit-octetsFrom (suc n) f h k l =
+    cons-bits (octet f) (octetsFrom n (λ i. f (i + 8))) n f (octet-bit f h) (bit-octetsFrom n (λ i. f (i + 8)) (λ i. h (i + 8))) k l
+
+pub length-octetsFrom : (n : ℕ) (f : ℕ → ℕ) → length (octetsFrom n f) ≡ n
+unfolding octetsFrom
+length-octetsFrom zero f = refl
+length-octetsFrom (suc n) f = ap suc (length-octetsFrom n (λ i. f (i + 8)))
+
+pub octets-octetsFrom : (n : ℕ) (f : ℕ → ℕ) → Bits f → Octets (octetsFrom n f)
+unfolding octetsFrom
+octets-octetsFrom zero f h i = omega arith
+octets-octetsFrom (suc n) f h zero = octet-lt f h
+octets-octetsFrom (suc n) f h (suc i) = octets-octetsFrom n (λ i. f (i + 8)) (λ i. h (i + 8)) i
+
+-- octet lists of one length with the same bits are equal
+pub octets-ext : (xs ys : List ℕ) → Octets xs → Octets ys → length xs ≡ length ys → ((k : ℕ) → k < 8 * length xs → bit xs k ≡ bit ys k) → xs ≡ ys
+octets-ext [] [] hx hy l e = refl
+octets-ext [] (y ∷ ys) hx hy l e = absurd (omega arith)
+octets-ext (x ∷ xs) [] hx hy l e = absurd (omega arith)
+octets-ext (x ∷ xs) (y ∷ ys) hx hy l e =
+    ap₂ _∷_
+    (octet-ext x y (hx 0) (hy 0) (λ k h. sym (bit-head x xs k h) ∙ e k (omega arith) ∙ bit-head y ys k h))
+    (octets-ext xs ys (λ i. hx (suc i)) (λ i. hy (suc i)) (omega arith) (λ k h. sym (bit-tail x xs k) ∙ e (k + 8) (omega arith) ∙ bit-tail y ys k))
+
+-- bit k of octet i
+pub bit-at : (xs : List ℕ) (i k : ℕ) → k < 8 → bit xs (8 * i + k) ≡ getD xs i 0 / 2 ^ (7 - k) % 2
+bit-at xs i k h =
+    let q : (8 * i + k) / 8 ≡ i = omega arith in
+    let r : (8 * i + k) % 8 ≡ k = omega arith in
+    rw (q, r)
+
+differ-flip : (a b : ℕ) → a < 2 → b < 2 → differ a b ≡ (a + b) % 2
+differ-flip zero zero h k = refl
+differ-flip zero (suc zero) h k = refl
+differ-flip zero (suc (suc b)) h k = absurd (omega arith)
+differ-flip (suc zero) zero h k = refl
+differ-flip (suc zero) (suc zero) h k = refl
+differ-flip (suc zero) (suc (suc b)) h k = absurd (omega arith)
+differ-flip (suc (suc a)) b h k = absurd (omega arith)
+
+xor-low : (a b : ℕ) → bitXor a b % 2 ≡ (a % 2 + b % 2) % 2
+xor-low a b =
+    let d : differ (a % 2) (b % 2) ≡ (a % 2 + b % 2) % 2 = differ-flip (a % 2) (b % 2) (omega arith) (omega arith) in
+    omega (arith, xor-step a b)
+
+-- a bit of an exclusive or
+pub xor-bit : (a b k : ℕ) → bitXor a b / 2 ^ k % 2 ≡ flip (a / 2 ^ k % 2) (b / 2 ^ k % 2)
+xor-bit a b k = ap (λ (x : ℕ). x % 2) (xor-shr a b k) ∙ xor-low (a / 2 ^ k) (b / 2 ^ k)

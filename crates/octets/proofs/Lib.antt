@@ -1,0 +1,7 @@
+pub mod TestLaws
+pub mod ListLaws
+pub mod BitLaws
+pub mod Front
+pub mod Windows
+pub mod Turning
+pub mod Parts

@@ -1,0 +1,36 @@
+-- Laws of lists given by a function of the place, and of repeated steps. Assumes nothing.
+use mathlib.Core.Path.{_≡_, refl, sym, ap, _∙_}
+use mathlib.Core.List.{List, [], _∷_, _++_}
+use mathlib.Core.Logic.{⊎-elim}
+use Prim.Native.Nat.{ℕ, zero, suc, _+_, _≤_, _<_}
+use native.Mathlib.Nat.{le-of-lt, not-suc-le-zero, le-of-suc-le-suc, eq-or-lt-of-le, zero-add}
+use native.Mathlib.Omega.{arith}
+use lib.ListN.{length, getD, take, length-append, List·getD-append}
+use lib.Seq.{take-suc, getD-at}
+use Rattle.octets.specs.Lists.{tab, iterate}
+
+pub length-tab : (f : ℕ → ℕ) (n : ℕ) → length (tab f n) ≡ n
+unfolding tab
+length-tab f zero = refl
+length-tab f (suc n) = length-append (tab f n) (f n ∷ []) ∙ omega (arith, length-tab f n)
+
+pub getD-tab : (f : ℕ → ℕ) (n i : ℕ) → i < n → getD (tab f n) i 0 ≡ f i
+unfolding tab
+getD-tab f zero i h = absurd (not-suc-le-zero h)
+getD-tab f (suc n) i h =
+    ⊎-elim (λ e. rw e (getD-at (tab f n) (f n) [] 0 n (length-tab f n)))
+    (λ l. List·getD-append (tab f n) (f n ∷ []) 0 i (omega (arith, length-tab f n)) ∙ getD-tab f n i l) (eq-or-lt-of-le (le-of-suc-le-suc h))
+
+pub tab-take : (l : List ℕ) (n : ℕ) → n ≤ length l → tab (λ k. getD l k 0) n ≡ take n l
+unfolding tab
+tab-take l zero h = refl
+tab-take l (suc n) h = ap (λ (r : List ℕ). r ++ (getD l n 0 ∷ [])) (tab-take l n (le-of-lt h)) ∙ sym (take-suc l n 0 h)
+
+module _ {ℓ} {A : Type ℓ} (step : A → A) where
+  -- m steps and then n more
+  pub iterate-add : (n m : ℕ) (x : A) → iterate step n (iterate step m x) ≡ iterate step (n + m) x
+  unfolding iterate
+  iterate-add zero m x = rw zero-add
+  iterate-add (suc n) m x =
+      let e : suc (n + m) ≡ suc n + m = omega arith in
+      ap step (iterate-add n m x) ∙ ap (λ (k : ℕ). iterate step k x) e

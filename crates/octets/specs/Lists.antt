@@ -1,0 +1,14 @@
+-- A list given by a function of the place, and a step taken again and again.
+use Prim.Native.Nat.{ℕ, zero, suc}
+use mathlib.Core.List.{List, [], _∷_, _++_}
+
+-- f 0, f 1, .., f (n - 1)
+unfoldable pub tab : (ℕ → ℕ) → ℕ → List ℕ
+tab f zero = []
+tab f (suc n) = tab f n ++ (f n ∷ [])
+
+module _ {ℓ} {A : Type ℓ} where
+  -- x after n steps
+  unfoldable pub iterate : (A → A) → ℕ → A → A
+  iterate step zero x = x
+  iterate step (suc n) x = step (iterate step n x)
