@@ -1,11 +1,12 @@
 -- Laws of bits and octets. Assumes nothing.
 use mathlib.Core.Path.{_≡_, refl, sym, ap, ap₂, _∙_}
-use mathlib.Core.List.{List, [], _∷_}
+use mathlib.Core.List.{List, [], _∷_, _++_}
 use Prim.Native.Nat.{ℕ, zero, suc, _+_, _-_, _*_, _/_, _%_, _^_, _≤_, _<_}
-use native.Mathlib.Nat.{div-one, div-eq-of-lt, mod-eq-of-lt, div-div-eq-div-mul}
+use native.Mathlib.Nat.{add-mod, div-one, div-eq-of-lt, mod-eq-of-lt, div-div-eq-div-mul}
 use native.Mathlib.Decide.{decLt}
 use native.Mathlib.Omega.{arith}
 use lib.Bits.{bitXor, differ, xor-shr, xor-step}
+use lib.Pow.{field, mod-mod-pow}
 use lib.ListN.{length, getD}
 use Rattle.octets.specs.Bits.{bit, flip, octet, octetsFrom, Bits, Octets}
 
@@ -14,6 +15,20 @@ flip-flip a b h = omega arith
 
 pub flip-zero : (a : ℕ) → a < 2 → flip a 0 ≡ a
 flip-zero a h = omega arith
+
+pub flip-between : (x y z : ℕ) → flip (flip x y) (flip y z) ≡ flip x z
+flip-between x y z = omega arith
+
+pub flip-cancel : (x y z : ℕ) → y < 2 → z < 2 → flip x y ≡ flip x z → y ≡ z
+flip-cancel x y z h l e = omega arith
+
+pub flip-assoc : (a b c : ℕ) → flip a (flip b c) ≡ flip (flip a b) c
+flip-assoc a b c = omega arith
+
+pub flip-mixed : (a b c d : ℕ) → flip (flip a b) (flip c d) ≡ flip (flip a c) (flip b d)
+flip-mixed a b c d =
+    let e : a + b + (c + d) ≡ a + c + (b + d) = omega arith in
+    sym (add-mod (a + b) (c + d) 2) ∙ ap (λ (z : ℕ). z % 2) e ∙ add-mod (a + c) (b + d) 2
 
 pub flip-lt : (a b : ℕ) → flip a b < 2
 flip-lt a b = omega arith
@@ -52,6 +67,14 @@ octet-ext x y hx hy e =
     (e 0 (omega arith))) (e 1 (omega arith))) (e 2 (omega arith))) (e 3 (omega arith))) (e 4 (omega arith))) (e 5 (omega arith))) (e 6 (omega arith))) (e 7 (omega arith))
     ∙ div-one y
 
+-- an octet is that of its bits
+pub octet-of : (x : ℕ) (f : ℕ → ℕ) → x < 256 → Bits f → ((k : ℕ) → k < 8 → x / 2 ^ (7 - k) % 2 ≡ f k) → x ≡ octet f
+octet-of x f h b e = octet-ext x (octet f) h (octet-lt f b) (λ k l. e k l ∙ sym (octet-bit f b k l))
+
+pub octet-same : (f g : ℕ → ℕ) → ((k : ℕ) → f k ≡ g k) → octet f ≡ octet g
+unfolding octet
+octet-same f g e = rw (e 0, e 1, e 2, e 3, e 4, e 5, e 6, e 7)
+
 -- bits of a longer list
 bit-head : (x : ℕ) (xs : List ℕ) (k : ℕ) → k < 8 → bit (x ∷ xs) k ≡ x / 2 ^ (7 - k) % 2
 bit-head x xs k h = rw (div-eq-of-lt h, mod-eq-of-lt h)
@@ -79,6 +102,21 @@ unfolding octetsFrom
 bit-octetsFrom zero f h k l = absurd (omega arith)
 bit-octetsFrom (suc n) f h k l =
     cons-bits (octet f) (octetsFrom n (λ i. f (i + 8))) n f (octet-bit f h) (bit-octetsFrom n (λ i. f (i + 8)) (λ i. h (i + 8))) k l
+
+-- the octets of functions that agree
+pub octetsFrom-same : (n : ℕ) (f g : ℕ → ℕ) → ((k : ℕ) → f k ≡ g k) → octetsFrom n f ≡ octetsFrom n g
+unfolding octetsFrom
+octetsFrom-same zero f g e = refl
+octetsFrom-same (suc n) f g e = ap₂ _∷_ (octet-same f g e) (octetsFrom-same n (λ k. f (k + 8)) (λ k. g (k + 8)) (λ k. e (k + 8)))
+
+-- octet i of the octets of f
+pub getD-octetsFrom : (n : ℕ) (f : ℕ → ℕ) (i : ℕ) → i < n → getD (octetsFrom n f) i 0 ≡ octet (λ k. f (8 * i + k))
+unfolding octetsFrom
+getD-octetsFrom zero f i h = absurd (omega arith)
+getD-octetsFrom (suc n) f zero h = octet-same f (λ k. f (8 * 0 + k)) (λ k. ap f (omega arith))
+getD-octetsFrom (suc n) f (suc i) h =
+    getD-octetsFrom n (λ k. f (k + 8)) i (omega arith)
+    ∙ octet-same (λ k. f (8 * i + k + 8)) (λ k. f (8 * suc i + k)) (λ k. let e : 8 * i + k + 8 ≡ 8 * suc i + k = omega arith in ap f e)
 
 pub length-octetsFrom : (n : ℕ) (f : ℕ → ℕ) → length (octetsFrom n f) ≡ n
 unfolding octetsFrom
@@ -108,6 +146,23 @@ bit-at xs i k h =
     let r : (8 * i + k) % 8 ≡ k = omega arith in
     rw (q, r)
 
+-- a bit of a number's w low bits is a bit of the number
+pub bit-low : (n w i : ℕ) → i < w → n % 2 ^ w / 2 ^ i % 2 ≡ n / 2 ^ i % 2
+bit-low n w i h =
+    let e : w - i - 1 + 1 + i ≡ w = omega arith in
+    ap (λ (z : ℕ). n % 2 ^ z / 2 ^ i % 2) (sym e)
+    ∙ ap (λ (z : ℕ). z % 2) (field n (w - i - 1 + 1) i)
+    ∙ mod-mod-pow (n / 2 ^ i) (w - i - 1) 1
+
+-- a bit is decided by the digits up to it
+pub same-low : (w x y k : ℕ) → k < w → x % 2 ^ w ≡ y % 2 ^ w → x / 2 ^ k % 2 ≡ y / 2 ^ k % 2
+same-low w x y k h e = sym (bit-low x w k h) ∙ ap (λ (z : ℕ). z / 2 ^ k % 2) e ∙ bit-low y w k h
+
+pub octets-append : (xs ys : List ℕ) → Octets xs → Octets ys → Octets (xs ++ ys)
+octets-append [] ys hx hy i = hy i
+octets-append (x ∷ xs) ys hx hy zero = hx 0
+octets-append (x ∷ xs) ys hx hy (suc i) = octets-append xs ys (λ k. hx (suc k)) hy i
+
 differ-flip : (a b : ℕ) → a < 2 → b < 2 → differ a b ≡ (a + b) % 2
 differ-flip zero zero h k = refl
 differ-flip zero (suc zero) h k = refl
@@ -117,7 +172,7 @@ differ-flip (suc zero) (suc zero) h k = refl
 differ-flip (suc zero) (suc (suc b)) h k = absurd (omega arith)
 differ-flip (suc (suc a)) b h k = absurd (omega arith)
 
-xor-low : (a b : ℕ) → bitXor a b % 2 ≡ (a % 2 + b % 2) % 2
+pub xor-low : (a b : ℕ) → bitXor a b % 2 ≡ flip (a % 2) (b % 2)
 xor-low a b =
     let d : differ (a % 2) (b % 2) ≡ (a % 2 + b % 2) % 2 = differ-flip (a % 2) (b % 2) (omega arith) (omega arith) in
     omega (arith, xor-step a b)

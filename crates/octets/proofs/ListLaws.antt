@@ -26,6 +26,12 @@ unfolding tab
 tab-take l zero h = refl
 tab-take l (suc n) h = ap (λ (r : List ℕ). r ++ (getD l n 0 ∷ [])) (tab-take l n (le-of-lt h)) ∙ sym (take-suc l n 0 h)
 
+-- steps that agree
+pub iterate-same {ℓ} : {A : Type ℓ} (f g : A → A) → ((x : A) → f x ≡ g x) → (n : ℕ) (x : A) → iterate f n x ≡ iterate g n x
+unfolding iterate
+iterate-same f g e zero x = refl
+iterate-same f g e (suc n) x = e (iterate f n x) ∙ ap g (iterate-same f g e n x)
+
 module _ {ℓ} {A : Type ℓ} (step : A → A) where
   -- m steps and then n more
   pub iterate-add : (n m : ℕ) (x : A) → iterate step n (iterate step m x) ≡ iterate step (n + m) x

@@ -6,10 +6,12 @@ use native.Mathlib.Numerals.{add-one}
 use native.Mathlib.Omega.{arith}
 use mathlib.Core.Path.{_≡_, refl, sym, ap, subst, _∙_}
 use mathlib.Core.Logic.{⊎-elim}
+use mathlib.Core.List.{List, [], _∷_}
+use lib.ListN.{getD}
 use mathlib.Core.Bool.{Bool, true, false, _&&_, not, true≢false, false≢true}
 use lib.Dec.{eqb}
 use borrow.Author.Tests.{not-true, not-false, eqb-true}
-use Rattle.octets.specs.Tests.{pick, allBelow, firstBelow}
+use Rattle.octets.specs.Tests.{pick, every, allBelow, firstBelow}
 
 pub and-false-r : (a : Bool) → (a && false) ≡ false
 and-false-r true = refl
@@ -30,6 +32,21 @@ fails {r} {t} e h = sym e ∙ not-true r h
 
 pub holds : {r t : Bool} → r ≡ t → not r ≡ false → t ≡ true
 holds {r} {t} e h = sym e ∙ not-false r h
+
+-- a list of tests, of which test n fails; and each of one that holds
+pub every-fails : (ts : List Bool) (n : ℕ) → getD ts n true ≡ false → false ≡ every ts
+every-fails [] n e = absurd (true≢false e)
+every-fails (t ∷ ts) zero e = rw e
+every-fails (t ∷ ts) (suc n) e = go t (every-fails ts n e)
+  where
+    go : (b : Bool) → false ≡ every ts → false ≡ (b && every ts)
+    go true h = h
+    go false h = refl
+
+pub every-at : (ts : List Bool) (n : ℕ) → every ts ≡ true → getD ts n true ≡ true
+every-at [] n e = refl
+every-at (t ∷ ts) zero e = and-left t (every ts) e
+every-at (t ∷ ts) (suc n) e = every-at ts n (and-right t (every ts) e)
 
 module _ (f : ℕ → Bool) where
   pub all-none : allBelow f 0 ≡ true

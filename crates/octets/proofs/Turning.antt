@@ -11,8 +11,9 @@ use lib.Bits.{bitXor, xor-lt, xor-zero-r}
 use lib.ListN.{length, getD, set}
 use Rattle.octets.proofs.Front.{Front, front-start, front-more, front-rest}
 use borrow.Author.Tests.{lt-ltb, le-ltb}
+use Rattle.octets.specs.Tests.{pick}
 use Rattle.octets.specs.Bits.{bit, flip, octetsFrom, Bits, Octets}
-use Rattle.octets.proofs.BitLaws.{flip-lt, flip-flip, flip-zero, bit-lt, octets-ext, octet-ext, bit-at, xor-bit, bit-octetsFrom, octets-octetsFrom, length-octetsFrom}
+use Rattle.octets.proofs.BitLaws.{flip-lt, flip-flip, flip-zero, bit-lt, octets-ext, octet-ext, bit-at, xor-bit, bit-octetsFrom, octets-octetsFrom, length-octetsFrom, octetsFrom-same}
 use Rattle.octets.specs.Turn.{within, turned}
 use Rattle.octets.proofs.Windows.{windowAt, window-lt, window-bit, top-le, top-kept, top-lost}
 
@@ -62,6 +63,13 @@ module _ (w : ℕ) (ks : ℕ → ℕ) (part : List ℕ) where
     where
       nought : (n : ℕ) → 0 / 2 ^ n % 2 ≡ 0
       nought n = omega (arith, zero-div (2 ^ n))
+
+-- by keystreams that agree
+pub turned-same : (w : ℕ) (ks ls : ℕ → ℕ) → ((k : ℕ) → ks k ≡ ls k) → (part : List ℕ) → turned w ks part ≡ turned w ls part
+unfolding turned within
+turned-same w ks ls e part =
+    octetsFrom-same (length part) (λ k. flip (bit part k) (within w ks k)) (λ k. flip (bit part k) (within w ls k))
+    (λ k. ap (λ (b : ℕ). flip (bit part k) (pick (ltb k w) b 0)) (e k))
 
 -- turning twice is nothing
 pub turned-twice : (w : ℕ) (ks : ℕ → ℕ) (part : List ℕ) → Octets part → turned w ks (turned w ks part) ≡ part

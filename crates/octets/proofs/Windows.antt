@@ -7,9 +7,9 @@ use native.Mathlib.Nat.{mul-assoc, pow-suc, mul-mod-left, mod-lt, mod-eq-of-lt}
 use native.Mathlib.Decide.{decLt}
 use native.Mathlib.Omega.{arith}
 use lib.ListN.{getD}
-use lib.Pow.{pow-add, shl-shr, shr-shr, field, mod-mod-pow, split}
-use Rattle.octets.specs.Bits.{bit, Octets}
-use Rattle.octets.proofs.BitLaws.{bit-at}
+use lib.Pow.{pow-add, shl-shr, shr-shr, split}
+use Rattle.octets.specs.Bits.{bit, octet, Bits, Octets}
+use Rattle.octets.proofs.BitLaws.{bit-at, bit-low, same-low, octet-of}
 
 -- ---- the top of an octet
 
@@ -42,30 +42,11 @@ top-lost x n k h l =
 
 -- ---- a window
 
-low-bit : (a b t : ℕ) → t < 8 → (256 * a + b) / 2 ^ t % 2 ≡ b / 2 ^ t % 2
-low-bit a b zero h = omega arith
-low-bit a b (suc zero) h = omega arith
-low-bit a b (suc (suc zero)) h = omega arith
-low-bit a b (suc (suc (suc zero))) h = omega arith
-low-bit a b (suc (suc (suc (suc zero)))) h = omega arith
-low-bit a b (suc (suc (suc (suc (suc zero))))) h = omega arith
-low-bit a b (suc (suc (suc (suc (suc (suc zero)))))) h = omega arith
-low-bit a b (suc (suc (suc (suc (suc (suc (suc zero))))))) h = omega arith
-low-bit a b (suc (suc (suc (suc (suc (suc (suc (suc t)))))))) h = absurd (omega arith)
-
--- a bit of the low octet of a number
-octet-low : (x k : ℕ) → k < 8 → x % 256 / 2 ^ (7 - k) % 2 ≡ x / 2 ^ (7 - k) % 2
-octet-low x k h =
-    let e : k + 1 + (7 - k) ≡ 8 = omega arith in
-    ap (λ (z : ℕ). x % 2 ^ z / 2 ^ (7 - k) % 2) (sym e)
-    ∙ ap (λ (z : ℕ). z % 2) (field x (k + 1) (7 - k))
-    ∙ mod-mod-pow (x / 2 ^ (7 - k)) k 1
-
 module _ (a b s k : ℕ) (hb : b < 256) (hs : s < 8) (hk : k < 8) where
   placed : (256 * a + b) / 2 ^ (8 - s) % 256 / 2 ^ (7 - k) % 2 ≡ (256 * a + b) / 2 ^ (15 - (s + k)) % 2
   placed =
       let e : 8 - s + (7 - k) ≡ 15 - (s + k) = omega arith in
-      octet-low ((256 * a + b) / 2 ^ (8 - s)) k hk
+      bit-low ((256 * a + b) / 2 ^ (8 - s)) 8 (7 - k) (omega arith)
       ∙ ap (λ (z : ℕ). z % 2) (shr-shr (256 * a + b) (8 - s) (7 - k))
       ∙ ap (λ (z : ℕ). (256 * a + b) / 2 ^ z % 2) e
 
@@ -83,9 +64,28 @@ module _ (a b s k : ℕ) (hb : b < 256) (hs : s < 8) (hk : k < 8) where
       let e : 15 - (s + k) ≡ 7 - (s + k - 8) = omega arith in
       placed
       ∙ ap (λ (z : ℕ). (256 * a + b) / 2 ^ z % 2) e
-      ∙ low-bit a b (7 - (s + k - 8)) (omega arith)
+      ∙ same-low 8 (256 * a + b) b (7 - (s + k - 8)) (omega arith) (omega arith)
 
--- the octet of a stream that starts j octets after bit `from`
+-- two neighbouring octets of a stream of bits, and the eight bits from place `from + 8 j` on that they hold
+module _ (ks : ℕ → ℕ) (from j a b : ℕ) (hb : b < 256)
+    (ea : (k : ℕ) → k < 8 → a / 2 ^ (7 - k) % 2 ≡ ks (8 * (from / 8 + j) + k))
+    (eb : (k : ℕ) → k < 8 → b / 2 ^ (7 - k) % 2 ≡ ks (8 * (from / 8 + j + 1) + k)) where
+  pub window-bits : (k : ℕ) → k < 8 → (256 * a + b) / 2 ^ (8 - from % 8) % 256 / 2 ^ (7 - k) % 2 ≡ ks (from + (8 * j + k))
+  window-bits k h = go (decLt (from % 8 + k) 8)
+    where
+      go : Dec (from % 8 + k < 8) → (256 * a + b) / 2 ^ (8 - from % 8) % 256 / 2 ^ (7 - k) % 2 ≡ ks (from + (8 * j + k))
+      go (yes l) =
+          let e : 8 * (from / 8 + j) + (from % 8 + k) ≡ from + (8 * j + k) = omega arith in
+          window-first a b (from % 8) k hb (omega arith) h l ∙ ea (from % 8 + k) l ∙ ap ks e
+      go (no l) =
+          let e : 8 * (from / 8 + j + 1) + (from % 8 + k - 8) ≡ from + (8 * j + k) = omega arith in
+          window-second a b (from % 8) k hb (omega arith) h (omega arith) ∙ eb (from % 8 + k - 8) (omega arith) ∙ ap ks e
+
+  pub window-octet : Bits ks → (256 * a + b) / 2 ^ (8 - from % 8) % 256 ≡ octet (λ k. ks (from + (8 * j + k)))
+  window-octet bits =
+      octet-of ((256 * a + b) / 2 ^ (8 - from % 8) % 256) (λ k. ks (from + (8 * j + k))) (omega arith) (λ k. bits (from + (8 * j + k))) window-bits
+
+-- the octet of a list's bits that starts j octets after bit `from`
 unfoldable pub windowAt : List ℕ → ℕ → ℕ → ℕ
 windowAt xs from j = (256 * getD xs (from / 8 + j) 0 + getD xs (from / 8 + j + 1) 0) / 2 ^ (8 - from % 8) % 256
 
@@ -95,22 +95,6 @@ window-lt xs from j = omega arith
 
 pub window-bit : (xs : List ℕ) (from j k : ℕ) → Octets xs → k < 8 → windowAt xs from j / 2 ^ (7 - k) % 2 ≡ bit xs (from + (8 * j + k))
 unfolding windowAt
-window-bit xs from j k o h = go (decLt (from % 8 + k) 8)
-  where
-    a : ℕ
-    a = getD xs (from / 8 + j) 0
-
-    b : ℕ
-    b = getD xs (from / 8 + j + 1) 0
-
-    go : Dec (from % 8 + k < 8) → (256 * a + b) / 2 ^ (8 - from % 8) % 256 / 2 ^ (7 - k) % 2 ≡ bit xs (from + (8 * j + k))
-    go (yes l) =
-        let e : 8 * (from / 8 + j) + (from % 8 + k) ≡ from + (8 * j + k) = omega arith in
-        window-first a b (from % 8) k (o (from / 8 + j + 1)) (omega arith) h l
-        ∙ sym (bit-at xs (from / 8 + j) (from % 8 + k) l)
-        ∙ ap (bit xs) e
-    go (no l) =
-        let e : 8 * (from / 8 + j + 1) + (from % 8 + k - 8) ≡ from + (8 * j + k) = omega arith in
-        window-second a b (from % 8) k (o (from / 8 + j + 1)) (omega arith) h (omega arith)
-        ∙ sym (bit-at xs (from / 8 + j + 1) (from % 8 + k - 8) (omega arith))
-        ∙ ap (bit xs) e
+window-bit xs from j k o h =
+    window-bits (bit xs) from j (getD xs (from / 8 + j) 0) (getD xs (from / 8 + j + 1) 0) (o (from / 8 + j + 1))
+    (λ i l. sym (bit-at xs (from / 8 + j) i l)) (λ i l. sym (bit-at xs (from / 8 + j + 1) i l)) k h

@@ -1,11 +1,19 @@
--- A list given by a function of the place, and a step taken again and again.
+-- A list given by a function of the place, a list of zeros, and a step taken again and again.
 use Prim.Native.Nat.{ℕ, zero, suc}
+use mathlib.Core.Bool.{Bool}
 use mathlib.Core.List.{List, [], _∷_, _++_}
+use lib.Dec.{eqb}
+use lib.ListN.{length, getD}
+use Rattle.octets.specs.Tests.{allBelow}
 
 -- f 0, f 1, .., f (n - 1)
 unfoldable pub tab : (ℕ → ℕ) → ℕ → List ℕ
 tab f zero = []
 tab f (suc n) = tab f n ++ (f n ∷ [])
+
+-- every element is zero
+unfoldable pub allZero : List ℕ → Bool
+allZero xs = allBelow (λ i. eqb (getD xs i 0) 0) (length xs)
 
 module _ {ℓ} {A : Type ℓ} where
   -- x after n steps

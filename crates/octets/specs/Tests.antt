@@ -1,12 +1,18 @@
 -- A choice by a test, and tests over a run of numbers.
 use Prim.Native.Nat.{ℕ, zero, suc}
 use mathlib.Core.Bool.{Bool, true, false, _&&_}
+use mathlib.Core.List.{List, [], _∷_}
 
 module _ {ℓ} {A : Type ℓ} where
   -- a where the test holds, else b
   abbrev pub pick : Bool → A → A → A
   pick true a b = a
   pick false a b = b
+
+-- every test of a list holds
+abbrev pub every : List Bool → Bool
+every [] = true
+every (t ∷ ts) = t && every ts
 
 -- f holds at each number below n
 unfoldable pub allBelow : (ℕ → Bool) → ℕ → Bool

@@ -2,6 +2,7 @@
 ghost use mathlib.Core.Path.{_≡_};
 ghost use Prim.Native.Nat.{_+_, _-_, _*_, _/_, _%_, _^_, _<_};
 ghost use lib.ListN.{length, getD};
+ghost use Rattle.octets.specs.Lists.{allZero};
 ghost use Rattle.octets.specs.Bits.{bit};
 ghost use Rattle.octets.specs.Turn.{turned};
 
@@ -10,6 +11,20 @@ pub fn wide(x: u8) -> usize
     ensures { λ r. ⌜ (r ≡ x) × (r < 256) ⌝ }
 {
     x as usize
+}
+
+// Whether every octet is zero.
+pub fn all_zero(xs: &[u8]) -> bool
+    ensures { λ r. ⌜ r ≡ allZero (now (xs .entry)) ⌝ }
+{
+    let mut i = 0;
+    while i < xs.len() {
+        if xs[i] != 0 {
+            return false;
+        }
+        i += 1;
+    }
+    true
 }
 
 // Copies octets into a part of the same length.

@@ -1,0 +1,3 @@
+mod Register
+pub mod VectorLaws
+pub mod Examples

@@ -1,0 +1,45 @@
+-- The vectors are octets: eight for a session, sixteen for AES. Assumes nothing.
+use mathlib.Core.Path.{_≡_, _∙_}
+use mathlib.Core.List.{List}
+use Prim.Native.Nat.{ℕ, zero, suc, _-_}
+use native.Mathlib.Omega.{arith}
+use lib.ListN.{length, length-append}
+use Rattle.octets.specs.Lists.{iterate}
+use Rattle.octets.specs.Bits.{Bits, Octets}
+use Rattle.octets.proofs.BitLaws.{bit-lt, length-octetsFrom, octets-octetsFrom, octets-append}
+use Rattle.generator.specs.Generator.{loaded, announced, shifted, nextVector, aesVector}
+
+bits-loaded : (s : List ℕ) → Bits (loaded s)
+unfolding loaded
+bits-loaded s i = bit-lt s (63 - i)
+
+bits-iterate : (n : ℕ) (b : ℕ → ℕ) → Bits b → Bits (iterate shifted n b)
+unfolding iterate shifted
+bits-iterate zero b h i = h i
+bits-iterate (suc n) b h zero = omega arith
+bits-iterate (suc n) b h (suc i) = bits-iterate n b h i
+
+pub length-announced : (b : ℕ → ℕ) → length (announced b) ≡ 8
+unfolding announced
+length-announced b = length-octetsFrom 8 (λ k. b (63 - k))
+
+pub octets-announced : (b : ℕ → ℕ) → Bits b → Octets (announced b)
+unfolding announced
+octets-announced b h = octets-octetsFrom 8 (λ k. b (63 - k)) (λ k. h (63 - k))
+
+module _ (s : List ℕ) where
+  pub length-nextVector : length (nextVector s) ≡ 8
+  unfolding nextVector
+  length-nextVector = length-announced (iterate shifted 64 (loaded s))
+
+  pub octets-nextVector : Octets (nextVector s)
+  unfolding nextVector
+  octets-nextVector = octets-announced (iterate shifted 64 (loaded s)) (bits-iterate 64 (loaded s) (bits-loaded s))
+
+  pub length-aesVector : length s ≡ 8 → length (aesVector s) ≡ 16
+  unfolding aesVector
+  length-aesVector h = length-append s (nextVector s) ∙ omega (arith, length-nextVector)
+
+  pub octets-aesVector : Octets s → Octets (aesVector s)
+  unfolding aesVector
+  octets-aesVector h = octets-append s (nextVector s) h octets-nextVector

@@ -1,0 +1,35 @@
+-- `generator::next_vector` meets its contract: after i turns the number holds the register after i shifts. Assumes nothing.
+use mathlib.Core.Path.{_∙_}
+use Prim.Native.Nat.{_-_, _≤_}
+use native.Mathlib.Omega.{arith}
+use borrow.Author.Needs.{needs}
+use Rattle.octets.specs.Lists.{iterate}
+use Rattle.generator.specs.Generator.{loaded, shifted}
+use Rattle.generator.specs.Held.{Holds}
+use Rattle.generator.proofs.Register.{shift-start, shift-more, shift-done}
+use Rattle.generator.proofs.next_vector.Statement.{statement}
+use Rattle.generator.proofs.next_vector.Tie as tie
+
+abbrev Inv-loop : tie.InvT-loop
+Inv-loop vector register₀ i₀ register i = (i ≤ 64) × Holds register (iterate shifted i (loaded vector))
+
+abbrev μ-loop : tie.MeasureT-loop
+μ-loop vector register₀ i₀ register i = 64 - i
+
+returns : tie.Need-returns Inv-loop μ-loop
+returns c = c .store .ensures ∙ shift-done _ _ _ (search needs) (c .before .before .loop .inv .1)
+
+pub next-vector-spec : {M : Type 1} → statement M
+next-vector-spec =
+    tie.close
+    (tie.spec
+    Inv-loop
+    μ-loop
+    (λ c κs. search needs)
+    (λ c. (omega arith, shift-start _ _ (c .load .ensures)))
+    (λ c κs. search needs)
+    (λ c. omega arith)
+    (λ c. omega arith)
+    (λ c. (omega arith, shift-more _ _ _ _ (c .before .before .loop .inv .1) (c .shift .ensures)))
+    (λ c κs. search needs)
+    returns)

@@ -1,0 +1,9 @@
+pub mod Register
+pub mod Recurrence
+pub mod KeyBits
+pub mod Period
+pub mod Polynomials
+pub mod NoShorterPeriod
+pub mod Runs
+pub mod HeldBits
+pub mod Examples
