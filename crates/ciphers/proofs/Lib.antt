@@ -1,2 +1,4 @@
 pub mod Cases
 pub mod KeyLaws
+pub mod Running
+pub mod EngineLaws

@@ -11,5 +11,9 @@ module _ {ℓ} {A : Type ℓ} where
 abbrev pub keyOctets : ℕ → ℕ
 keyOctets c = byCipher c 2 8 32 0
 
+-- DES and AES are block ciphers, scramble is none
+abbrev pub blockBits : ℕ → ℕ
+blockBits c = byCipher c 0 64 128 0
+
 abbrev pub sessionSlots : ℕ → ℕ
 sessionSlots c = byCipher c 4 8 8 0

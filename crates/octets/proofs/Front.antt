@@ -8,6 +8,8 @@ use native.Mathlib.Omega.{arith}
 use borrow.Rule.Slice.PartMut.{midOf, postOf, putMid, same-len-mid}
 use lib.ListN.{length, getD, take, drop, set, length-set, length-drop, List·getD-append}
 use lib.Seq.{getD-set-same, getD-set-other, ext-getD, getD-take, getD-drop, getD-append-add, length-take-le, drop-drop}
+use Rattle.octets.specs.Lists.{tab}
+use Rattle.octets.proofs.ListLaws.{length-tab, getD-tab}
 
 -- d is l below i, and what it was, d₀, from there on
 pub record Front (l d₀ d : List ℕ) (i : ℕ) : Type 0 where
@@ -93,3 +95,21 @@ module _ (l d₀ : List ℕ) where
           ∙ getD-drop k (drop i d) (j - (i + n)) 0
           ∙ getD-drop i d (k + (j - (i + n))) 0
           ∙ ap (λ (x : ℕ). getD d x 0) g
+
+  -- and comes back as l has it there
+  pub front-piece : (d p : List ℕ) (i n : ℕ) → Front l d₀ d i → i + n ≤ length l → p ≡ take n (drop i l) → Front l d₀ (putMid i n d p) (i + n)
+  front-piece d p i n f h e =
+      let size : length (take n (drop i l)) ≡ n = length-take-le n (drop i l) (omega (arith, length-drop i l)) in
+      front-part d p i n n f refl (ap length e ∙ size) h
+      (λ r b. ap (λ (x : List ℕ). getD x r 0) e ∙ getD-take n (drop i l) r 0 b ∙ getD-drop i l r 0)
+
+-- a loop that fills `tab f n`
+module _ (f : ℕ → ℕ) (n : ℕ) where
+  pub tab-start : (d : List ℕ) → length d ≡ n → Front (tab f n) d d 0
+  tab-start d e = front-start (tab f n) d (e ∙ sym (length-tab f n))
+
+  pub tab-more : (d₀ d : List ℕ) (i v : ℕ) → Front (tab f n) d₀ d i → i < n → v ≡ f i → Front (tab f n) d₀ (set d i v) (i + 1)
+  tab-more d₀ d i v w h e = front-more (tab f n) d₀ d i v w (omega (arith, length-tab f n)) (e ∙ sym (getD-tab f n i h))
+
+  pub tab-done : (d₀ d : List ℕ) (i : ℕ) → Front (tab f n) d₀ d i → n ≤ i → d ≡ tab f n
+  tab-done d₀ d i w h = front-done (tab f n) d₀ d i w (omega (arith, length-tab f n))

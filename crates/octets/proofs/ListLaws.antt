@@ -1,13 +1,15 @@
 -- Laws of lists given by a function of the place, and of repeated steps. Assumes nothing.
-use mathlib.Core.Path.{_≡_, refl, sym, ap, _∙_}
+use mathlib.Core.Path.{_≡_, refl, sym, ap, ap₂, _∙_}
 use mathlib.Core.List.{List, [], _∷_, _++_}
 use mathlib.Core.Logic.{⊎-elim}
 use Prim.Native.Nat.{ℕ, zero, suc, _+_, _≤_, _<_}
 use native.Mathlib.Nat.{le-of-lt, not-suc-le-zero, le-of-suc-le-suc, eq-or-lt-of-le, zero-add}
+use native.Mathlib.Decide.{decLt}
 use native.Mathlib.Omega.{arith}
-use lib.ListN.{length, getD, take, length-append, List·getD-append}
+use lib.ListN.{length, getD, take, length-append, List·getD-append, List·getD-eq-default}
 use lib.Seq.{take-suc, getD-at}
 use Rattle.octets.specs.Lists.{tab, iterate}
+use Rattle.octets.specs.Bits.{Octets}
 
 pub length-tab : (f : ℕ → ℕ) (n : ℕ) → length (tab f n) ≡ n
 unfolding tab
@@ -20,6 +22,18 @@ getD-tab f zero i h = absurd (not-suc-le-zero h)
 getD-tab f (suc n) i h =
     ⊎-elim (λ e. rw e (getD-at (tab f n) (f n) [] 0 n (length-tab f n)))
     (λ l. List·getD-append (tab f n) (f n ∷ []) 0 i (omega (arith, length-tab f n)) ∙ getD-tab f n i l) (eq-or-lt-of-le (le-of-suc-le-suc h))
+
+pub tab-same : (f g : ℕ → ℕ) (n : ℕ) → ((i : ℕ) → i < n → f i ≡ g i) → tab f n ≡ tab g n
+unfolding tab
+tab-same f g zero h = refl
+tab-same f g (suc n) h = ap₂ (λ (l : List ℕ) (x : ℕ). l ++ (x ∷ [])) (tab-same f g n (λ i l. h i (omega arith))) (h n (omega arith))
+
+pub octets-tab : (f : ℕ → ℕ) (n : ℕ) → ((i : ℕ) → i < n → f i < 256) → Octets (tab f n)
+octets-tab f n h i = go (decLt i n)
+  where
+    go : Dec (i < n) → getD (tab f n) i 0 < 256
+    go (yes l) = rw (getD-tab f n i l) (h i l)
+    go (no l) = rw (List·getD-eq-default (tab f n) 0 {n = i} (omega (arith, length-tab f n))) (omega arith)
 
 pub tab-take : (l : List ℕ) (n : ℕ) → n ≤ length l → tab (λ k. getD l k 0) n ≡ take n l
 unfolding tab

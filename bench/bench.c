@@ -1,0 +1,115 @@
+/* Times the proved functions beside OpenSSL's in one run, and first sees that both give the same octets.
+   The least of several batches is printed, in nanoseconds of processor time. */
+#define OPENSSL_API_COMPAT 0x10100000L
+#define OPENSSL_SUPPRESS_DEPRECATED
+#include <openssl/aes.h>
+#include <openssl/des.h>
+#include <stdio.h>
+#include <stdlib.h>
+#include <string.h>
+#include <time.h>
+
+typedef unsigned char octet;
+
+void timed_blocks(const octet *key, size_t key_len, octet *block, size_t block_len, size_t n);
+void timed_session(octet cipher, const octet *key, size_t key_len, const octet *vector, size_t vector_len, octet *out, size_t out_len);
+
+enum { BATCHES = 40, BLOCKS = 2000, SESSIONS = 200, SESSION_OCTETS = 196, SCRAMBLE_OCTETS = 98 };
+
+static const octet des_key[8] = {0xAB, 0xCD, 0xEF, 0x01, 0x23, 0x45, 0x67, 0x89};
+static const octet aes_key[32] = {0xAB, 0xCD, 0xEF, 0x01, 0x23, 0x45, 0x67, 0x89, 0xCD, 0xEF, 0x01, 0x23, 0x45, 0x67, 0x89, 0xAB,
+                                  0xEF, 0x01, 0x23, 0x45, 0x67, 0x89, 0xAB, 0xCD, 0x01, 0x23, 0x45, 0x67, 0x89, 0xAB, 0xCD, 0xEF};
+static const octet seed[8] = {0xAB, 0xCD, 0xEF, 0x12, 0x34, 0x56, 0x78, 0x90};
+static const octet after_seed[8] = {0x8B, 0x8D, 0xDE, 0xEB, 0x89, 0x0F, 0x4C, 0xF1}; /* L(seed), 001 7.2.3 */
+
+static double now(void) {
+    struct timespec t;
+    clock_gettime(CLOCK_PROCESS_CPUTIME_ID, &t);
+    return 1e9 * t.tv_sec + t.tv_nsec;
+}
+
+static void openssl_des(octet *block, size_t n) {
+    DES_key_schedule ks;
+    DES_set_key_unchecked((const_DES_cblock *)des_key, &ks);
+    while (n--) DES_ecb_encrypt((const_DES_cblock *)block, (DES_cblock *)block, &ks, DES_ENCRYPT);
+}
+
+static void openssl_aes(octet *block, size_t n) {
+    AES_KEY k;
+    AES_set_encrypt_key(aes_key, 256, &k);
+    while (n--) AES_encrypt(block, block, &k);
+}
+
+/* Output feedback as NXDN has it: the first enciphered block is not used. */
+static void openssl_session(int cipher, octet *out) {
+    octet block[16];
+    int width = cipher == 2 ? 8 : 16, at;
+    memcpy(block, seed, 8);
+    memcpy(block + 8, after_seed, 8);
+    DES_key_schedule ks;
+    AES_KEY k;
+    if (cipher == 2) DES_set_key_unchecked((const_DES_cblock *)des_key, &ks);
+    else AES_set_encrypt_key(aes_key, 256, &k);
+    for (at = -width; at < SESSION_OCTETS; at += width) {
+        if (cipher == 2) DES_ecb_encrypt((const_DES_cblock *)block, (DES_cblock *)block, &ks, DES_ENCRYPT);
+        else AES_encrypt(block, block, &k);
+        if (at >= 0) memcpy(out + at, block, at + width <= SESSION_OCTETS ? width : SESSION_OCTETS - at);
+    }
+}
+
+static void our_des(octet *block, size_t n) { timed_blocks(des_key, 8, block, 8, n); }
+static void our_aes(octet *block, size_t n) { timed_blocks(aes_key, 32, block, 16, n); }
+
+static double per_block(void (*run)(octet *, size_t), octet *block) {
+    double best = 1e30;
+    for (int b = 0; b < BATCHES; b++) {
+        double t = now();
+        run(block, BLOCKS);
+        t = (now() - t) / BLOCKS;
+        if (t < best) best = t;
+    }
+    return best;
+}
+
+static void our_session(int cipher, octet *out) {
+    octet key[32] = {0};
+    if (cipher == 1) key[1] = 1;
+    else if (cipher == 2) memcpy(key, des_key, 8);
+    else memcpy(key, aes_key, 32);
+    timed_session(cipher, key, 32, seed, 8, out, cipher == 1 ? SCRAMBLE_OCTETS : SESSION_OCTETS);
+}
+
+static double per_session(void (*run)(int, octet *), int cipher, octet *out) {
+    double best = 1e30;
+    for (int b = 0; b < BATCHES; b++) {
+        double t = now();
+        for (int i = 0; i < SESSIONS; i++) run(cipher, out);
+        t = (now() - t) / SESSIONS;
+        if (t < best) best = t;
+    }
+    return best;
+}
+
+static void same(const char *what, const octet *a, const octet *b, size_t n) {
+    if (memcmp(a, b, n) == 0) return;
+    printf("%s: not the same octets as OpenSSL's\n", what);
+    exit(1);
+}
+
+static void row(const char *what, double ours, double theirs) {
+    if (theirs > 0) printf("%-28s %9.0f ns   OpenSSL %9.0f ns   %5.1f times\n", what, ours, theirs, ours / theirs);
+    else printf("%-28s %9.0f ns\n", what, ours);
+}
+
+int main(void) {
+    octet a[256] = {0}, b[256] = {0};
+    our_des(a, 1000), openssl_des(b, 1000), same("DES", a, b, 8);
+    our_aes(a, 1000), openssl_aes(b, 1000), same("AES-256", a, b, 16);
+    for (int cipher = 2; cipher <= 3; cipher++) our_session(cipher, a), openssl_session(cipher, b), same("a session", a, b, SESSION_OCTETS);
+    row("DES block", per_block(our_des, a), per_block(openssl_des, b));
+    row("AES-256 block", per_block(our_aes, a), per_block(openssl_aes, b));
+    row("scramble session, 98 octets", per_session(our_session, 1, a), 0);
+    row("DES session, 196 octets", per_session(our_session, 2, a), per_session(openssl_session, 2, b));
+    row("AES session, 196 octets", per_session(our_session, 3, a), per_session(openssl_session, 3, b));
+    return 0;
+}

@@ -1,0 +1,32 @@
+-- FIPS 197's worked examples, computed by antt.
+-- Assumes nothing.
+use mathlib.Core.Path.{_≡_, refl}
+use mathlib.Core.List.{List, [], _∷_}
+use Prim.Native.Nat.{ℕ}
+use Rattle.octets.specs.Lists.{tab}
+use Rattle.aes.specs.Field.{reduce, xtime, digit, mulBits, mul, squares, inverse, around, affine, sboxOf}
+use Rattle.aes.specs.Cipher.{word, xors, subBytes, shiftRows, mixed, mixColumns, addRoundKey, rounds, cipher, rotWord, subWord, rconOf, temp, nextWord, expanded, keyExpansion, aes}
+
+-- 4.2: {57} • {13} = {fe}
+product : mul 0x57 0x13 ≡ 0xfe
+unfolding mul mulBits digit xtime reduce
+product = refl
+
+-- 5.1.1: {53} goes to {ed}
+box : sboxOf 0x53 ≡ 0xed
+unfolding sboxOf affine inverse squares mul mulBits digit xtime reduce around
+box = refl
+
+key : List ℕ
+key =
+    0x00 ∷ 0x01 ∷ 0x02 ∷ 0x03 ∷ 0x04 ∷ 0x05 ∷ 0x06 ∷ 0x07 ∷ 0x08 ∷ 0x09 ∷ 0x0a ∷ 0x0b ∷ 0x0c ∷ 0x0d ∷ 0x0e ∷ 0x0f
+    ∷ 0x10 ∷ 0x11 ∷ 0x12 ∷ 0x13 ∷ 0x14 ∷ 0x15 ∷ 0x16 ∷ 0x17 ∷ 0x18 ∷ 0x19 ∷ 0x1a ∷ 0x1b ∷ 0x1c ∷ 0x1d ∷ 0x1e ∷ 0x1f ∷ []
+
+block : List ℕ
+block = 0x00 ∷ 0x11 ∷ 0x22 ∷ 0x33 ∷ 0x44 ∷ 0x55 ∷ 0x66 ∷ 0x77 ∷ 0x88 ∷ 0x99 ∷ 0xaa ∷ 0xbb ∷ 0xcc ∷ 0xdd ∷ 0xee ∷ 0xff ∷ []
+
+-- C.3: AES-256
+enciphered : aes key block
+    ≡ 0x8e ∷ 0xa2 ∷ 0xb7 ∷ 0xca ∷ 0x51 ∷ 0x67 ∷ 0x45 ∷ 0xbf ∷ 0xea ∷ 0xfc ∷ 0x49 ∷ 0x90 ∷ 0x4b ∷ 0x49 ∷ 0x60 ∷ 0x89 ∷ []
+unfolding key block sboxOf affine inverse squares mul mulBits digit xtime reduce around tab subBytes shiftRows mixColumns mixed addRoundKey rounds expanded nextWord temp xors word rotWord subWord rconOf cipher keyExpansion aes
+enciphered = refl

@@ -1,0 +1,153 @@
+-- Laws of the state: its places, its columns, its size, and that its elements are octets.
+-- Assumes nothing.
+use mathlib.Core.Path.{_≡_, sym, ap, _∙_}
+use mathlib.Core.List.{List, [], _∷_}
+use Prim.Native.Nat.{ℕ, zero, suc, _+_, _*_, _/_, _%_, _<_}
+use native.Mathlib.Nat.{add-zero, add-comm, add-assoc}
+use native.Mathlib.Numerals.{add-one}
+use native.Mathlib.Omega.{arith}
+use lib.Bits.{bitXor, xor-lt}
+use lib.ListN.{length, getD, set}
+use Rattle.octets.specs.Bits.{Octets}
+use Rattle.octets.specs.Lists.{tab}
+use Rattle.octets.proofs.Front.{Front, front-four, front-to}
+use Rattle.octets.proofs.ListLaws.{length-tab, getD-tab, tab-same, octets-tab}
+use Rattle.aes.specs.Field.{xtime, sboxOf}
+use Rattle.aes.specs.Cipher.{word, cell, subBytes, shiftRows, mixed, mixColumns, addRoundKey, rounds, cipher}
+use Rattle.aes.proofs.FieldLaws.{mul-two, mul-three, mul-lt, sbox-lt}
+
+-- ---- sizes
+
+pub length-shiftRows : (s : List ℕ) → length (shiftRows s) ≡ 16
+unfolding shiftRows
+length-shiftRows s = length-tab _ 16
+
+pub length-addRoundKey : (w s : List ℕ) (n : ℕ) → length (addRoundKey w s n) ≡ 16
+unfolding addRoundKey
+length-addRoundKey w s n = length-tab _ 16
+
+pub length-cipher : (w s : List ℕ) → length (cipher w s) ≡ 16
+unfolding cipher
+length-cipher w s = length-addRoundKey w (shiftRows (subBytes (rounds w s 13))) 14
+
+-- ---- places
+
+place : (i : ℕ) → i % 4 + 4 * ((i / 4 + i % 4) % 4) ≡ 5 * i % 16
+place i = omega arith
+
+pub sub-shift-at : (s : List ℕ) (i : ℕ) → i < 16 → getD (shiftRows (subBytes s)) i 0 ≡ sboxOf (getD s (5 * i % 16) 0)
+unfolding shiftRows subBytes
+sub-shift-at s i h =
+    let l : 5 * i % 16 < 16 = omega arith in
+    getD-tab _ 16 i h ∙ rw place (getD-tab (λ k. sboxOf (getD s k 0)) 16 (5 * i % 16) l)
+
+pub word-at : (x : List ℕ) (q r : ℕ) → r < 4 → getD (word x q) r 0 ≡ getD x (4 * q + r) 0
+unfolding word
+word-at x q r h = getD-tab (λ k. getD x (4 * q + k) 0) 4 r h
+
+pub addRoundKey-at : (w s : List ℕ) (n i : ℕ) → i < 16 → bitXor (getD s i 0) (getD w (16 * n + i) 0) ≡ getD (addRoundKey w s n) i 0
+unfolding addRoundKey
+addRoundKey-at w s n i h = sym (getD-tab (λ k. bitXor (getD s k 0) (getD w (16 * n + k) 0)) 16 i h)
+
+-- ---- a column, as `aes::mix_column` and `aes::column` make it
+
+pub mix-law : (a b c d p q r s : ℕ) → p ≡ xtime a → q ≡ xtime b → r ≡ xtime c → s ≡ xtime d
+    → bitXor (bitXor (bitXor p (bitXor b q)) c) d ∷ bitXor (bitXor (bitXor q (bitXor c r)) d) a
+    ∷ bitXor (bitXor (bitXor r (bitXor d s)) a) b ∷ bitXor (bitXor (bitXor s (bitXor a p)) b) c ∷ []
+    ≡ tab (λ i. mixed (a ∷ b ∷ c ∷ d ∷ []) i 0) 4
+unfolding mixed tab
+mix-law a b c d p q r s e f g h = rw (e, f, g, h) (simp (mul-two, mul-three))
+
+cell-at : (x : List ℕ) (q r : ℕ) → r < 4 → cell (word x q) r 0 ≡ cell x r q
+cell-at x q r h = rw add-zero (word-at x q r h ∙ ap (λ (k : ℕ). getD x k 0) (add-comm (4 * q) r))
+
+-- mixing reads the one column
+mixed-at : (x : List ℕ) (q r : ℕ) → r < 4 → mixed (word x q) r 0 ≡ mixed x r q
+unfolding mixed
+mixed-at x q r h =
+    rw
+    (cell-at x q r h, cell-at x q ((r + 1) % 4) (omega arith), cell-at x q ((r + 2) % 4) (omega arith), cell-at x q ((r + 3) % 4) (omega arith))
+
+mixed-place : (x : List ℕ) (q r : ℕ) → q < 4 → r < 4 → mixed x r q ≡ getD (mixColumns x) (4 * q + r) 0
+unfolding mixColumns
+mixed-place x q r hq hr =
+    let m : (4 * q + r) % 4 ≡ r = omega arith in
+    let d : (4 * q + r) / 4 ≡ q = omega arith in
+    sym (getD-tab (λ i. mixed x (i % 4) (i / 4)) 16 (4 * q + r) (omega arith) ∙ rw (m, d))
+
+four : (x : List ℕ) (q a b c d : ℕ) → a ≡ getD x (4 * q) 0 → b ≡ getD x (4 * q + 1) 0 → c ≡ getD x (4 * q + 2) 0 → d ≡ getD x (4 * q + 3) 0
+    → a ∷ b ∷ c ∷ d ∷ [] ≡ word x q
+unfolding word tab
+four x q a b c d ea eb ec ed = rw (ea, eb, ec, ed, add-zero)
+
+pub column-law : (x : List ℕ) (q a b c d : ℕ) → q < 4
+    → a ≡ getD x (4 * q) 0 → b ≡ getD x (4 * q + 1) 0 → c ≡ getD x (4 * q + 2) 0 → d ≡ getD x (4 * q + 3) 0
+    → tab (λ i. mixed (a ∷ b ∷ c ∷ d ∷ []) i 0) 4 ≡ word (mixColumns x) q
+unfolding word
+column-law x q a b c d h ea eb ec ed =
+    ap (λ (t : List ℕ). tab (λ i. mixed t i 0) 4) (four x q a b c d ea eb ec ed)
+    ∙ tab-same (λ i. mixed (word x q) i 0) (λ k. getD (mixColumns x) (4 * q + k) 0) 4 (λ r l. mixed-at x q r l ∙ mixed-place x q r h l)
+
+-- ---- a turn of the loop in `aes::round`, which stores column q of m with its key
+
+module _ (w m v o₀ o : List ℕ) (n q : ℕ) (h : q < 4) (e : v ≡ word m q) where
+  stored : (r : ℕ) → r < 4 → bitXor (getD v r 0) (getD w (16 * n + 4 * q + r) 0) ≡ getD (addRoundKey w m n) (4 * q + r) 0
+  stored r l = rw (e, word-at m q r l, add-assoc) (addRoundKey-at w m n (4 * q + r) (omega arith))
+
+  pub round-more : Front (addRoundKey w m n) o₀ o (4 * q)
+      → Front (addRoundKey w m n) o₀
+      (set
+      (set
+      (set (set o (4 * q) (bitXor (getD v 0 0) (getD w (16 * n + 4 * q) 0))) (4 * q + 1) (bitXor (getD v 1 0) (getD w (16 * n + 4 * q + 1) 0)))
+      (4 * q + 2) (bitXor (getD v 2 0) (getD w (16 * n + 4 * q + 2) 0)))
+      (4 * q + 3) (bitXor (getD v 3 0) (getD w (16 * n + 4 * q + 3) 0)))
+      (4 * (q + 1))
+  round-more f =
+      front-to _ _ _ (4 * q + 4) (4 * (q + 1)) (omega arith)
+      (front-four _ _ o (4 * q) _ _ _ _ f (omega (arith, length-addRoundKey w m n))
+      (simp add-zero at (stored 0 (omega arith))) (stored 1 (omega arith)) (stored 2 (omega arith)) (stored 3 (omega arith)))
+
+-- ---- the rounds, as `aes::encipher` makes them
+
+module _ (w b s : List ℕ) (n : ℕ) (e : s ≡ rounds w b n) where
+  pub rounds-more : (r : List ℕ) → r ≡ addRoundKey w (mixColumns (shiftRows (subBytes s))) (n + 1) → r ≡ rounds w b (n + 1)
+  unfolding rounds
+  rounds-more r p = rw (p, e, add-one)
+
+  pub rounds-last : (t o : List ℕ) → n ≡ 13 → t ≡ shiftRows (subBytes s) → o ≡ addRoundKey w t 14 → o ≡ cipher w b
+  unfolding cipher
+  rounds-last t o h p q = rw (q, p, e, h)
+
+-- ---- octets
+
+octets-subBytes : (s : List ℕ) → Octets s → Octets (subBytes s)
+unfolding subBytes
+octets-subBytes s o = octets-tab _ 16 (λ i h. sbox-lt (getD s i 0) (o i))
+
+octets-shiftRows : (s : List ℕ) → Octets s → Octets (shiftRows s)
+unfolding shiftRows
+octets-shiftRows s o = octets-tab _ 16 (λ i h. o (i % 4 + 4 * ((i / 4 + i % 4) % 4)))
+
+mixed-lt : (s : List ℕ) (r c : ℕ) → Octets s → mixed s r c < 256
+unfolding mixed
+mixed-lt s r c o =
+    let x = xor-lt 8 in
+    x _ _ (x _ _ (x _ _ (mul-lt _ 2 (o _)) (mul-lt _ 3 (o _))) (o _)) (o _)
+
+octets-mixColumns : (s : List ℕ) → Octets s → Octets (mixColumns s)
+unfolding mixColumns
+octets-mixColumns s o = octets-tab _ 16 (λ i h. mixed-lt s (i % 4) (i / 4) o)
+
+octets-addRoundKey : (w s : List ℕ) (n : ℕ) → Octets w → Octets s → Octets (addRoundKey w s n)
+unfolding addRoundKey
+octets-addRoundKey w s n ow os = octets-tab _ 16 (λ i h. xor-lt 8 (getD s i 0) (getD w (16 * n + i) 0) (os i) (ow (16 * n + i)))
+
+octets-rounds : (w s : List ℕ) (n : ℕ) → Octets w → Octets s → Octets (rounds w s n)
+unfolding rounds
+octets-rounds w s zero ow os = octets-addRoundKey w s 0 ow os
+octets-rounds w s (suc n) ow os =
+    octets-addRoundKey w _ (suc n) ow (octets-mixColumns _ (octets-shiftRows _ (octets-subBytes _ (octets-rounds w s n ow os))))
+
+pub octets-cipher : (w s : List ℕ) → Octets w → Octets s → Octets (cipher w s)
+unfolding cipher
+octets-cipher w s ow os = octets-addRoundKey w _ 14 ow (octets-shiftRows _ (octets-subBytes _ (octets-rounds w s 13 ow os)))

@@ -1,0 +1,29 @@
+-- `aes::sub_shift` meets its contract. Assumes nothing.
+use mathlib.Core.Path.{sym}
+use Prim.Native.Nat.{_-_}
+use borrow.Author.Needs.{needs}
+use Rattle.octets.proofs.Front.{Front, front-start, front-more, front-done}
+use Rattle.aes.specs.Cipher.{subBytes, shiftRows}
+use Rattle.aes.proofs.StateLaws.{length-shiftRows}
+use Rattle.aes.proofs.sub_shift.Statement.{statement}
+use Rattle.aes.proofs.sub_shift.Tie as tie
+
+abbrev Inv-loop : tie.InvT-loop
+Inv-loop table s o₀ i₀ o i = Front (shiftRows (subBytes s)) o₀ o i
+
+abbrev μ-loop : tie.MeasureT-loop
+μ-loop table s o₀ i₀ o i = 16 - i
+
+pub sub-shift-spec : {M : Type 1} → statement M
+sub-shift-spec =
+    tie.close
+    (tie.spec
+    Inv-loop
+    μ-loop
+    (λ c. front-start _ _ (sym (length-shiftRows _)))
+    (λ c κs. search needs)
+    (λ c. search needs)
+    (λ c. search needs)
+    (λ c. search needs)
+    (λ c. front-more _ _ _ _ _ (c .before .before .loop .inv) (rw length-shiftRows (search needs)) (c .sub-shifted .ensures))
+    (λ c. front-done _ _ _ _ (c .before .loop .inv) (rw length-shiftRows (search needs))))

@@ -1,0 +1,44 @@
+// The one keystream: the bits of a session from any place on, into lent octets. Voice and data, at every rate, are turned by it.
+ghost use mathlib.Core.Path.{_≡_};
+ghost use Prim.Native.Nat.{_+_, _≤_};
+ghost use lib.ListN.{length};
+ghost use Rattle.octets.specs.Bits.{octetsFrom};
+ghost use Rattle.des.specs.Des.{des};
+ghost use Rattle.aes.specs.Cipher.{aes};
+ghost use Rattle.generator.specs.Generator.{aesVector};
+ghost use Rattle.ciphers.specs.Numbers.{blockBits};
+ghost use Rattle.ciphers.specs.Keystream.{feedback, stream};
+use crate::cipher::Aes;
+use crate::cipher::Des;
+use crate::cipher::Scramble;
+use crate::feedback::feed_back;
+
+fn des_stream(key: [u8; 32], vector: [u8; 8], from: usize, out: &mut [u8])
+    ensures { λ _. ⌜ now (out .exit) ≡ octetsFrom (length (now (out .entry))) (λ k. feedback (des key) (blockBits 2) vector (from + k)) ⌝ }
+{
+    let tables = des::cipher_tables();
+    let schedule = des::schedule(&key);
+    let mut block = vector;
+    feed_back(Des::TYPE, &tables, &schedule, &mut block, from, out);
+}
+
+fn aes_stream(key: [u8; 32], vector: [u8; 8], from: usize, out: &mut [u8])
+    ensures { λ _. ⌜ now (out .exit) ≡ octetsFrom (length (now (out .entry))) (λ k. feedback (aes key) (blockBits 3) (aesVector vector) (from + k)) ⌝ }
+{
+    let table = aes::table();
+    let schedule = aes::key_expansion(&table, &key);
+    let mut block = generator::aes_vector(&vector);
+    feed_back(Aes::TYPE, &table, &schedule, &mut block, from, out);
+}
+
+// The bits of a session from bit `from` on. The key's own octets come first in `key`.
+pub fn keystream(cipher: u8, key: [u8; 32], vector: [u8; 8], from: usize, out: &mut [u8])
+    requires { ⌜ (1 ≤ cipher) × (cipher ≤ 3) ⌝ }
+    ensures { λ _. ⌜ now (out .exit) ≡ octetsFrom (length (now (out .entry))) (λ k. stream cipher key vector (from + k)) ⌝ }
+{
+    match cipher {
+        Scramble::TYPE => scramble::write(&key, from, out),
+        Des::TYPE => des_stream(key, vector, from, out),
+        _ => aes_stream(key, vector, from, out),
+    }
+}

@@ -1,0 +1,103 @@
+-- The rounds: bits stay bits, only the keys of rounds that were done count, and what the code has after each round.
+-- Assumes nothing.
+use mathlib.Core.Path.{_≡_, refl, sym, ap, ap₂, _∙_}
+use mathlib.Core.List.{List, _++_}
+use Prim.Native.Nat.{ℕ, zero, suc, _+_, _<_}
+use native.Mathlib.Numerals.{add-one}
+use native.Mathlib.Omega.{arith}
+use borrow.Rule.Slice.PartMut.{putMid}
+use lib.ListN.{length, take, drop, length-append, length-drop}
+use lib.Seq.{take-all, take-at, drop-at, length-take-le}
+use Rattle.octets.proofs.Front.{Front, front-start, front-done, front-piece}
+use Rattle.des.specs.Tables.{ipTable, fpTable}
+use Rattle.des.specs.Des.{permuted, xorBits, cipherF, Halves, rounds, halved, joined, enciphered}
+use Rattle.des.proofs.BitLists.{BitList, bits-append, bits-take, bits-drop, bits-permuted, bits-xor, length-xor}
+
+-- ---- bits stay bits
+
+module _ (keys : ℕ → List ℕ) (h : Halves) (l : BitList (h .left)) (r : BitList (h .right)) where
+  pub bits-right : (n : ℕ) → BitList (rounds keys h n .right)
+  unfolding rounds
+  bits-right zero = r
+  bits-right (suc n) = bits-xor (rounds keys h n .left) _
+
+  pub bits-left : (n : ℕ) → BitList (rounds keys h n .left)
+  unfolding rounds
+  bits-left zero = l
+  bits-left (suc n) = bits-right n
+
+pub bits-enciphered : (keys : ℕ → List ℕ) (block : List ℕ) → BitList block → BitList (enciphered keys block)
+unfolding enciphered halved joined
+bits-enciphered keys block b =
+    let p = bits-permuted ipTable block b in
+    let h = halved (permuted ipTable block) in
+    let l = bits-take 32 (permuted ipTable block) p in
+    let r = bits-drop 32 (permuted ipTable block) p in
+    bits-permuted fpTable (joined (rounds keys h 16)) (bits-append (rounds keys h 16 .right) (rounds keys h 16 .left) (bits-right keys h l r 16) (bits-left keys h l r 16))
+
+-- ---- only the keys below n count
+
+pub rounds-same : (ks js : ℕ → List ℕ) (h : Halves) (n : ℕ) → ((m : ℕ) → m < n → ks m ≡ js m) → rounds ks h n ≡ rounds js h n
+unfolding rounds
+rounds-same ks js h zero e = refl
+rounds-same ks js h (suc n) e = rw (rounds-same ks js h n (λ m l. e m (omega arith)), e n (omega arith))
+
+-- ---- the halves that the code has after n rounds
+
+pub record Reached (keys : ℕ → List ℕ) (h : Halves) (n : ℕ) (left right : List ℕ) : Type 0 where
+  pub is-left : left ≡ rounds keys h n .left
+  pub is-right : right ≡ rounds keys h n .right
+  pub bits-left : BitList left
+  pub bits-right : BitList right
+  pub long-left : length left ≡ 32
+  pub long-right : length right ≡ 32
+
+module _ (keys : ℕ → List ℕ) (b left right : List ℕ) where
+  pub reached-start : length b ≡ 64 → BitList b → left ≡ take 32 (drop 0 b) → right ≡ take 32 (drop 32 b) → Reached keys (halved b) 0 left right
+  unfolding rounds halved
+  reached-start l bits el er =
+      let rest : length (drop 32 b) ≡ 32 = length-drop 32 b ∙ omega arith in
+      let e : right ≡ drop 32 b = er ∙ take-all 32 (drop 32 b) (omega arith) in
+      record {
+        is-left = el;
+        is-right = e;
+        bits-left = rw el (bits-take 32 b bits);
+        bits-right = rw e (bits-drop 32 b bits);
+        long-left = ap length el ∙ length-take-le 32 b (omega arith);
+        long-right = ap length e ∙ rest;
+      }
+
+module _ (keys : ℕ → List ℕ) (h : Halves) (n : ℕ) (left right : List ℕ) (w : Reached keys h n left right) where
+  pub reached-more : (next f : List ℕ) → next ≡ xorBits left f → f ≡ cipherF right (keys n) → Reached keys h (n + 1) right next
+  unfolding rounds
+  reached-more next f en ef =
+      record {
+        is-left = w .is-right ∙ ap (λ (k : ℕ). rounds keys h k .left) (sym (add-one n));
+        is-right = en ∙ ap₂ xorBits (w .is-left) (ef ∙ ap (λ (x : List ℕ). cipherF x (keys n)) (w .is-right)) ∙ ap (λ (k : ℕ). rounds keys h k .right) (sym (add-one n));
+        bits-left = w .bits-right;
+        bits-right = rw en (bits-xor left f);
+        long-left = w .long-right;
+        long-right = ap length en ∙ length-xor left f ∙ w .long-left;
+      }
+
+  pub reached-end : n ≡ 16 → right ++ left ≡ joined (rounds keys h 16)
+  unfolding joined
+  reached-end e = ap₂ _++_ (w .is-right) (w .is-left) ∙ ap (λ (k : ℕ). joined (rounds keys h k)) e
+
+-- two halves put one after the other
+module _ (d a b : List ℕ) (long : length d ≡ 64) (la : length a ≡ 32) (lb : length b ≡ 32) where
+  both-long : length (a ++ b) ≡ 64
+  both-long = length-append a b ∙ omega arith
+
+  module _ (first : List ℕ) (is-first : first ≡ a) where
+    put-first : Front (a ++ b) d (putMid 0 32 d first) 32
+    put-first = front-piece (a ++ b) d d first 0 32 (front-start (a ++ b) d (long ∙ sym both-long)) (omega (arith, both-long)) (is-first ∙ sym (take-at a b 32 la))
+
+    pub first-long : length (putMid 0 32 d first) ≡ 64
+    first-long = put-first .size ∙ both-long
+
+    pub put-both : (second : List ℕ) → second ≡ b → putMid 32 32 (putMid 0 32 d first) second ≡ a ++ b
+    put-both second is-second =
+        front-done (a ++ b) d _ 64
+        (front-piece (a ++ b) d (putMid 0 32 d first) second 32 32 put-first (omega (arith, both-long))
+        (is-second ∙ sym (ap (take 32) (drop-at a b 32 la) ∙ take-all 32 b (omega arith)))) (omega (arith, both-long))

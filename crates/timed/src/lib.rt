@@ -1,0 +1,75 @@
+// What bench/ measures, for C to call. Blocks are enciphered in a chain, each the input of the next, so that no work can be left out.
+ghost use mathlib.Core.Path.{_≡_};
+ghost use lib.ListN.{length};
+
+fn des_chain(key: &[u8], block: &mut [u8], n: usize)
+    requires { ⌜ (length (now key) ≡ 8) × (length (now block) ≡ 8) ⌝ }
+{
+    let tables = des::cipher_tables();
+    let keys = des::schedule(key);
+    let mut i = 0;
+    while i < n {
+        des::encipher(&tables, &keys, block);
+        i += 1;
+    }
+}
+
+fn aes_chain(key: &[u8], block: &mut [u8], n: usize)
+    requires { ⌜ (length (now key) ≡ 32) × (length (now block) ≡ 16) ⌝ }
+{
+    let table = aes::table();
+    let schedule = aes::key_expansion(&table, key);
+    let mut i = 0;
+    while i < n {
+        aes::encipher(&table, &schedule, block);
+        i += 1;
+    }
+}
+
+// n blocks of DES or AES, by the key's length.
+#[no_mangle]
+pub extern "C" fn timed_blocks(key: &[u8], block: &mut [u8], n: usize) {
+    if key.len() == 8 {
+        if block.len() == 8 {
+            des_chain(key, block, n);
+        }
+        return;
+    }
+    if key.len() == 32 {
+        if block.len() == 16 {
+            aes_chain(key, block, n);
+        }
+    }
+}
+
+fn eight(octets: &[u8]) -> [u8; 8]
+    requires { ⌜ length (now octets) ≡ 8 ⌝ }
+{
+    let mut out = [0u8; 8];
+    octets::copy(octets, &mut out);
+    out
+}
+
+fn thirty_two(octets: &[u8]) -> [u8; 32]
+    requires { ⌜ length (now octets) ≡ 32 ⌝ }
+{
+    let mut out = [0u8; 32];
+    octets::copy(octets, &mut out);
+    out
+}
+
+// The keystream of a session from its first bit on, tables and key schedule made anew. The key is 32 octets, its own first.
+#[no_mangle]
+pub extern "C" fn timed_session(cipher: u8, key: &[u8], vector: &[u8], out: &mut [u8]) {
+    if cipher < 1 {
+        return;
+    }
+    if cipher > 3 {
+        return;
+    }
+    if key.len() == 32 {
+        if vector.len() == 8 {
+            ciphers::keystream::keystream(cipher, thirty_two(key), eight(vector), 0, out);
+        }
+    }
+}

@@ -1,0 +1,26 @@
+-- `vectors::text::until` meets its contract: the place is between the start and the end. Assumes nothing.
+use Prim.Native.Nat.{_≤_, _-_}
+use borrow.Author.Needs.{needs}
+use lib.ListN.{length}
+use Rattle.vectors.proofs.text.until.Statement.{statement}
+use Rattle.vectors.proofs.text.until.Tie as tie
+
+abbrev Inv-loop : tie.InvT-loop
+Inv-loop text from octet at₀ at = (from ≤ at) × (at ≤ length text)
+
+abbrev μ-loop : tie.MeasureT-loop
+μ-loop text from octet at₀ at = length text - at
+
+pub until-spec : {M : Type 1} → statement M
+until-spec =
+    tie.close
+    (tie.spec
+    Inv-loop
+    μ-loop
+    (λ c. search needs)
+    (λ c. search needs)
+    (λ c. search needs)
+    (λ c. search needs)
+    (λ c. search needs)
+    (λ c. search needs)
+    (λ c. search needs))

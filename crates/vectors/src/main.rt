@@ -1,0 +1,131 @@
+// Runs every published known answer through the proved functions. Prints one line for each set, with how many of its rows held, and one
+// line for each row that did not.
+mod blocks;
+mod feedback;
+mod nxdn;
+mod text;
+
+use libc::STDOUT_FILENO;
+use text::is_row;
+use text::until;
+ghost use Rattle.io.specs.Counts.{Counts};
+
+// A file of known answers, named after what its rows try.
+enum Set {
+    Des,
+    Aes,
+    Feedback,
+    Nxdn,
+}
+
+// How many rows of a set were tried, and how many of them held.
+struct Tally {
+    held: u64,
+    rows: u64,
+}
+
+fn holds(set: Set, row: &[u8]) -> bool {
+    match set {
+        Set::Des => blocks::des_holds(row),
+        Set::Aes => blocks::aes_holds(row),
+        Set::Feedback => feedback::holds(row),
+        Set::Nxdn => nxdn::holds(row),
+    }
+}
+
+fn name_row(file: &[u8], line: u64) {
+    io::write_all(STDOUT_FILENO, b"not held: ");
+    io::write_all(STDOUT_FILENO, file);
+    io::write_all(STDOUT_FILENO, b", line ");
+    io::print_decimal(STDOUT_FILENO, line);
+    io::write_all(STDOUT_FILENO, b"\n");
+}
+
+fn name_file(file: &[u8]) {
+    io::write_all(STDOUT_FILENO, b"not held: ");
+    io::write_all(STDOUT_FILENO, file);
+    io::write_all(STDOUT_FILENO, b", which cannot be read\n");
+}
+
+fn print(title: &[u8], tally: Tally) {
+    io::write_all(STDOUT_FILENO, title);
+    io::write_all(STDOUT_FILENO, b": ");
+    io::print_decimal(STDOUT_FILENO, tally.held);
+    io::write_all(STDOUT_FILENO, b" of ");
+    io::print_decimal(STDOUT_FILENO, tally.rows);
+    io::write_all(STDOUT_FILENO, b" held\n");
+}
+
+// Reads a file whole and answers how many octets it has, or 0 where it cannot be read or may have more than fit.
+fn read(file: &[u8], text: &mut [u8]) -> usize
+    ensures { λ r. ⌜ Counts r (now (text .exit)) ⌝ }
+{
+    let opened = os::open_read(file);
+    if opened < 0 {
+        return 0;
+    }
+    let n = io::read_full(opened, text);
+    libc::close(opened);
+    if n == text.len() {
+        return 0;
+    }
+    n
+}
+
+// Tries each row of a file's text.
+fn try_rows(set: Set, file: &[u8], text: &[u8]) -> Tally {
+    let mut held: u64 = 0;
+    let mut rows: u64 = 0;
+    let mut lines: u64 = 0;
+    let mut at = 0;
+    while at < text.len() {
+        let end = until(text, at, b'\n');
+        let line = &text[at..end];
+        lines += 1;
+        if is_row(line) {
+            rows += 1;
+            if holds(set, line) {
+                held += 1;
+            } else {
+                name_row(file, lines);
+            }
+        }
+        at = end + 1;
+    }
+    Tally { held, rows }
+}
+
+// A file that cannot be read counts as a row that does not hold.
+fn run(set: Set, file: &[u8], title: &[u8]) {
+    let mut text = io::large_buffer();
+    let n = read(file, &mut text);
+    if n == 0 {
+        name_file(file);
+        print(title, Tally { held: 0, rows: 1 });
+        return;
+    }
+    print(title, try_rows(set, file, &text[..n]));
+}
+
+fn main() {
+    run(
+        Set::Des,
+        b"des-known-answers.tsv",
+        b"DES, SP 500-20 and SP 800-17",
+    );
+    run(
+        Set::Aes,
+        b"aes256-known-answers.tsv",
+        b"AES-256, FIPS 197, SP 800-38A, AESAVS and the Rijndael submission",
+    );
+    run(
+        Set::Feedback,
+        b"ofb-known-answers.tsv",
+        b"Output feedback, FIPS 81 and SP 800-38A",
+    );
+    run(
+        Set::Nxdn,
+        b"nxdn-known-answers.tsv",
+        b"NXDN TS 1-D, 7.2.2 and 7.2.3",
+    );
+}
