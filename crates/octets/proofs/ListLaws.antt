@@ -2,12 +2,12 @@
 use mathlib.Core.Path.{_≡_, refl, sym, ap, ap₂, _∙_}
 use mathlib.Core.List.{List, [], _∷_, _++_}
 use mathlib.Core.Logic.{⊎-elim}
-use Prim.Native.Nat.{ℕ, zero, suc, _+_, _≤_, _<_}
+use Prim.Native.Nat.{ℕ, zero, suc, _+_, _-_, _≤_, _<_}
 use native.Mathlib.Nat.{le-of-lt, not-suc-le-zero, le-of-suc-le-suc, eq-or-lt-of-le, zero-add}
 use native.Mathlib.Decide.{decLt}
 use native.Mathlib.Omega.{arith}
-use lib.ListN.{length, getD, take, length-append, List·getD-append, List·getD-eq-default}
-use lib.Seq.{take-suc, getD-at}
+use lib.ListN.{length, getD, take, length-append, replicate, length-replicate, getD-replicate, List·getD-append, List·getD-eq-default}
+use lib.Seq.{take-suc, getD-at, getD-append-add}
 use Rattle.octets.specs.Lists.{tab, iterate}
 use Rattle.octets.specs.Bits.{Octets}
 
@@ -39,6 +39,24 @@ pub tab-take : (l : List ℕ) (n : ℕ) → n ≤ length l → tab (λ k. getD l
 unfolding tab
 tab-take l zero h = refl
 tab-take l (suc n) h = ap (λ (r : List ℕ). r ++ (getD l n 0 ∷ [])) (tab-take l n (le-of-lt h)) ∙ sym (take-suc l n 0 h)
+
+module _ (xs : List ℕ) (n : ℕ) where
+  zeros-at : (j : ℕ) → Dec (j < n) → getD {A = ℕ} (replicate n 0) j 0 ≡ 0
+  zeros-at j (yes l) = getD-replicate n j 0 0 l
+  zeros-at j (no m) = List·getD-eq-default (replicate n 0) 0 (simp length-replicate (omega arith))
+
+  -- zeros after a list are no elements of it
+  pub padded-at : (j : ℕ) → getD (xs ++ replicate n 0) j 0 ≡ getD xs j 0
+  padded-at j = go (decLt j (length xs))
+    where
+      go : Dec (j < length xs) → getD (xs ++ replicate n 0) j 0 ≡ getD xs j 0
+      go (yes l) = List·getD-append xs (replicate n 0) 0 j l
+      go (no m) =
+          let e : j ≡ length xs + (j - length xs) = omega arith in
+          ap (λ (x : ℕ). getD (xs ++ replicate n 0) x 0) e
+          ∙ getD-append-add xs (replicate n 0) (j - length xs) 0
+          ∙ zeros-at (j - length xs) (decLt (j - length xs) n)
+          ∙ sym (List·getD-eq-default xs 0 (omega arith))
 
 -- steps that agree
 pub iterate-same {ℓ} : {A : Type ℓ} (f g : A → A) → ((x : A) → f x ≡ g x) → (n : ℕ) (x : A) → iterate f n x ≡ iterate g n x

@@ -131,3 +131,21 @@ first-holds f (suc n) l = go (f zero) refl l (first-holds (λ k. f (suc k)) n)
     go : (b : Bool) → f zero ≡ b → pick b zero (suc rest) < suc n → (rest < n → f (suc rest) ≡ true) → f (pick b zero (suc rest)) ≡ true
     go true e h r = e
     go false e h r = r (le-of-suc-le-suc h)
+
+-- a loop over the whole run
+pub all-reached : (f : ℕ → Bool) {i n : ℕ} → i ≤ n → n ≤ i → allBelow f i ≡ true → true ≡ allBelow f n
+all-reached f {i} {n} h l e = let z : i ≡ n = omega arith in sym (rw z at e)
+
+-- before the first the test fails
+pub first-before : (f : ℕ → Bool) (n k : ℕ) → k < firstBelow f n → f k ≡ false
+unfolding firstBelow
+first-before f zero k l = absurd (not-suc-le-zero l)
+first-before f (suc n) k l = go (f zero) refl l (first-before (λ j. f (suc j)) n) k l
+  where
+    rest : ℕ
+    rest = firstBelow (λ j. f (suc j)) n
+
+    go : (b : Bool) → f zero ≡ b → k < pick b zero (suc rest) → ((j : ℕ) → j < rest → f (suc j) ≡ false) → (k : ℕ) → k < pick b zero (suc rest) → f k ≡ false
+    go true e h r k l = absurd (not-suc-le-zero h)
+    go false e h r zero l = e
+    go false e h r (suc k) l = r k (le-of-suc-le-suc l)

@@ -1,15 +1,19 @@
--- A list given by a function of the place, a list of zeros, and a step taken again and again.
-use Prim.Native.Nat.{ℕ, zero, suc}
+-- A list given by a function of the place, a part of a list replaced, a list of zeros, and a step taken again and again.
+use Prim.Native.Nat.{ℕ, zero, suc, _+_}
 use mathlib.Core.Bool.{Bool}
 use mathlib.Core.List.{List, [], _∷_, _++_}
 use lib.Dec.{eqb}
-use lib.ListN.{length, getD}
+use lib.ListN.{length, getD, take, drop}
 use Rattle.octets.specs.Tests.{allBelow}
 
 -- f 0, f 1, .., f (n - 1)
 unfoldable pub tab : (ℕ → ℕ) → ℕ → List ℕ
 tab f zero = []
 tab f (suc n) = tab f n ++ (f n ∷ [])
+
+-- l with the n elements from a on replaced by xs
+unfoldable pub replaced : List ℕ → ℕ → ℕ → List ℕ → List ℕ
+replaced l a n xs = take a l ++ (xs ++ drop (a + n) l)
 
 -- every element is zero
 unfoldable pub allZero : List ℕ → Bool

@@ -1,9 +1,10 @@
 -- Turning: the first bits of a part, turned over by the bits of a keystream. All of voice and data is this.
-use mathlib.Core.List.{List, _++_}
-use Prim.Native.Nat.{ℕ, _+_}
+use mathlib.Core.List.{List}
+use Prim.Native.Nat.{ℕ}
 use lib.Dec.{ltb}
 use lib.ListN.{length, take, drop}
 use Rattle.octets.specs.Tests.{pick}
+use Rattle.octets.specs.Lists.{replaced}
 use Rattle.octets.specs.Bits.{bit, flip, octetsFrom}
 
 -- what bit k is turned over by: past the width nothing
@@ -16,4 +17,4 @@ turned width ks part = octetsFrom (length part) (λ k. flip (bit part k) (within
 
 -- the list with the n octets from a on turned, and all others as they were
 unfoldable pub turnedIn : ℕ → ℕ → ℕ → (ℕ → ℕ) → List ℕ → List ℕ
-turnedIn a n width ks xs = take a xs ++ (turned width ks (take n (drop a xs)) ++ drop (a + n) xs)
+turnedIn a n width ks xs = replaced xs a n (turned width ks (take n (drop a xs)))

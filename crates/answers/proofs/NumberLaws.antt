@@ -1,0 +1,36 @@
+-- No two answers share a number. Assumes nothing.
+use mathlib.Core.Path.{_≡_, refl, sym, ap, _∙_}
+use mathlib.Core.List.{[], _∷_}
+use Prim.Native.Nat.{ℕ}
+use lib.ListN.{getD}
+use Rattle.answers.specs.declared.Answer.{Answer}
+use Rattle.answers.specs.declared.Answer.the-variants.{Done, Held, WrongLength, OutOfRange, Bad, NoEntry, NotReady, NotAllowed, ZeroVector, NotNow, BadMask, Already, Full, TooMany, NextZero, Malformed}
+use Rattle.answers.specs.Numbers.{numberOf}
+
+-- the answer with a number
+abbrev answer : ℕ → Answer
+answer n =
+    getD (Done ∷ Held ∷ WrongLength ∷ OutOfRange ∷ Bad ∷ NoEntry ∷ NotReady ∷ NotAllowed ∷ ZeroVector ∷ NotNow
+    ∷ BadMask ∷ Already ∷ Full ∷ TooMany ∷ NextZero ∷ Malformed ∷ []) n Done
+
+answer-number : (a : Answer) → answer (numberOf a) ≡ a
+answer-number Done = refl
+answer-number Held = refl
+answer-number WrongLength = refl
+answer-number OutOfRange = refl
+answer-number Bad = refl
+answer-number NoEntry = refl
+answer-number NotReady = refl
+answer-number NotAllowed = refl
+answer-number ZeroVector = refl
+answer-number NotNow = refl
+answer-number BadMask = refl
+answer-number Already = refl
+answer-number Full = refl
+answer-number TooMany = refl
+answer-number NextZero = refl
+answer-number Malformed = refl
+
+-- no two answers share a number
+pub one-number : (a b : Answer) → numberOf a ≡ numberOf b → a ≡ b
+one-number a b e = sym (answer-number a) ∙ ap answer e ∙ answer-number b

@@ -1,0 +1,100 @@
+-- Laws of every outcome, whatever it refuses and leaves. Assumes nothing.
+use mathlib.Core.Path.{_≡_, refl, sym, ap, _∙_}
+use mathlib.Core.Logic.{_⊎_, inl, inr}
+use mathlib.Core.Bool.{Bool, true, false, _&&_, not, true≢false}
+use mathlib.Core.List.{[], _∷_, _++_}
+use borrow.Author.Tests.{not-true}
+use Rattle.octets.specs.Tests.{pick}
+use Rattle.octets.proofs.TestLaws.{and-left, and-right}
+use Rattle.answers.specs.declared.Answer.{Answer}
+use Rattle.answers.specs.declared.Answer.the-variants.{Done}
+use Rattle.answers.specs.Numbers.{isDone}
+use Rattle.answers.specs.Outcomes.{Refusals, settled, outcome}
+
+-- no test holds
+abbrev pub NoneHolds : Refusals → Type 0
+NoneHolds [] = Unit {0}
+NoneHolds (r ∷ rs) = (r .0 ≡ false) × NoneHolds rs
+
+pub none-left : (rs rest : Refusals) → NoneHolds (rs ++ rest) → NoneHolds rs
+none-left [] rest n = tt
+none-left (r ∷ rs) rest n = (n .0, none-left rs rest (n .1))
+
+pub none-right : (rs rest : Refusals) → NoneHolds (rs ++ rest) → NoneHolds rest
+none-right [] rest n = n
+none-right (r ∷ rs) rest n = none-right rs rest (n .1)
+
+-- one of the refusals gives this answer
+abbrev pub Among : Answer → Refusals → Type 0
+Among a [] = ⊥
+Among a (r ∷ rs) = (r .1 ≡ a) ⊎ Among a rs
+
+-- no refusal answers done
+abbrev pub neverDone : Refusals → Bool
+neverDone [] = true
+neverDone (r ∷ rs) = not (isDone (r .1)) && neverDone rs
+
+pub among-not-done : (a : Answer) (rs : Refusals) → neverDone rs ≡ true → Among a rs → isDone a ≡ false
+among-not-done a (r ∷ rs) n (inl e) = ap isDone (sym e) ∙ not-true (isDone (r .1)) (and-left (not (isDone (r .1))) (neverDone rs) n)
+among-not-done a (r ∷ rs) n (inr m) = among-not-done a rs (and-right (not (isDone (r .1))) (neverDone rs) n) m
+
+module _ {S : Type 0} where
+  -- what holds of each refusal, and of the last answer where no test holds, holds of the outcome
+  pub by-refusals : (P : Answer × S → Type 0) (before : S) (rs : Refusals) (last : Answer × S)
+      → ((a : Answer) → Among a rs → P (a, before)) → (NoneHolds rs → P last) → P (settled before rs last)
+  by-refusals P before [] last f g = g tt
+  by-refusals P before (r ∷ rs) last f g = go (r .0) refl (by-refusals P before rs last (λ a m. f a (inr m)))
+    where
+      go : (t : Bool) → r .0 ≡ t → ((NoneHolds rs → P last) → P (settled before rs last)) → P (pick t (r .1, before) (settled before rs last))
+      go true e h = f (r .1) (inl refl)
+      go false e h = h (λ n. g (e, n))
+
+  -- a refusal leaves all as it was before
+  pub refusal-keeps : (before : S) (rs : Refusals) (last : Answer × S)
+      → (settled before rs last .0 ≡ last .0 → ⊥) → settled before rs last .1 ≡ before
+  refusal-keeps before rs last =
+      by-refusals (λ o. (o .0 ≡ last .0 → ⊥) → o .1 ≡ before) before rs last (λ a m n. refl) (λ h n. absurd (n refl))
+
+  -- an outcome settles both the answer and what is left: any two that meet one equation are equal
+  pub one-outcome : {o : Answer × S} (a b : Answer) (x y : S) → (a, x) ≡ o → (b, y) ≡ o → (a ≡ b) × (x ≡ y)
+  one-outcome a b x y p q = (ap (λ (r : Answer × S). r .0) (p ∙ sym q), ap (λ (r : Answer × S). r .1) (p ∙ sym q))
+
+  pub none-settles : (rs : Refusals) (before : S) (last : Answer × S) → NoneHolds rs → settled before rs last ≡ last
+  none-settles [] before last n = refl
+  none-settles (r ∷ rs) before last n = rw (n .0) (none-settles rs before last (n .1))
+
+  -- of two lists, the first decides where one of its tests holds, and else the second
+  pub none-first : (rs rest : Refusals) (before : S) (last : Answer × S) → NoneHolds rs
+      → settled before (rs ++ rest) last ≡ settled before rest last
+  none-first [] rest before last n = refl
+  none-first (r ∷ rs) rest before last n = rw (n .0) (none-first rs rest before last (n .1))
+
+module _ {S T : Type 0} where
+  -- what stands around the state changes no refusal
+  pub around : (f : S → T) (before : S) (rs : Refusals) (last : Answer × S)
+      → (settled before rs last .0, f (settled before rs last .1)) ≡ settled (f before) rs (last .0, f (last .1))
+  around f before [] last = refl
+  around f before (r ∷ rs) last = go (r .0) (around f before rs last)
+    where
+      go : (t : Bool) → (settled before rs last .0, f (settled before rs last .1)) ≡ settled (f before) rs (last .0, f (last .1))
+          → (pick t (r .1, before) (settled before rs last) .0, f (pick t (r .1, before) (settled before rs last) .1))
+          ≡ pick t (r .1, f before) (settled (f before) rs (last .0, f (last .1)))
+      go true e = refl
+      go false e = e
+
+  -- so a part of the refusals may be asked of another operation
+  pub first-refuses : (rs rest : Refusals) (k after : T) (before : S) (last : Answer × S) → isDone (outcome k rs after .0) ≡ false
+      → settled before (rs ++ rest) last ≡ (outcome k rs after .0, before)
+  first-refuses [] rest k after before last d = absurd (true≢false d)
+  first-refuses (r ∷ rs) rest k after before last d = go (r .0) d (first-refuses rs rest k after before last)
+    where
+      go : (t : Bool) → isDone (pick t (r .1, k) (outcome k rs after) .0) ≡ false
+          → (isDone (outcome k rs after .0) ≡ false → settled before (rs ++ rest) last ≡ (outcome k rs after .0, before))
+          → pick t (r .1, before) (settled before (rs ++ rest) last) ≡ (pick t (r .1, k) (outcome k rs after) .0, before)
+      go true e h = refl
+      go false e h = h e
+
+pub done-none : {T : Type 0} (rs : Refusals) (k after : T) → neverDone rs ≡ true → isDone (outcome k rs after .0) ≡ true → NoneHolds rs
+done-none rs k after n =
+    by-refusals (λ o. isDone (o .0) ≡ true → NoneHolds rs) k rs (Done, after)
+    (λ a m d. absurd (true≢false (sym d ∙ among-not-done a rs n m))) (λ h d. h)

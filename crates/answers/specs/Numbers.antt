@@ -1,0 +1,43 @@
+-- Document 01's number for each answer, in the order of its table and with its words for when it is given.
+use Prim.Native.Nat.{ℕ}
+use mathlib.Core.Bool.{Bool}
+use lib.Dec.{eqb}
+use Rattle.answers.specs.declared.Answer.{Answer}
+use Rattle.answers.specs.declared.Answer.the-variants.{Done, Held, WrongLength, OutOfRange, Bad, NoEntry, NotReady, NotAllowed, ZeroVector, NotNow, BadMask, Already, Full, TooMany, NextZero, Malformed}
+
+abbrev pub numberOf : Answer → ℕ
+-- done
+numberOf Done = 0
+-- held: a voice slot in a receiving call whose session vector is unknown; frame unchanged, position moves on
+numberOf Held = 1
+-- a lent buffer has the wrong length; add is given more than 32 octets
+numberOf WrongLength = 2
+-- cipher type not 1 to 3, key ID above 63, or message kind not 1 to 4
+numberOf OutOfRange = 3
+-- bad book or bad call
+numberOf Bad = 4
+-- the book has no entry for this cipher and key ID
+numberOf NoEntry = 5
+-- the entry isn't ready, or a finish finds too few key octets
+numberOf NotReady = 6
+-- a finish finds a full-length key that is not allowed
+numberOf NotAllowed = 7
+-- vector all zero, DES or AES
+numberOf ZeroVector = 8
+-- not the time for this operation
+numberOf NotNow = 9
+-- voice mask above 15
+numberOf BadMask = 10
+-- the entry exists already (begin), or is ready already (add, finish)
+numberOf Already = 11
+-- begin: all 16 entries are in use
+numberOf Full = 12
+-- add: the octets would run past the key's length
+numberOf TooMany = 13
+-- sender: the next vector would be all zero
+numberOf NextZero = 14
+-- a text record is malformed (program only)
+numberOf Malformed = 15
+
+abbrev pub isDone : Answer → Bool
+isDone a = eqb (numberOf a) 0

@@ -1,0 +1,181 @@
+-- What each operation makes of the book where nothing refuses it: one entry is replaced, and the book is good.
+-- Assumes nothing.
+use Prim.Native.Nat.{ℕ, _≤_, _<_}
+use native.Mathlib.Omega.{arith}
+use mathlib.Core.Path.{_≡_, refl, sym, _∙_}
+use mathlib.Core.Bool.{true, false, not}
+use mathlib.Core.List.{List, [], _∷_, _++_}
+use lib.ListN.{length}
+use lib.Dec.{ltb}
+use borrow.Author.Tests.{ltb-true, ltb-false, not-false}
+use Rattle.answers.specs.declared.Answer.the-variants.{NoEntry, Already, Full}
+use Rattle.answers.specs.Outcomes.{Refusals}
+use Rattle.answers.proofs.OutcomeLaws.{NoneHolds, neverDone, none-left, none-right}
+use Rattle.ciphers.specs.Keys.{keyAllowed}
+use Rattle.keyentry.specs.Entry.{entryOctets, cipherIn, idIn, keyIn, isReady, lacks, blank, newEntry, loadRefusals, loaded, completeRefusals, completed}
+use Rattle.keyentry.proofs.RightLaws.{Used, used-of, of-used, for-name, not-for}
+use Rattle.keyentry.proofs.WriteLaws.{named-used, blank-length, blank-cipher, blank-right, new-length, new-cipher, new-id, new-right, load-length, load-cipher, load-id, load-used, complete-length, complete-cipher, complete-id, complete-used}
+use Rattle.keybook.specs.Book.{entries, entryOf, withEntry, goodBook, findEntry, freeEntry, bookRefusals}
+use Rattle.keybook.specs.Operations.{has, entryFor, withFor, beginRefusals, beginAfter, addRefusals, finishRefusals, eraseRefusals, notReady, readyRefusals}
+use Rattle.keybook.proofs.BookLaws.{entry-length}
+use Rattle.keybook.proofs.GoodLaws.{none-for, found-for, good-sized, good-entry, good-apart, good-with}
+use Rattle.keybook.proofs.OperationLaws.{sized-by, named-by, good-by}
+
+-- entry k of the book is now e
+pub record Changed (b after : List ℕ) (k : ℕ) (e : List ℕ) : Type 0 where
+  pub is : after ≡ withEntry b k e
+  pub was-good : goodBook b ≡ true
+  pub below : k < entries
+  pub long : length e ≡ entryOctets
+  pub good : goodBook (withEntry b k e) ≡ true
+
+-- ---- the entry for a cipher and key ID, where the book has one
+
+pub record There (b : List ℕ) (c i : ℕ) : Type 0 where
+  pub was-good : goodBook b ≡ true
+  pub below : findEntry b c i < entries
+  pub long : length (entryFor b c i) ≡ entryOctets
+  pub cipher : cipherIn (entryFor b c i) ≡ c
+  pub id : idIn (entryFor b c i) ≡ i
+  pub used : cipherIn (entryFor b c i) ≡ 0 → ⊥
+  pub right : Used (entryFor b c i)
+
+pub there : (b : List ℕ) (c i : ℕ) (rest : Refusals) → NoneHolds (bookRefusals b c i ++ ((not (has b c i), NoEntry) ∷ rest)) → There b c i
+there b c i rest n =
+    let m = none-left (bookRefusals b c i) _ n in
+    let g = good-by b c i m in
+    let l : findEntry b c i < entries = ltb-true _ _ (not-false _ (none-right (bookRefusals b c i) _ n .0)) in
+    let f = for-name (entryFor b c i) c i (found-for b c i l) in
+    let u : cipherIn (entryFor b c i) ≡ 0 → ⊥ = λ z. named-used c i (named-by b c i m) (sym (f .0) ∙ z) in
+    record {
+      was-good = g;
+      below = l;
+      long = entry-length b (findEntry b c i) (good-sized b g) l;
+      cipher = f .0;
+      id = f .1;
+      used = u;
+      right = used-of (entryFor b c i) u (good-entry b g (findEntry b c i) l);
+    }
+
+-- it may be replaced by one that has its cipher and key ID and keeps the rules
+same-name : (b : List ℕ) (c i : ℕ) (e : List ℕ) → There b c i → length e ≡ entryOctets → Used e
+    → cipherIn e ≡ cipherIn (entryFor b c i) → idIn e ≡ idIn (entryFor b c i) → Changed b (withFor b c i e) (findEntry b c i) e
+same-name b c i e t w u p q =
+    record {
+      is = refl;
+      was-good = t .was-good;
+      below = t .below;
+      long = w;
+      good =
+          good-with b (findEntry b c i) e (good-sized b (t .was-good)) (t .below) w (t .was-good)
+          (of-used e (λ z. t .used (sym p ∙ z)) u)
+          (λ j m n v. not-for (entryOf b j) _ _ (λ x y.
+          n (good-apart b (t .was-good) j (findEntry b c i) m (t .below) (t .used) (x ∙ p) (y ∙ q))));
+    }
+
+-- ---- the operations
+
+module _ (b : List ℕ) (c i : ℕ) where
+  -- no refusal answers done
+  pub begin-never-done : neverDone (beginRefusals b c i) ≡ true
+  unfolding beginRefusals bookRefusals
+  begin-never-done = refl
+
+  pub add-never-done : (xs : List ℕ) → neverDone (addRefusals b c i xs) ≡ true
+  unfolding addRefusals bookRefusals loadRefusals
+  add-never-done xs = refl
+
+  pub finish-never-done : neverDone (finishRefusals b c i) ≡ true
+  unfolding finishRefusals bookRefusals completeRefusals
+  finish-never-done = refl
+
+  pub erase-never-done : neverDone (eraseRefusals b c i) ≡ true
+  unfolding eraseRefusals bookRefusals
+  erase-never-done = refl
+
+  pub ready-never-done : neverDone (readyRefusals b c i) ≡ true
+  unfolding readyRefusals bookRefusals notReady
+  ready-never-done = refl
+
+  pub begin-changed : NoneHolds (beginRefusals b c i) → Changed b (beginAfter b c i) (freeEntry b) (newEntry c i)
+  unfolding beginRefusals beginAfter
+  begin-changed n =
+      let m = none-left (bookRefusals b c i) _ n in
+      let r = none-right (bookRefusals b c i) ((has b c i, Already) ∷ (not (ltb (freeEntry b) entries), Full) ∷ []) n in
+      let l : freeEntry b < entries = ltb-true _ _ (not-false _ (r .1 .0)) in
+      let none = none-for b c i (ltb-false _ _ (r .0)) in
+      record {
+        is = refl;
+        was-good = good-by b c i m;
+        below = l;
+        long = new-length c i;
+        good =
+            good-with b (freeEntry b) (newEntry c i) (sized-by b c i m) l (new-length c i) (good-by b c i m) (new-right c i (named-by b c i m))
+            (λ j lj d u. rw (new-cipher c i, new-id c i) (none j lj));
+      }
+
+  module _ (xs : List ℕ) (n : NoneHolds (addRefusals b c i xs)) where
+    pub add-there : There b c i
+    unfolding addRefusals
+    add-there = there b c i (loadRefusals (entryFor b c i) xs) (n .1)
+
+    none-load : NoneHolds (loadRefusals (entryFor b c i) xs)
+    unfolding addRefusals
+    none-load = none-right (bookRefusals b c i) ((not (has b c i), NoEntry) ∷ loadRefusals (entryFor b c i) xs) (n .1) .1
+
+    pub add-not-ready : isReady (entryFor b c i) ≡ false
+    unfolding loadRefusals
+    add-not-ready = none-load .0
+
+    pub add-fits : length xs ≤ lacks (entryFor b c i)
+    unfolding loadRefusals
+    add-fits = ltb-false _ _ (none-load .1 .0)
+
+    pub add-changed : Changed b (withFor b c i (loaded (entryFor b c i) xs)) (findEntry b c i) (loaded (entryFor b c i) xs)
+    add-changed =
+        let t = add-there in
+        let e = entryFor b c i in
+        same-name b c i (loaded e xs) t (load-length e xs (t .long) (t .right) add-fits)
+        (load-used e xs (t .long) (t .right) add-fits add-not-ready)
+        (load-cipher e xs (t .long) (t .right) add-fits) (load-id e xs (t .long) (t .right) add-fits)
+
+  module _ (n : NoneHolds (finishRefusals b c i)) where
+    pub finish-there : There b c i
+    unfolding finishRefusals
+    finish-there = there b c i (completeRefusals (entryFor b c i)) n
+
+    none-complete : NoneHolds (completeRefusals (entryFor b c i))
+    unfolding finishRefusals
+    none-complete = none-right (bookRefusals b c i) ((not (has b c i), NoEntry) ∷ completeRefusals (entryFor b c i)) n .1
+
+    pub finish-whole : lacks (entryFor b c i) ≡ 0
+    unfolding completeRefusals
+    finish-whole = let l : lacks (entryFor b c i) ≤ 0 = ltb-false _ _ (none-complete .1 .0) in omega arith
+
+    pub finish-allowed : keyAllowed (cipherIn (entryFor b c i)) (keyIn (entryFor b c i)) ≡ true
+    unfolding completeRefusals
+    finish-allowed = not-false _ (none-complete .1 .1 .0)
+
+    pub finish-changed : Changed b (withFor b c i (completed (entryFor b c i))) (findEntry b c i) (completed (entryFor b c i))
+    finish-changed =
+        let t = finish-there in
+        let e = entryFor b c i in
+        same-name b c i (completed e) t (complete-length e (t .long)) (complete-used e (t .long) (t .right) finish-whole finish-allowed)
+        (complete-cipher e (t .long)) (complete-id e (t .long))
+
+  module _ (n : NoneHolds (eraseRefusals b c i)) where
+    pub erase-there : There b c i
+    unfolding eraseRefusals
+    erase-there = there b c i [] n
+
+    pub erase-changed : Changed b (withFor b c i blank) (findEntry b c i) blank
+    erase-changed =
+        let t = erase-there in
+        record {
+          is = refl;
+          was-good = t .was-good;
+          below = t .below;
+          long = blank-length;
+          good = good-with b (findEntry b c i) blank (good-sized b (t .was-good)) (t .below) blank-length (t .was-good) blank-right
+              (λ j m d u. absurd (u blank-cipher));
+        }

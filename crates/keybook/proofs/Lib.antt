@@ -1,0 +1,9 @@
+pub mod BookLaws
+pub mod GoodLaws
+pub mod OperationLaws
+pub mod DoneLaws
+pub mod FindLaws
+pub mod Laws
+pub mod HoldLaws
+pub mod HistoryLaws
+pub mod Examples

@@ -1,0 +1,12 @@
+-- `keybook::refused` meets its contract. Assumes nothing.
+use mathlib.Core.Path.{refl}
+use Rattle.keybook.specs.Operations.{noKey}
+use Rattle.keybook.proofs.refused.Statement.{statement}
+use Rattle.keybook.proofs.refused.Tie as tie
+
+pub refused-spec : {M : Type 1} → statement M
+unfolding noKey
+refused-spec =
+    tie.close
+    (tie.spec
+    (λ c. (refl, refl)))

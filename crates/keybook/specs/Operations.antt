@@ -1,0 +1,68 @@
+-- What each operation on a key book answers and leaves: of every book, cipher type, key ID and key octets.
+use Prim.Native.Nat.{ℕ}
+use mathlib.Core.Bool.{Bool, not}
+use mathlib.Core.List.{List, [], _∷_, _++_}
+use lib.ListN.{length, replicate}
+use lib.Dec.{ltb}
+use Rattle.answers.specs.declared.Answer.{Answer}
+use Rattle.answers.specs.declared.Answer.the-variants.{WrongLength, NoEntry, NotReady, Already, Full}
+use Rattle.answers.specs.Outcomes.{Refusals, outcome}
+use Rattle.keyentry.specs.Entry.{keyRoom, keyIn, isReady, blank, newEntry, loadRefusals, loaded, completeRefusals, completed}
+use Rattle.keybook.specs.Book.{entries, entryOf, withEntry, findEntry, freeEntry, bookRefusals}
+
+-- the book has an entry for this cipher and key ID
+abbrev pub has : List ℕ → ℕ → ℕ → Bool
+has b c i = ltb (findEntry b c i) entries
+
+-- that entry; where there is none, no octets
+abbrev pub entryFor : List ℕ → ℕ → ℕ → List ℕ
+entryFor b c i = entryOf b (findEntry b c i)
+
+-- the book with that entry replaced
+abbrev pub withFor : List ℕ → ℕ → ℕ → List ℕ → List ℕ
+withFor b c i e = withEntry b (findEntry b c i) e
+
+-- begin takes the free entry nearest the start; 2, 3, 4, 11, 12
+unfoldable pub beginRefusals : List ℕ → ℕ → ℕ → Refusals
+beginRefusals b c i = bookRefusals b c i ++ ((has b c i, Already) ∷ (not (ltb (freeEntry b) entries), Full) ∷ [])
+
+unfoldable pub beginAfter : List ℕ → ℕ → ℕ → List ℕ
+beginAfter b c i = withEntry b (freeEntry b) (newEntry c i)
+
+unfoldable pub beginOf : List ℕ → ℕ → ℕ → Answer × List ℕ
+beginOf b c i = outcome b (beginRefusals b c i) (beginAfter b c i)
+
+-- add appends 0 to 32 octets; 2, 3, 4, 5, 11, 13
+unfoldable pub addRefusals : List ℕ → ℕ → ℕ → List ℕ → Refusals
+addRefusals b c i xs =
+    (ltb keyRoom (length xs), WrongLength) ∷ (bookRefusals b c i ++ ((not (has b c i), NoEntry) ∷ loadRefusals (entryFor b c i) xs))
+
+unfoldable pub addOf : List ℕ → ℕ → ℕ → List ℕ → Answer × List ℕ
+addOf b c i xs = outcome b (addRefusals b c i xs) (withFor b c i (loaded (entryFor b c i) xs))
+
+-- finish marks ready; 2, 3, 4, 5, 11, 6, 7
+unfoldable pub finishRefusals : List ℕ → ℕ → ℕ → Refusals
+finishRefusals b c i = bookRefusals b c i ++ ((not (has b c i), NoEntry) ∷ completeRefusals (entryFor b c i))
+
+unfoldable pub finishOf : List ℕ → ℕ → ℕ → Answer × List ℕ
+finishOf b c i = outcome b (finishRefusals b c i) (withFor b c i (completed (entryFor b c i)))
+
+-- erase zeroes an entry, ready or not; 2, 3, 4, 5
+unfoldable pub eraseRefusals : List ℕ → ℕ → ℕ → Refusals
+eraseRefusals b c i = bookRefusals b c i ++ ((not (has b c i), NoEntry) ∷ [])
+
+unfoldable pub eraseOf : List ℕ → ℕ → ℕ → Answer × List ℕ
+eraseOf b c i = outcome b (eraseRefusals b c i) (withFor b c i blank)
+
+-- the key of a ready entry, with zeros past its length; 2, 3, 4, 5, 6, and then all zeros
+unfoldable pub noKey : List ℕ
+noKey = replicate keyRoom 0
+
+unfoldable pub notReady : List ℕ → Refusals
+notReady e = (not (isReady e), NotReady) ∷ []
+
+unfoldable pub readyRefusals : List ℕ → ℕ → ℕ → Refusals
+readyRefusals b c i = bookRefusals b c i ++ ((not (has b c i), NoEntry) ∷ notReady (entryFor b c i))
+
+unfoldable pub readyKeyOf : List ℕ → ℕ → ℕ → Answer × List ℕ
+readyKeyOf b c i = outcome noKey (readyRefusals b c i) (keyIn (entryFor b c i))

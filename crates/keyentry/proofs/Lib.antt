@@ -1,0 +1,3 @@
+pub mod EntryLaws
+pub mod RightLaws
+pub mod WriteLaws
