@@ -3,11 +3,17 @@ use mathlib.Core.Path.{refl, ap, _∙_}
 use Rattle.generator.specs.Generator.{nextVector}
 use Rattle.generator.proofs.Examples.{example-second, example-third, example-aes}
 use Rattle.scramble.proofs.Examples.{key-one}
+use Rattle.octets.specs.Lists.{allZero}
+use Rattle.octets.specs.Tests.{allBelow, firstBelow}
+use Rattle.ciphers.specs.Keys.{oddOctet, scrambleKey, desKey, keyAllowed}
 use Rattle.ciphers.specs.Keystream.{feedback, stream}
-use Rattle.demands.specs.Marked.{Marked}
+use Rattle.keyentry.specs.Entry.{named, lacks, readyRight, usedRight, entryRight, isFor, completeRefusals}
+use Rattle.keybook.specs.Book.{entryOf, apart, goodBook, findEntry, bookRefusals}
+use Rattle.keybook.specs.Operations.{finishRefusals, finishOf}
+use Rattle.demands.specs.Marked.{Marked, finishNumber}
 
 pub marked : Marked
-unfolding stream feedback
+unfolding stream feedback finishNumber allBelow firstBelow oddOctet scrambleKey desKey keyAllowed allZero named lacks readyRight usedRight entryRight isFor completeRefusals entryOf apart goodBook findEntry bookRefusals finishRefusals finishOf
 marked =
     record {
       example-1 = key-one;
@@ -15,4 +21,6 @@ marked =
       example-5 = ap nextVector example-second ∙ example-third;
       example-6 = example-aes;
       example-7 = λ key vector. (refl, refl);
+      example-8 = refl;
+      example-9 = refl;
     }

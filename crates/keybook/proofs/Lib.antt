@@ -6,4 +6,3 @@ pub mod FindLaws
 pub mod Laws
 pub mod HoldLaws
 pub mod HistoryLaws
-pub mod Examples
