@@ -1,8 +1,9 @@
 -- Laws of every outcome, whatever it refuses and leaves. Assumes nothing.
 use mathlib.Core.Path.{_≡_, refl, sym, ap, _∙_}
+use Prim.Native.Nat.{ℕ, zero, suc}
 use mathlib.Core.Logic.{_⊎_, inl, inr}
 use mathlib.Core.Bool.{Bool, true, false, _&&_, not, true≢false}
-use mathlib.Core.List.{[], _∷_, _++_}
+use mathlib.Core.List.{[], _∷_, _++_, append-nil}
 use borrow.Author.Tests.{not-true}
 use Rattle.octets.specs.Tests.{pick}
 use Rattle.octets.proofs.TestLaws.{and-left, and-right}
@@ -98,3 +99,31 @@ pub done-none : {T : Type 0} (rs : Refusals) (k after : T) → neverDone rs ≡ 
 done-none rs k after n =
     by-refusals (λ o. isDone (o .0) ≡ true → NoneHolds rs) k rs (Done, after)
     (λ a m d. absurd (true≢false (sym d ∙ among-not-done a rs n m))) (λ h d. h)
+
+-- refusal n is the first whose test holds
+abbrev pub Refuses : Refusals → ℕ → Type 0
+Refuses [] n = ⊥
+Refuses (r ∷ rs) zero = r .0 ≡ true
+Refuses (r ∷ rs) (suc n) = (r .0 ≡ false) × Refuses rs n
+
+-- what it answers
+abbrev pub answerAt : Refusals → ℕ → Answer
+answerAt [] n = Done
+answerAt (r ∷ rs) zero = r .1
+answerAt (r ∷ rs) (suc n) = answerAt rs n
+
+module _ {S : Type 0} (before : S) where
+  pub refused-at : (rs : Refusals) (last : Answer × S) (n : ℕ) → Refuses rs n → (answerAt rs n, before) ≡ settled before rs last
+  refused-at [] last n e = absurd e
+  refused-at (r ∷ rs) last zero e = rw e
+  refused-at (r ∷ rs) last (suc n) e = rw (e .0) (refused-at rs last n (e .1))
+
+-- the same refusals, asked by another operation, of k, which it leaves as `after`
+pub asked-refused : {S T : Type 0} (rs : Refusals) (k after : T) (before : S) (last : Answer × S) → isDone (outcome k rs after .0) ≡ false
+    → (outcome k rs after .0, before) ≡ settled before rs last
+asked-refused rs k after before last d = sym (rw append-nil at (first-refuses rs [] k after before last d))
+
+-- what a part of the refusals refuses, all of them do
+pub first-decides : {S : Type 0} (rs rest : Refusals) (before after : S) → isDone (outcome before rs after .0) ≡ false
+    → outcome before rs after ≡ outcome before (rs ++ rest) after
+first-decides rs rest before after d = sym (asked-refused rs before after before (Done, after) d) ∙ sym (first-refuses rs rest before after before (Done, after) d)

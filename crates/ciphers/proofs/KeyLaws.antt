@@ -2,16 +2,16 @@
 use Prim.Native.Nat.{ℕ, _≤_, _<_}
 use native.Mathlib.Omega.{arith}
 use mathlib.Core.Path.{_≡_, sym, ap, fun-ext}
-use mathlib.Core.Bool.{Bool, true, false, _&&_, not}
+use mathlib.Core.Bool.{true, false, _&&_, not}
 use mathlib.Core.List.{List, _++_}
 use lib.ListN.{getD, replicate}
 use lib.Dec.{ltb, eqb}
 use borrow.Author.Tests.{lt-ltb, le-ltb, eq-eqb, ne-eqb}
-use Rattle.octets.specs.Tests.{pick, allBelow}
+use Rattle.octets.specs.Tests.{allBelow}
 use Rattle.ciphers.specs.Keys.{oddOctet, scrambleKey, desKey, keyAllowed}
 use Rattle.octets.proofs.TestLaws.{all-fails}
 use Rattle.octets.proofs.ListLaws.{padded-at}
-use Rattle.ciphers.specs.Numbers.{byCipher, keyOctets}
+use Rattle.ciphers.specs.Numbers.{byCipher}
 
 module _ (k : List ℕ) where
   pub scramble-top : 128 ≤ getD k 0 0 → false ≡ scrambleKey k
@@ -33,16 +33,6 @@ module _ (k : List ℕ) where
   pub des-all : (i : ℕ) → i ≤ 8 → 8 ≤ i → allBelow (λ j. oddOctet (getD k j 0)) i ≡ true → true ≡ desKey k
   unfolding desKey
   des-all i h h' e = let z : i ≡ 8 = omega arith in sym (rw z at e)
-
--- no key is longer than 32 octets
-pub key-at-most : (c : ℕ) → keyOctets c ≤ 32
-key-at-most c = go (eqb c 1) (eqb c 2) (eqb c 3)
-  where
-    go : (x y z : Bool) → pick x 2 (pick y 8 (pick z 32 0)) ≤ 32
-    go true y z = omega arith
-    go false true z = omega arith
-    go false false true = omega arith
-    go false false false = omega arith
 
 -- zeros after a key change no rule of it
 pub padded-allowed : (xs : List ℕ) (n c : ℕ) → keyAllowed c (xs ++ replicate n 0) ≡ keyAllowed c xs

@@ -1,1 +1,10 @@
+pub mod Zeros
 pub mod MarkedHold
+pub mod AirLaws
+pub mod Standing
+pub mod ReceiverMeets
+pub mod LogComplete
+pub mod Samples
+pub mod ThrownOut
+pub mod SenderKeeps
+pub mod Instance

@@ -1,1 +1,7 @@
 pub mod Marked
+pub mod History
+pub mod Log
+pub mod Arrivals
+pub mod Demand3
+pub mod Others
+pub mod OurSender

@@ -9,7 +9,8 @@ use mathlib.Core.List.{List, [], _∷_}
 use lib.ListN.{length}
 use lib.Dec.{eqb}
 use borrow.Author.Tests.{lt-ltb, eq-eqb, not-false}
-use Rattle.ciphers.proofs.KeyLaws.{key-at-most, padded-allowed}
+use Rattle.ciphers.proofs.NumberLaws.{key-at-most}
+use Rattle.ciphers.proofs.KeyLaws.{padded-allowed}
 use Rattle.octets.specs.Tests.{pick}
 use Rattle.octets.proofs.TestLaws.{and-left, and-right, first-le}
 use Rattle.ciphers.specs.Numbers.{keyOctets}

@@ -1,5 +1,6 @@
 -- Laws of lists given by a function of the place, and of repeated steps. Assumes nothing.
 use mathlib.Core.Path.{_≡_, refl, sym, ap, ap₂, _∙_}
+use mathlib.Core.Bool.{true}
 use mathlib.Core.List.{List, [], _∷_, _++_}
 use mathlib.Core.Logic.{⊎-elim}
 use Prim.Native.Nat.{ℕ, zero, suc, _+_, _-_, _≤_, _<_}
@@ -7,8 +8,11 @@ use native.Mathlib.Nat.{le-of-lt, not-suc-le-zero, le-of-suc-le-suc, eq-or-lt-of
 use native.Mathlib.Decide.{decLt}
 use native.Mathlib.Omega.{arith}
 use lib.ListN.{length, getD, take, length-append, replicate, length-replicate, getD-replicate, List·getD-append, List·getD-eq-default}
-use lib.Seq.{take-suc, getD-at, getD-append-add}
-use Rattle.octets.specs.Lists.{tab, iterate}
+use lib.Dec.{eqb}
+use lib.Seq.{take-suc, getD-at, getD-append-add, ext-getD}
+use borrow.Author.Tests.{eqb-true}
+use Rattle.octets.specs.Lists.{tab, allZero, iterate}
+use Rattle.octets.proofs.TestLaws.{all-at}
 use Rattle.octets.specs.Bits.{Octets}
 
 pub length-tab : (f : ℕ → ℕ) (n : ℕ) → length (tab f n) ≡ n
@@ -57,6 +61,13 @@ module _ (xs : List ℕ) (n : ℕ) where
           ∙ getD-append-add xs (replicate n 0) (j - length xs) 0
           ∙ zeros-at (j - length xs) (decLt (j - length xs) n)
           ∙ sym (List·getD-eq-default xs 0 (omega arith))
+
+-- a list of zeros
+pub zeros-are : (xs : List ℕ) (n : ℕ) → length xs ≡ n → allZero xs ≡ true → xs ≡ replicate n 0
+unfolding allZero
+zeros-are xs n l z =
+    ext-getD 0 xs (replicate n 0) (l ∙ sym (length-replicate n 0))
+    (λ i h. eqb-true _ _ (all-at (λ i. eqb (getD xs i 0) 0) (length xs) i h z) ∙ sym (getD-replicate n i 0 0 (omega arith)))
 
 -- steps that agree
 pub iterate-same {ℓ} : {A : Type ℓ} (f g : A → A) → ((x : A) → f x ≡ g x) → (n : ℕ) (x : A) → iterate f n x ≡ iterate g n x

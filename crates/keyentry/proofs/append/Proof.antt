@@ -2,7 +2,7 @@
 use native.Mathlib.Omega.{arith}
 use borrow.Author.Needs.{needs}
 use denote.Ref.{now}
-use Rattle.ciphers.proofs.KeyLaws.{key-at-most}
+use Rattle.ciphers.proofs.NumberLaws.{key-at-most}
 use Rattle.keyentry.specs.Entry.{cipherIn, lacks}
 use Rattle.keyentry.proofs.EntryLaws.{appended}
 use Rattle.keyentry.proofs.append.Statement.{statement}

@@ -3,7 +3,7 @@ use mathlib.Core.Path.{_∙_}
 use native.Mathlib.Omega.{arith}
 use borrow.Author.Needs.{needs}
 use denote.Ref.{now}
-use Rattle.ciphers.proofs.KeyLaws.{key-at-most}
+use Rattle.ciphers.proofs.NumberLaws.{key-at-most}
 use Rattle.octets.proofs.TestLaws.{fails, holds}
 use Rattle.keyentry.specs.Entry.{cipherIn}
 use Rattle.keyentry.proofs.EntryLaws.{used-name, used-count, used-rest, used-ready}

@@ -1,0 +1,51 @@
+-- A keystream is bits, and rests on the key's own octets alone. Assumes nothing.
+use mathlib.Core.Path.{_≡_, ap}
+use mathlib.Core.List.{List, _++_, append-nil}
+use Prim.Native.Nat.{ℕ, _-_, _/_, _%_, _≤_, _<_}
+use native.Mathlib.Omega.{arith}
+use lib.ListN.{length, replicate, List·getD-append}
+use Rattle.octets.specs.Lists.{tab}
+use Rattle.octets.specs.Bits.{bit, Bits}
+use Rattle.octets.proofs.BitLaws.{bit-lt}
+use Rattle.octets.proofs.ListLaws.{tab-same}
+use Rattle.scramble.specs.Sequence.{keyNumber, P}
+use Rattle.scramble.proofs.Recurrence.{P-bit}
+use Rattle.generator.specs.Generator.{aesVector}
+use Rattle.des.specs.Des.{byKeys, roundKey, des}
+use Rattle.aes.specs.Cipher.{aes}
+use Rattle.ciphers.specs.Numbers.{blockBits, keyOctets}
+use Rattle.ciphers.specs.Keystream.{usedBlock, feedback, stream}
+use Rattle.ciphers.proofs.Cases.{by-each, by-range}
+
+feedback-lt : (encipher : List ℕ → List ℕ) (width : ℕ) (vector : List ℕ) (n : ℕ) → feedback encipher width vector n < 2
+unfolding feedback
+feedback-lt encipher width vector n = bit-lt (usedBlock encipher vector (n / width)) (n % width)
+
+pub bits-stream : (c : ℕ) (key vector : List ℕ) → Bits (stream c key vector)
+unfolding stream
+bits-stream c key vector n =
+    by-each c (λ (b : ℕ). b < 2) (P key n) (feedback (des key) (blockBits 2) vector n) (feedback (aes key) (blockBits 3) (aesVector vector) n) 0
+    (P-bit key n) (feedback-lt (des key) (blockBits 2) vector n) (feedback-lt (aes key) (blockBits 3) (aesVector vector) n) (omega arith)
+
+-- zeros behind a key reach no bit of it
+module _ (key rest v : List ℕ) where
+  scramble-key : length key ≡ 2 → keyNumber (key ++ rest) ≡ keyNumber key
+  unfolding keyNumber
+  scramble-key l = rw (List·getD-append key rest 0 0 (omega arith), List·getD-append key rest 0 1 (omega arith))
+
+  scramble-rest : length key ≡ 2 → (n : ℕ) → stream 1 (key ++ rest) v n ≡ stream 1 key v n
+  unfolding stream P
+  scramble-rest l n = rw (scramble-key l)
+
+  des-key : length key ≡ 8 → tab (bit (key ++ rest)) 64 ≡ tab (bit key) 64
+  des-key l = tab-same (bit (key ++ rest)) (bit key) 64 (λ i h. rw (List·getD-append key rest 0 (i / 8) (omega arith)))
+
+  des-rest : length key ≡ 8 → (n : ℕ) → stream 2 (key ++ rest) v n ≡ stream 2 key v n
+  unfolding stream des
+  des-rest l n = ap (λ (t : List ℕ). feedback (byKeys (roundKey t)) 64 v n) (des-key l)
+
+pub stream-rest : (c : ℕ) → (1 ≤ c) × (c ≤ 3) → (key v : List ℕ) → length key ≡ keyOctets c → (n : ℕ)
+    → stream c (key ++ replicate (32 - keyOctets c) 0) v n ≡ stream c key v n
+stream-rest c r key v =
+    by-range (λ m. length key ≡ keyOctets m → (n : ℕ) → stream m (key ++ replicate (32 - keyOctets m) 0) v n ≡ stream m key v n)
+    (scramble-rest key (replicate 30 0) v) (des-rest key (replicate 24 0) v) (λ l n. rw append-nil) c r

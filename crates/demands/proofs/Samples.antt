@@ -1,0 +1,91 @@
+-- A book with two ready keys, and slots of silence, for the calls that show what is thrown out and what can be met. Assumes nothing.
+use mathlib.Core.Path.{_≡_, refl}
+use mathlib.Core.Bool.{Bool, true}
+use mathlib.Core.List.{List, [], _∷_, _++_}
+use Prim.Native.Nat.{ℕ, suc, _+_, _*_}
+use native.Mathlib.Omega.{arith}
+use lib.ListN.{replicate}
+use Rattle.demands.proofs.Zeros.{octets-by, zeros-octets}
+use Rattle.octets.specs.Tests.{allBelow, firstBelow}
+use Rattle.octets.specs.Lists.{allZero}
+use Rattle.octets.specs.Bits.{Octets}
+use Rattle.ciphers.specs.Keys.{oddOctet, scrambleKey, desKey, keyAllowed}
+use Rattle.keyentry.specs.Entry as entry
+use Rattle.keybook.specs.Book as book
+use Rattle.voice.specs.Frame.{IsFrame}
+use Rattle.voice.proofs.FrameLaws.{protect-frame}
+use Rattle.demands.specs.Marked.{key0001, seed}
+use Rattle.demands.specs.History.{Slot, SlotKept, SlotsKept, VectorKept, HasKey}
+use Rattle.demands.specs.Others.{Sending, turning}
+use Rattle.demands.proofs.AirLaws.{protected-air}
+
+-- DES key ABCDEF0123456789
+abbrev pub keyABCD : List ℕ
+keyABCD = 0xAB ∷ 0xCD ∷ 0xEF ∷ 0x01 ∷ 0x23 ∷ 0x45 ∷ 0x67 ∷ 0x89 ∷ []
+
+-- scramble key 0001 and that DES key, both ready as key ID 0
+abbrev pub twoKeys : List ℕ
+twoKeys = (1 ∷ 0 ∷ 2 ∷ 1 ∷ (key0001 ++ replicate 30 0)) ++ ((2 ∷ 0 ∷ 8 ∷ 1 ∷ (keyABCD ++ replicate 24 0)) ++ replicate (14 * entry.entryOctets) 0)
+
+two-good : book.goodBook twoKeys ≡ true
+unfolding book.goodBook book.apart book.findEntry book.entryOf allBelow firstBelow allZero entry.isFor entry.named entry.entryRight
+    entry.usedRight entry.readyRight entry.lacks keyAllowed scrambleKey desKey oddOctet
+two-good = refl
+
+pub has-scramble : HasKey twoKeys 1 0 key0001
+unfolding book.findEntry book.entryOf firstBelow entry.isFor
+has-scramble = record { good = two-good; there = refl; ready = refl; same = refl }
+
+pub has-des : HasKey twoKeys 2 0 keyABCD
+unfolding book.findEntry book.entryOf firstBelow entry.isFor
+has-des = record { good = two-good; there = refl; ready = refl; same = refl }
+
+-- ---- silence
+
+abbrev pub silence : List ℕ
+silence = replicate 28 0
+
+pub silence-frame : IsFrame silence
+silence-frame = record { long = refl; octets = zeros-octets 28 }
+
+-- another frame: its first octet is 1
+abbrev pub click : List ℕ
+click = 1 ∷ replicate 27 0
+
+pub click-frame : IsFrame click
+unfolding allBelow
+click-frame = record { long = refl; octets = octets-by click refl }
+
+-- slot p, of which only the first word is voice, as a sender sends it
+abbrev pub saying : Sending → List ℕ → (ℕ → ℕ) → ℕ → Bool → Slot
+saying send frame ks p arrived = record { mask = 1; spoken = frame; sent = send ks p 1 frame; arrived = arrived }
+
+pub saying-kept : (frame : List ℕ) → IsFrame frame → (ks : ℕ → ℕ) (p : ℕ) (arrived : Bool) → SlotKept ks p (saying turning frame ks p arrived)
+saying-kept frame f ks p arrived =
+    record {
+      mask = omega arith;
+      spoken = f;
+      sent = protect-frame (λ n. ks (196 * p + n)) 1 frame;
+      air = protected-air ks p (saying turning frame ks p arrived) refl;
+    }
+
+-- a run of such slots of silence, from slot p on: which of them arrive
+abbrev pub quiet : (ℕ → ℕ) → ℕ → List Bool → List Slot
+quiet ks p [] = []
+quiet ks p (a ∷ rest) = saying turning silence ks p a ∷ quiet ks (suc p) rest
+
+pub quiet-kept : (ks : ℕ → ℕ) (p : ℕ) (arriving : List Bool) → SlotsKept ks p (quiet ks p arriving)
+quiet-kept ks p [] = tt
+quiet-kept ks p (a ∷ rest) = (saying-kept silence silence-frame ks p a, quiet-kept ks (suc p) rest)
+
+pub no-vector-kept : VectorKept 1 (replicate 8 0)
+unfolding allZero allBelow
+no-vector-kept = record { long = refl; zeros = refl }
+
+pub seed-kept : VectorKept 2 seed
+unfolding allZero allBelow
+seed-kept = record { long = refl; zeros = refl }
+
+pub seed-octets : Octets seed
+unfolding allBelow
+seed-octets = octets-by seed refl

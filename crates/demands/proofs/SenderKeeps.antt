@@ -1,0 +1,215 @@
+-- Our sender keeps the rules: the call that it makes is one of those that demand 3 is about. Assumes nothing.
+use mathlib.Core.Path.{_≡_, refl, sym, ap, _∙_}
+use mathlib.Core.Bool.{Bool, true, false, _&&_, not}
+use mathlib.Core.List.{List, [], _∷_}
+use Prim.Native.Nat.{ℕ, suc, _+_, _*_, _≤_, _<_}
+use native.Mathlib.Nat.{add-zero}
+use native.Mathlib.Numerals.{add-one}
+use native.Mathlib.Omega.{arith}
+use lib.ListN.{length}
+use borrow.Author.Tests.{eq-eqb, le-ltb, lt-ltb}
+use Rattle.demands.proofs.Zeros.{zeros-octets, next-not-zero}
+use Rattle.octets.specs.Tests.{pick}
+use Rattle.octets.specs.Bits.{Octets}
+use Rattle.octets.specs.Lists.{allZero}
+use Rattle.octets.proofs.TestLaws.{and-false-r}
+use Rattle.generator.specs.Generator.{nextVector}
+use Rattle.generator.proofs.VectorLaws.{length-nextVector, octets-nextVector}
+use Rattle.ciphers.specs.Numbers.{keyOctets, sessionSlots}
+use Rattle.ciphers.specs.Keystream.{stream}
+use Rattle.answers.specs.declared.Answer.{Answer}
+use Rattle.answers.specs.declared.Answer.the-variants.{Done}
+use Rattle.keybook.proofs.GoodLaws.{good-sized}
+use Rattle.voice.specs.declared.call.Call.{Call}
+use Rattle.voice.specs.Frame.{ofSlot, protect}
+use Rattle.voice.specs.Ladder.{noVector, scrambles, keyFor, keyRefusals, zeroFor, vectorRefusals}
+use Rattle.voice.specs.Call.{vectorRight, noCall, sending, standing, written}
+use Rattle.voice.specs.Opening.{sessionVector, openRefusals, startOf}
+use Rattle.voice.specs.Slot.{goingOn, sent, zeroAfter, voiceOf}
+use Rattle.voice.specs.Vector.{nextRefusals, nextVectorOf}
+use Rattle.voice.proofs.FrameLaws.{protect-same, protect-frame}
+use Rattle.voice.proofs.GoodLaws.{good-open, read-written, no-vector-zero}
+use Rattle.voice.proofs.SlotSteps.{voice-sent}
+use Rattle.demands.specs.History.{Slot, SlotKept, SlotsKept, VectorKept, SessionKept, Each, Full, Kept, HasKey, Entry}
+use Rattle.demands.specs.Log.{talkLog}
+use Rattle.demands.specs.Demand3.{Right, ours}
+use Rattle.demands.specs.OurSender.{Said, Saying, slotsMade, afterwards, sessionsMade, talkMade, SaidKept, Starts, AllSaid}
+use Rattle.demands.proofs.AirLaws.{protected-air}
+use Rattle.demands.proofs.Standing.{key-named, key-ranged, has-key-right, slots-some, closed-read, same-stream}
+use Rattle.demands.proofs.ReceiverMeets.{ours-meets-3}
+
+-- a sender's vector: the generator makes no zeros of one that isn't
+pub record Sound (c : ℕ) (v : List ℕ) : Type 0 where
+  pub kept : VectorKept c v
+  pub octets : Octets v
+
+no-vector-sound : (c : ℕ) → scrambles c ≡ true → Sound c noVector
+no-vector-sound c e = record { kept = record { long = refl; zeros = no-vector-zero ∙ sym e }; octets = zeros-octets 8 }
+
+starts-sound : (c : ℕ) (v : List ℕ) → Starts c v → Sound c (sessionVector c v)
+starts-sound c v s = go (scrambles c) refl
+  where
+    go : (t : Bool) → scrambles c ≡ t → Sound c (pick t noVector v)
+    go true e = no-vector-sound c e
+    go false e = record { kept = record { long = s .long; zeros = s .some e ∙ sym e }; octets = s .octets }
+
+going-sound : (c : ℕ) (v : List ℕ) → Sound c v → Sound c (goingOn c v)
+unfolding goingOn
+going-sound c v s = go (scrambles c) refl
+  where
+    go : (t : Bool) → scrambles c ≡ t → Sound c (pick t noVector (nextVector v))
+    go true e = no-vector-sound c e
+    go false e =
+        record {
+          kept = record { long = length-nextVector v; zeros = next-not-zero v (s .kept .long) (s .octets) (s .kept .zeros ∙ e) ∙ sym e };
+          octets = octets-nextVector v;
+        }
+
+starts-not-zero : (c : ℕ) (v : List ℕ) → Starts c v → zeroFor c v ≡ false
+unfolding zeroFor
+starts-not-zero c v s = go (scrambles c) refl
+  where
+    go : (t : Bool) → scrambles c ≡ t → (not t && allZero v) ≡ false
+    go true e = refl
+    go false e = s .some e
+
+-- the next vector is no zeros, so 14 is not given
+not-zero-after : (c p : ℕ) (v : List ℕ) → VectorKept c (goingOn c v) → zeroAfter c p v ≡ false
+unfolding zeroAfter goingOn
+not-zero-after c p v k = go (scrambles c) refl
+  where
+    go : (t : Bool) → scrambles c ≡ t → zeroAfter c p v ≡ false
+    go true e = rw e
+    go false e =
+        let z : allZero (nextVector v) ≡ false = rw e at (k .zeros) in
+        rw (e, z, and-false-r)
+
+module _ (b : List ℕ) (c i : ℕ) (key : List ℕ) (h : HasKey b c i key) (long : length key ≡ keyOctets c) where
+  abbrev k : List ℕ
+  k = keyFor b c i
+
+  -- after p slots of a session; after the last it is in the next one, with the next vector
+  abbrev spot : List ℕ → ℕ → Call
+  spot v p = written (sent c k p v)
+
+  spot-in : (v : List ℕ) (p : ℕ) → p < sessionSlots c → spot v p ≡ written (sending c k p v)
+  unfolding sent
+  spot-in v p l = rw (lt-ltb _ _ l)
+
+  spot-end : (v : List ℕ) (p : ℕ) → p ≡ sessionSlots c → spot v p ≡ written (sending c k 0 (goingOn c v))
+  unfolding sent
+  spot-end v p l = rw (le-ltb p (sessionSlots c) (omega arith))
+
+  some : 0 < sessionSlots c
+  some = let l = slots-some c (key-ranged b c i key h) in omega arith
+
+  right-vector : (v : List ℕ) → VectorKept c v → vectorRight 1 c true (allZero v) ≡ true
+  unfolding vectorRight
+  right-vector v kept = rw (kept .zeros) (go (scrambles c))
+    where
+      go : (t : Bool) → pick t (true && t) (true && not t) ≡ true
+      go true = refl
+      go false = refl
+
+  spot-read : (v : List ℕ) → VectorKept c v → (p : ℕ) → p < sessionSlots c → standing (spot v p) ≡ sending c k p v
+  spot-read v kept p l =
+      ap standing (spot-in v p l)
+      ∙ read-written (sending c k p v) refl
+      (good-open 1 c k p v true (omega arith) (omega arith) (has-key-right b c i key h) l (right-vector v kept))
+
+  -- ---- the slots of a session
+
+  module _ (v : List ℕ) (sound : Sound c v) where
+    abbrev out : ℕ → Said → List ℕ
+    out p x = protect (ofSlot (stream c k v) p) (x .mask) (x .spoken)
+
+    spot-voice : (p : ℕ) → p < sessionSlots c → (x : Said) → SaidKept x → voiceOf (spot v p) (x .mask) (x .spoken) ≡ (Done, (spot v (p + 1), out p x))
+    spot-voice p l x s =
+        voice-sent (spot v p) (x .mask) (x .spoken) (s .mask) (s .frame .long) c k p v (spot-read v (sound .kept) p l)
+        (not-zero-after c p v (going-sound c v sound .kept))
+
+    abbrev made : ℕ → Said → List ℕ → Slot
+    made p x f = record { mask = x .mask; spoken = x .spoken; sent = f; arrived = x .arrives }
+
+    slot-kept : (p : ℕ) (x : Said) → SaidKept x → SlotKept (stream c key v) p (made p x (out p x))
+    slot-kept p x s =
+        record {
+          mask = s .mask;
+          spoken = s .frame;
+          sent = protect-frame (ofSlot (stream c k v) p) (x .mask) (x .spoken);
+          air =
+              protected-air (stream c key v) p (made p x (out p x))
+              (protect-same (ofSlot (stream c k v) p) (ofSlot (stream c key v) p) (x .mask) (λ n r. same-stream b c i key h long v (196 * p + n)) (x .spoken));
+        }
+
+    slots-made : (p : ℕ) (xs : List Said) → p + length xs ≤ sessionSlots c → Each SaidKept xs → SlotsKept (stream c key v) p (slotsMade (spot v p) xs)
+    slots-made p [] l s = tt
+    slots-made p (x ∷ xs) l s = rw (spot-voice p (omega arith) x (s .0), add-one) (slot-kept p x (s .0), slots-made (suc p) xs (omega arith) (s .1))
+
+    slots-after : (p : ℕ) (xs : List Said) → p + length xs ≤ sessionSlots c → Each SaidKept xs → afterwards (spot v p) xs ≡ spot v (p + length xs)
+    slots-after p [] l s = ap (spot v) (sym (add-zero p))
+    slots-after p (x ∷ xs) l s =
+        rw (spot-voice p (omega arith) x (s .0), add-one) (slots-after (suc p) xs (omega arith) (s .1) ∙ ap (spot v) (omega arith))
+
+  made-length : (s : Call) (xs : List Said) → length (slotsMade s xs) ≡ length xs
+  made-length s [] = refl
+  made-length s (x ∷ xs) = ap suc (made-length (voiceOf s (x .mask) (x .spoken) .1 .0) xs)
+
+  -- ---- the sessions
+
+  abbrev from : List ℕ → Call
+  from v = written (sending c k 0 v)
+
+  session-made : (v : List ℕ) → Sound c v → (x : Saying) → length (slotsMade (from v) (x .slots)) ≤ sessionSlots c → Each SaidKept (x .slots)
+      → SlotsKept (stream c key v) 0 (slotsMade (from v) (x .slots))
+  session-made v a x l s =
+      let e : length (slotsMade (from v) (x .slots)) ≡ length (x .slots) = made-length (from v) (x .slots) in
+      rw (sym (spot-in v 0 some)) (slots-made v a 0 (x .slots) (omega arith) s)
+
+  session-after : (v : List ℕ) → Sound c v → (x : Saying) → length (slotsMade (from v) (x .slots)) ≡ sessionSlots c → Each SaidKept (x .slots)
+      → afterwards (from v) (x .slots) ≡ from (goingOn c v)
+  session-after v a x l s =
+      let e : length (slotsMade (from v) (x .slots)) ≡ length (x .slots) = made-length (from v) (x .slots) in
+      rw (sym (spot-in v 0 some)) (slots-after v a 0 (x .slots) (omega arith) s ∙ spot-end v (0 + length (x .slots)) (omega arith))
+
+  sessions-made : (v : List ℕ) → Sound c v → (xs : List Saying) → AllSaid xs → Full c (sessionsMade (from v) xs)
+      → Each (SessionKept c key) (sessionsMade (from v) xs)
+  sessions-made v a [] s f = tt
+  sessions-made v a (x ∷ []) s f = (record { vector = a .kept; slots = session-made v a x f (s .0) }, tt)
+  sessions-made v a (x ∷ y ∷ ys) s f =
+      let e = session-after v a x (f .0) (s .0) in (
+        record { vector = a .kept; slots = session-made v a x (omega (arith, f .0)) (s .0) },
+        rw e (sessions-made (goingOn c v) (going-sound c v a) (y ∷ ys) (s .1) (rw e at (f .1))),
+      )
+
+  -- what next vector writes at any slot of a session is the vector of the next one
+  pub next-announced : (v : List ℕ) → Sound c v → scrambles c ≡ false → (p : ℕ) → p < sessionSlots c → (lent : List ℕ) → length lent ≡ 8
+      → (x : Saying) → length (slotsMade (from v) (x .slots)) ≡ sessionSlots c → Each SaidKept (x .slots)
+      → nextVectorOf (written (sending c k p v)) lent ≡ (Done, afterwards (from v) (x .slots) .vector)
+  unfolding nextVectorOf nextRefusals goingOn
+  next-announced v a e p l lent h8 x f s =
+      let z : allZero (nextVector v) ≡ false = rw e at (going-sound c v a .kept .zeros) in
+      let g : goingOn c v ≡ nextVector v = rw e in
+      rw (sym (spot-in v p l), spot-read v (a .kept) p l, eq-eqb _ _ h8, e, z)
+      (ap (λ (w : List ℕ). (Done, w)) (sym g) ∙ ap (λ (d : Call). (Done, d .vector)) (sym (session-after v a x f s)))
+
+  -- ---- from the start
+
+  started-at : (v : List ℕ) → Starts c v → startOf noCall c i v b ≡ (Done, from (sessionVector c v))
+  unfolding startOf openRefusals vectorRefusals keyRefusals
+  started-at v s =
+      rw (closed-read, eq-eqb _ _ (s .long), eq-eqb _ _ (good-sized b (h .good)), key-named b c i key h, h .good, h .there, h .ready, starts-not-zero c v s)
+
+  pub ours-keeps : (v : List ℕ) → Starts c v → (said : List Saying) → AllSaid said → Full c (talkMade c key i v b said .sessions) → Kept (talkMade c key i v b said)
+  ours-keeps v s said a f =
+      let e = ap (λ (o : Answer × Call). o .1) (started-at v s) in
+      record {
+        key = long;
+        each = rw e (sessions-made (sessionVector c v) (starts-sound c v s) said a (rw e at f));
+        full = f;
+      }
+
+  -- our sender to our receiver, whose book has the key under an ID of its own
+  pub ours-to-ours : (v : List ℕ) → Starts c v → (said : List Saying) → AllSaid said → Full c (talkMade c key i v b said .sessions)
+      → (b′ : List ℕ) (i′ : ℕ) → HasKey b′ c i′ key → (e : Entry) → Each Right (talkLog ours b′ i′ (talkMade c key i v b said) e)
+  ours-to-ours v s said a f = ours-meets-3 (talkMade c key i v b said) (ours-keeps v s said a f)

@@ -1,0 +1,207 @@
+-- Where a receiver stands after p slots of a session, and what each operation does there. Assumes nothing.
+use mathlib.Core.Path.{_≡_, refl, sym, ap, _∙_}
+use mathlib.Core.Bool.{Bool, true, false, _&&_, _||_, not, or-true}
+use mathlib.Core.List.{List}
+use Prim.Native.Nat.{ℕ, _+_, _*_, _≤_, _<_}
+use native.Mathlib.Omega.{arith}
+use lib.Dec.{leb}
+use lib.ListN.{length}
+use borrow.Author.Tests.{eq-eqb, eqb-true, le-ltb, lt-ltb, ltb-true, leb-true}
+use Rattle.ciphers.proofs.KeystreamLaws.{stream-rest}
+use Rattle.octets.proofs.ListLaws.{zeros-are}
+use Rattle.ciphers.proofs.Cases.{by-range}
+use Rattle.octets.specs.Tests.{pick}
+use Rattle.octets.specs.Lists.{allZero}
+use Rattle.octets.proofs.TestLaws.{and-left, and-right}
+use Rattle.answers.specs.declared.Answer.{Answer}
+use Rattle.answers.specs.declared.Answer.the-variants.{Done, Held}
+use Rattle.ciphers.specs.Numbers.{keyOctets, sessionSlots}
+use Rattle.ciphers.specs.Keystream.{stream}
+use Rattle.keyentry.specs.Entry.{cipherIn, readyPlace, readyIn, named}
+use Rattle.keyentry.proofs.RightLaws.{used-of, free-zero, for-name}
+use Rattle.keybook.specs.Book.{entries, findEntry}
+use Rattle.keybook.specs.Operations.{entryFor}
+use Rattle.keybook.proofs.GoodLaws.{good-sized, good-entry, found-for}
+use Rattle.voice.specs.declared.call.Call.{Call}
+use Rattle.voice.specs.Frame.{ofSlot, protect}
+use Rattle.voice.specs.Ladder.{noVector, scrambles, keyFor, keyRefusals, zeroFor, vectorRefusals}
+use Rattle.voice.specs.Call.{keyRight, vectorRight, noCall, Standing, closed, receiving, standing, written}
+use Rattle.voice.specs.Opening.{superframeSlots, sessionVector, joinRefusals, openRefusals, openOf, joined, joinOf}
+use Rattle.voice.specs.Slot.{received, lostRefusals, lostOf, voiceOf}
+use Rattle.voice.specs.Vector.{announceRefusals, announceOf}
+use Rattle.voice.proofs.FrameLaws.{protect-same, protect-twice}
+use Rattle.voice.proofs.GoodLaws.{closed-good, good-open, read-written, no-vector-zero, fresh-right}
+use Rattle.voice.proofs.OpeningGood.{key-right}
+use Rattle.voice.proofs.SlotSteps.{voice-heard, voice-held}
+use Rattle.demands.specs.History.{Slot, SlotKept, VectorKept, HasKey}
+use Rattle.demands.specs.Log.{counts, started}
+use Rattle.demands.specs.Demand3.{ours}
+use Rattle.demands.proofs.AirLaws.{air-protected}
+
+-- ---- a book that has the key
+
+module _ (b : List ℕ) (c i : ℕ) (key : List ℕ) (h : HasKey b c i key) where
+  abbrev e : List ℕ
+  e = entryFor b c i
+
+  below : findEntry b c i < entries
+  below = ltb-true _ _ (h .there)
+
+  used : cipherIn e ≡ 0 → ⊥
+  used z =
+      let free : readyIn e ≡ 0 = free-zero e z (good-entry b (h .good) (findEntry b c i) below) readyPlace in
+      let ready : readyIn e ≡ 1 = eqb-true (readyIn e) 1 (h .ready) in
+      omega arith
+
+  pub key-named : named c i ≡ true
+  key-named =
+      let f = for-name e c i (found-for b c i below) in
+      rw (f .0, f .1) at (used-of e used (good-entry b (h .good) (findEntry b c i) below) .name)
+
+  pub key-ranged : (1 ≤ c) × (c ≤ 3)
+  unfolding named
+  key-ranged = (leb-true 1 c (and-left (leb 1 c) _ key-named), leb-true c 3 (and-left (leb c 3) _ (and-right (leb 1 c) _ key-named)))
+
+  pub has-key-right : keyRight c (keyFor b c i) ≡ true
+  has-key-right = key-right b c i (h .good) key-named (h .there) (h .ready)
+
+-- ---- the sessions of a cipher
+
+pub slots-some : (c : ℕ) → (1 ≤ c) × (c ≤ 3) → superframeSlots ≤ sessionSlots c
+slots-some = by-range (λ n. superframeSlots ≤ sessionSlots n) (omega arith) (omega arith) (omega arith)
+
+pub closed-read : standing noCall ≡ closed
+closed-read = read-written closed refl closed-good
+
+-- a vector that keeps the rules is the session's own
+pub session-is : (c : ℕ) (v : List ℕ) → VectorKept c v → sessionVector c v ≡ v
+session-is c v k = go (scrambles c) refl
+  where
+    go : (t : Bool) → scrambles c ≡ t → pick t noVector v ≡ v
+    go true e = sym (zeros-are v 8 (k .long) (k .zeros ∙ e))
+    go false e = refl
+
+pub not-zero-for : (c : ℕ) (v : List ℕ) → VectorKept c v → zeroFor c v ≡ false
+unfolding zeroFor
+not-zero-for c v k = rw (k .zeros) (go (scrambles c))
+  where
+    go : (t : Bool) → (not t && t) ≡ false
+    go true = refl
+    go false = refl
+
+-- joining stands where a receiver is after a superframe: scramble's session is over
+joined-at : (k v : List ℕ) (c : ℕ) → (1 ≤ c) × (c ≤ 3) → joined c k ≡ received c k superframeSlots (counts c false) (pick (counts c false) v noVector)
+unfolding received
+joined-at k v = by-range (λ c. joined c k ≡ received c k superframeSlots (counts c false) (pick (counts c false) v noVector)) refl refl refl
+
+-- ---- where the receiver stands
+
+module _ (b : List ℕ) (c i : ℕ) (key : List ℕ) (h : HasKey b c i key) where
+  abbrev k : List ℕ
+  k = keyFor b c i
+
+  -- after p slots of a session with vector v, known or not; after the last it is in the next one
+  abbrev pub place : Bool → List ℕ → ℕ → Call
+  place known v p = written (received c k p known (pick known v noVector))
+
+  -- at the start of a session of which it was told nothing
+  abbrev pub fresh : Call
+  fresh = written (receiving c k 0 (scrambles c) noVector)
+
+  pub place-in : (known : Bool) (v : List ℕ) (p : ℕ) → p < sessionSlots c → place known v p ≡ written (receiving c k p known (pick known v noVector))
+  unfolding received
+  place-in known v p l = rw (lt-ltb _ _ l)
+
+  pub place-end : (known : Bool) (v : List ℕ) (p : ℕ) → p ≡ sessionSlots c → place known v p ≡ fresh
+  unfolding received
+  place-end known v p l = rw (le-ltb p (sessionSlots c) (omega arith))
+
+  right-vector : (told : Bool) (v : List ℕ) → VectorKept c v
+      → vectorRight 2 c (counts c told) (allZero (pick (counts c told) v noVector)) ≡ true
+  unfolding vectorRight
+  right-vector told v kept = go (scrambles c) refl told
+    where
+      go : (t : Bool) → scrambles c ≡ t → (told : Bool)
+          → pick t ((t || told) && allZero (pick (t || told) v noVector)) ((t || told) || allZero (pick (t || told) v noVector)) ≡ true
+      go true e told = kept .zeros ∙ e
+      go false e true = refl
+      go false e false = no-vector-zero
+
+  pub place-read : (told : Bool) (v : List ℕ) → VectorKept c v → (p : ℕ) → p < sessionSlots c
+      → standing (place (counts c told) v p) ≡ receiving c k p (counts c told) (pick (counts c told) v noVector)
+  place-read told v kept p l =
+      ap standing (place-in (counts c told) v p l)
+      ∙ read-written (receiving c k p (counts c told) (pick (counts c told) v noVector)) refl
+      (good-open 2 c k p (pick (counts c told) v noVector) (counts c told) (omega arith) (omega arith) (has-key-right b c i key h) l (right-vector told v kept))
+
+  -- ---- a slot
+
+  pub place-lost : (told : Bool) (v : List ℕ) → VectorKept c v → (p : ℕ) → p < sessionSlots c
+      → lostOf (place (counts c told) v p) ≡ (Done, place (counts c told) v (p + 1))
+  unfolding lostOf lostRefusals
+  place-lost told v kept p l = rw (place-read told v kept p l)
+
+  module _ (long : length key ≡ keyOctets c) where
+    pub same-stream : (v : List ℕ) (n : ℕ) → stream c k v n ≡ stream c key v n
+    same-stream v n = ap (λ (l : List ℕ). stream c l v n) (h .same) ∙ stream-rest c (key-ranged b c i key h) key v long n
+
+    pub place-heard : (told : Bool) (v : List ℕ) → VectorKept c v → counts c told ≡ true → (p : ℕ) → p < sessionSlots c → (x : Slot) → SlotKept (stream c key v) p x
+        → voiceOf (place (counts c told) v p) (x .mask) (x .sent) ≡ (Done, (place (counts c told) v (p + 1), x .spoken))
+    place-heard told v kept e p l x s =
+        voice-heard (place (counts c told) v p) (x .mask) (x .sent) (s .mask) (s .sent .long) c k p v
+        (place-read told v kept p l ∙ ap (λ (t : Bool). receiving c k p t (pick t v noVector)) e)
+        ∙ ap (λ (f : List ℕ). (Done, (place true v (p + 1), f))) opened
+        ∙ ap (λ (t : Bool). (Done, (place t v (p + 1), x .spoken))) (sym e)
+      where
+        opened : protect (ofSlot (stream c k v) p) (x .mask) (x .sent) ≡ x .spoken
+        opened =
+            protect-same (ofSlot (stream c k v) p) (ofSlot (stream c key v) p) (x .mask) (λ n r. same-stream v (196 * p + n)) (x .sent)
+            ∙ ap (protect (ofSlot (stream c key v) p) (x .mask)) (air-protected (stream c key v) p x s)
+            ∙ protect-twice (ofSlot (stream c key v) p) (x .mask) (x .spoken) (s .spoken)
+
+  pub place-held : (told : Bool) (v : List ℕ) → VectorKept c v → counts c told ≡ false → (p : ℕ) → p < sessionSlots c → (ks : ℕ → ℕ) (x : Slot) → SlotKept ks p x
+      → voiceOf (place (counts c told) v p) (x .mask) (x .sent) ≡ (Held, (place (counts c told) v (p + 1), x .sent))
+  place-held told v kept e p l ks x s =
+      voice-held (place (counts c told) v p) (x .mask) (x .sent) (s .mask) (s .sent .long) c k p noVector
+      (place-read told v kept p l ∙ ap (λ (t : Bool). receiving c k p t (pick t v noVector)) e)
+      ∙ ap (λ (t : Bool). (Held, (place t v (p + 1), x .sent))) (sym e)
+
+  -- ---- how it comes in, and what it is told
+
+  some : 0 < sessionSlots c
+  some = let l = slots-some c (key-ranged b c i key h) in omega arith
+
+  pub place-opened : (v : List ℕ) → VectorKept c v → openOf noCall c i v b ≡ (Done, place (counts c true) v 0)
+  unfolding openOf openRefusals vectorRefusals keyRefusals
+  place-opened v kept =
+      rw (closed-read, eq-eqb _ _ (kept .long), eq-eqb _ _ (good-sized b (h .good)), key-named b c i key h, h .good, h .there, h .ready, not-zero-for c v kept)
+      (ap (λ (w : List ℕ). (Done, written (receiving c k 0 true w))) (session-is c v kept)
+      ∙ ap (λ (d : Call). (Done, d)) (sym (place-in true v 0 some))
+      ∙ ap (λ (t : Bool). (Done, place t v 0)) (sym (or-true (scrambles c))))
+
+  pub place-joined : (v : List ℕ) → joinOf noCall c i b ≡ (Done, place (counts c false) v superframeSlots)
+  unfolding joinOf joinRefusals keyRefusals
+  place-joined v =
+      rw (closed-read, eq-eqb _ _ (good-sized b (h .good)), key-named b c i key h, h .good, h .there, h .ready)
+      (ap (λ (s : Standing). (Done, written s)) (joined-at k v c (key-ranged b c i key h)))
+
+  fresh-read : standing fresh ≡ receiving c k 0 (scrambles c) noVector
+  fresh-read =
+      read-written (receiving c k 0 (scrambles c) noVector) refl
+      (good-open 2 c k 0 noVector (scrambles c) (omega arith) (omega arith) (has-key-right b c i key h) some (fresh-right c))
+
+  announced : (v : List ℕ) → VectorKept c v → scrambles c ≡ false → announceOf fresh v ≡ (Done, written (receiving c k 0 true v))
+  unfolding announceOf announceRefusals
+  announced v kept e = rw (fresh-read, eq-eqb _ _ (kept .long), kept .zeros, e)
+
+  -- as a session starts: told of its vector, if the announcement arrived
+  pub place-started : (told : Bool) (v : List ℕ) → VectorKept c v → started ours (not (scrambles c) && told) v fresh ≡ place (counts c told) v 0
+  place-started told v kept = go (scrambles c) refl told
+    where
+      go : (t : Bool) → scrambles c ≡ t → (told : Bool) → started ours (not t && told) v fresh ≡ place (t || told) v 0
+      go true e told =
+          ap (λ (t : Bool). written (receiving c k 0 t noVector)) e
+          ∙ ap (λ (w : List ℕ). written (receiving c k 0 true w)) (sym (zeros-are v 8 (kept .long) (kept .zeros ∙ e)))
+          ∙ sym (place-in true v 0 some)
+      go false e true = ap (λ (o : Answer × Call). o .1) (announced v kept e) ∙ sym (place-in true v 0 some)
+      go false e false = ap (λ (t : Bool). written (receiving c k 0 t noVector)) e ∙ sym (place-in false v 0 some)

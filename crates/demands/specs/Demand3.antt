@@ -1,0 +1,38 @@
+-- Demand 3, of any receiver; and our receiver, by the definitions that the operations' contracts cite.
+use mathlib.Core.Path.{_≡_}
+use mathlib.Core.List.{List}
+use mathlib.Core.Bool.{true, false}
+use Prim.Native.Nat.{ℕ, _<_}
+use Rattle.answers.specs.Numbers.{numberOf}
+use Rattle.voice.specs.declared.call.Call.{Call}
+use Rattle.voice.specs.Frame.{word, has}
+use Rattle.voice.specs.Call.{noCall}
+use Rattle.voice.specs.Opening.{openOf, joinOf}
+use Rattle.voice.specs.Slot.{lostOf, voiceOf}
+use Rattle.voice.specs.Vector.{announceOf}
+use Rattle.demands.specs.History.{Talk, Entry, Each, Kept, HasKey}
+use Rattle.demands.specs.Log.{Receiver, Report, talkLog}
+
+pub record Right (r : Report) : Type 0 where
+  -- every word handed out as opened is the word the sender spoke, whole
+  pub opened : numberOf (r .answer) ≡ 0 → (w : ℕ) → w < 4 → has (r .mask) w ≡ true → word w (r .frame) ≡ word w (r .spoken)
+  -- each word that arrives in a session whose vector reached the receiver is handed out
+  pub handed : r .reached ≡ true → numberOf (r .answer) ≡ 0
+  -- each word that arrives in another session is held as it came
+  pub held : r .reached ≡ false → (numberOf (r .answer) ≡ 1) × (r .frame ≡ r .came)
+
+-- one call of a sender that keeps the rules, a receiver with the same key, and either way in
+abbrev pub Meets3 : Receiver → Type 0
+Meets3 R = (t : Talk) → Kept t → (b : List ℕ) (i : ℕ) → HasKey b (t .cipher) i (t .key) → (e : Entry) → Each Right (talkLog R b i t e)
+
+abbrev pub ours : Receiver
+ours =
+    record {
+      State = Call;
+      idle = noCall;
+      hear = λ c i v b s. openOf s c i v b;
+      join = λ c i b s. joinOf s c i b;
+      voice = λ mask frame s. voiceOf s mask frame;
+      lost = lostOf;
+      announce = λ v s. announceOf s v;
+    }

@@ -1,0 +1,95 @@
+-- Demand 3, what was said: one call of a sender that keeps the rules, and what the channel let through.
+use mathlib.Core.Path.{_≡_}
+use mathlib.Core.List.{List, [], _∷_, _++_}
+use mathlib.Core.Bool.{Bool, true, false}
+use Prim.Native.Nat.{ℕ, suc, _+_, _-_, _*_, _≤_, _<_}
+use lib.ListN.{length, replicate}
+use Rattle.octets.specs.Bits.{bit, flip}
+use Rattle.octets.specs.Lists.{allZero}
+use Rattle.ciphers.specs.Numbers.{keyOctets, sessionSlots}
+use Rattle.ciphers.specs.Keystream.{stream}
+use Rattle.keyentry.specs.Entry.{keyRoom, isReady}
+use Rattle.keybook.specs.Book.{goodBook}
+use Rattle.keybook.specs.Operations as book
+use Rattle.voice.specs.Frame.{IsFrame, has}
+use Rattle.voice.specs.Ladder.{vectorOctets, scrambles, keyFor}
+
+-- a slot: its mask, the frame of four words that the sender spoke, the frame that it put on the air, and whether that arrived
+pub record Slot : Type 0 where
+  pub mask : ℕ
+  pub spoken : List ℕ
+  pub sent : List ℕ
+  pub arrived : Bool
+
+-- a session: its vector, whether the announcement of that vector arrived, and its slots
+pub record Session : Type 0 where
+  pub vector : List ℕ
+  pub announced : Bool
+  pub slots : List Slot
+
+-- one call of a sender: cipher type, the key's octets, and the sessions
+pub record Talk : Type 0 where
+  pub cipher : ℕ
+  pub key : List ℕ
+  pub sessions : List Session
+
+-- how the receiver comes in: it hears the opening, or joins at the end of the first superframe of session n, counted from 0
+pub data Entry : Type 0 where
+  opening : Entry
+  joining : ℕ → Entry
+
+-- ---- the sender keeps the rules
+
+-- what goes on the air in slot p of a session with keystream ks
+pub record OnAir (ks : ℕ → ℕ) (p : ℕ) (x : Slot) : Type 0 where
+  -- bit j of word w, where it is speech and the mask has the word: the spoken bit xor stream bit 196 p + 49 w + j
+  pub speech : (w j : ℕ) → w < 4 → j < 49 → has (x .mask) w ≡ true
+      → bit (x .sent) (56 * w + j) ≡ flip (bit (x .spoken) (56 * w + j)) (ks (196 * p + 49 * w + j))
+  -- everything else as spoken: the last seven bits of each word, and the words that the mask doesn't have
+  pub spare : (w j : ℕ) → w < 4 → 49 ≤ j → j < 56 → bit (x .sent) (56 * w + j) ≡ bit (x .spoken) (56 * w + j)
+  pub other : (w j : ℕ) → w < 4 → j < 56 → has (x .mask) w ≡ false → bit (x .sent) (56 * w + j) ≡ bit (x .spoken) (56 * w + j)
+
+pub record SlotKept (ks : ℕ → ℕ) (p : ℕ) (x : Slot) : Type 0 where
+  pub mask : x .mask ≤ 15
+  pub spoken : IsFrame (x .spoken)
+  pub sent : IsFrame (x .sent)
+  pub air : OnAir ks p x
+
+-- the slots of a session from slot p on
+abbrev pub SlotsKept : (ℕ → ℕ) → ℕ → List Slot → Type 0
+SlotsKept ks p [] = Unit {0}
+SlotsKept ks p (x ∷ xs) = SlotKept ks p x × SlotsKept ks (suc p) xs
+
+-- eight octets: a scramble session has no vector, which is kept as zeros; any other's is not all zero
+pub record VectorKept (c : ℕ) (v : List ℕ) : Type 0 where
+  pub long : length v ≡ vectorOctets
+  pub zeros : allZero v ≡ scrambles c
+
+pub record SessionKept (c : ℕ) (key : List ℕ) (x : Session) : Type 0 where
+  pub vector : VectorKept c (x .vector)
+  pub slots : SlotsKept (stream c key (x .vector)) 0 (x .slots)
+
+-- what holds of each element of a list
+abbrev pub Each : {A : Type 0} → (A → Type 0) → List A → Type 0
+Each P [] = Unit {0}
+Each P (x ∷ xs) = P x × Each P xs
+
+-- every session has all its slots; the last may have fewer
+abbrev pub Full : ℕ → List Session → Type 0
+Full c [] = Unit {0}
+Full c (x ∷ []) = length (x .slots) ≤ sessionSlots c
+Full c (x ∷ y ∷ ys) = (length (x .slots) ≡ sessionSlots c) × Full c (y ∷ ys)
+
+pub record Kept (t : Talk) : Type 0 where
+  pub key : length (t .key) ≡ keyOctets (t .cipher)
+  pub each : Each (SessionKept (t .cipher) (t .key)) (t .sessions)
+  pub full : Full (t .cipher) (t .sessions)
+
+-- ---- a receiver with the same key
+
+-- a good book whose ready entry for a cipher and a key ID holds this key, with zeros behind it
+pub record HasKey (b : List ℕ) (c i : ℕ) (key : List ℕ) : Type 0 where
+  pub good : goodBook b ≡ true
+  pub there : book.has b c i ≡ true
+  pub ready : isReady (book.entryFor b c i) ≡ true
+  pub same : keyFor b c i ≡ key ++ replicate (keyRoom - keyOctets c) 0

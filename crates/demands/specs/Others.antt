@@ -1,0 +1,107 @@
+-- Receivers that demand 3 throws out, and senders that do not keep its rules.
+use mathlib.Core.List.{List}
+use Prim.Native.Nat.{ℕ, suc}
+use lib.Dec.{ltb}
+use Rattle.octets.specs.Tests.{pick}
+use Rattle.answers.specs.declared.Answer.{Answer}
+use Rattle.answers.specs.declared.Answer.the-variants.{Done, Held}
+use Rattle.ciphers.specs.Numbers.{sessionSlots}
+use Rattle.voice.specs.declared.call.Call.{Call}
+use Rattle.voice.specs.Frame.{ofSlot, protect}
+use Rattle.voice.specs.Call.{noCall}
+use Rattle.voice.specs.Opening.{openOf}
+use Rattle.voice.specs.Slot.{lostOf, voiceOf}
+use Rattle.voice.specs.Vector.{announceOf}
+use Rattle.demands.specs.Log.{Receiver}
+
+-- ---- receivers that keep nothing: one answer to every voice slot, and one way with its frame
+
+abbrev pub always : Answer → Answer → (List ℕ → List ℕ) → Receiver
+always other answer f =
+    record {
+      State = Unit {0};
+      idle = tt;
+      hear = λ c i v b s. (other, tt);
+      join = λ c i b s. (other, tt);
+      voice = λ mask frame s. (answer, (tt, f frame));
+      lost = λ s. (other, tt);
+      announce = λ v s. (other, tt);
+    }
+
+abbrev pub asItCame : List ℕ → List ℕ
+asItCame frame = frame
+
+-- it refuses all, by this answer
+abbrev pub refusesAll : Answer → Receiver
+refusesAll a = always a a asItCame
+
+abbrev pub holdsAll : Receiver
+holdsAll = always Done Held asItCame
+
+-- it answers 0 with this frame
+abbrev pub fixed : List ℕ → Receiver
+fixed g = always Done Done (λ frame. g)
+
+-- it answers 0 and leaves speech as it came
+abbrev pub leavesAll : Receiver
+leavesAll = always Done Done asItCame
+
+-- ---- a receiver that is any other for its first slots, and then only moves its position
+
+-- R for the first slots of a call, as many as `first` says for the cipher; then it answers a, leaves the frame as it came and moves on
+abbrev pub upTo : (ℕ → ℕ) → Answer → Receiver → Receiver
+upTo first a R =
+    record {
+      -- slots passed, slots to pass, and R's own
+      State = ℕ × ℕ × R .State;
+      idle = (0, 0, R .idle);
+      hear = λ c i v b s. (R .hear c i v b (s .2) .0, (0, first c, R .hear c i v b (s .2) .1));
+      join = λ c i b s. (R .join c i b (s .2) .0, (0, first c, R .join c i b (s .2) .1));
+      voice =
+          λ mask frame s.
+          let r = R .voice mask frame (s .2) in
+          pick (ltb (s .0) (s .1)) (r .0, ((suc (s .0), s .1, r .1 .0), r .1 .1)) (a, ((suc (s .0), s .1, R .lost (s .2) .1), frame));
+      lost = λ s. (R .lost (s .2) .0, (suc (s .0), s .1, R .lost (s .2) .1));
+      announce = λ v s. (R .announce v (s .2) .0, (s .0, s .1, R .announce v (s .2) .1));
+    }
+
+-- the first n slots
+abbrev pub upToSlots : ℕ → Answer → Receiver → Receiver
+upToSlots n = upTo (λ c. n)
+
+-- the first session
+abbrev pub upToSession : Answer → Receiver → Receiver
+upToSession = upTo sessionSlots
+
+-- ---- version three: joining, it applies the announced vector w to the session in which it was sent, which is at its fifth slot
+
+abbrev pub fourOn : Call → Call
+fourOn s = lostOf (lostOf (lostOf (lostOf s .1) .1) .1) .1
+
+abbrev pub atOnce : List ℕ → Receiver
+atOnce w =
+    record {
+      State = Call;
+      idle = noCall;
+      hear = λ c i v b s. openOf s c i v b;
+      join = λ c i b s. (openOf s c i w b .0, fourOn (openOf s c i w b .1));
+      voice = λ mask frame s. voiceOf s mask frame;
+      lost = lostOf;
+      announce = λ v s. announceOf s v;
+    }
+
+-- ---- senders: what goes on the air, of a session's keystream, the slot, the mask and the spoken frame
+
+abbrev pub Sending : Type 0
+Sending = (ℕ → ℕ) → ℕ → ℕ → List ℕ → List ℕ
+
+-- the standard's
+abbrev pub turning : Sending
+turning ks p mask frame = protect (ofSlot ks p) mask frame
+
+abbrev pub identity : Sending
+identity ks p mask frame = frame
+
+-- the keystream begins anew in each slot
+abbrev pub restarting : Sending
+restarting ks p mask frame = protect (ofSlot ks 0) mask frame

@@ -1,0 +1,61 @@
+-- The call that our sender makes of what is said: what its operations write goes on the air, and each session's vector is the one it stands with.
+use mathlib.Core.Path.{_≡_}
+use mathlib.Core.List.{List, [], _∷_}
+use mathlib.Core.Bool.{Bool, false}
+use Prim.Native.Nat.{ℕ, _≤_}
+use lib.ListN.{length}
+use Rattle.octets.specs.Bits.{Octets}
+use Rattle.octets.specs.Lists.{allZero}
+use Rattle.voice.specs.declared.call.Call.{Call}
+use Rattle.voice.specs.Frame.{IsFrame}
+use Rattle.voice.specs.Ladder.{vectorOctets, scrambles}
+use Rattle.voice.specs.Call.{noCall}
+use Rattle.voice.specs.Opening.{startOf}
+use Rattle.voice.specs.Slot.{voiceOf}
+use Rattle.demands.specs.History.{Slot, Session, Talk, Each}
+
+-- what is said in a slot, and whether the slot will arrive
+pub record Said : Type 0 where
+  pub mask : ℕ
+  pub spoken : List ℕ
+  pub arrives : Bool
+
+-- what is said in a session, and whether the announcement of its vector will arrive
+pub record Saying : Type 0 where
+  pub announced : Bool
+  pub slots : List Said
+
+-- the slots that a sender makes from where it stands, and where it stands afterwards
+abbrev pub slotsMade : Call → List Said → List Slot
+slotsMade s [] = []
+slotsMade s (x ∷ xs) =
+    let out = voiceOf s (x .mask) (x .spoken) in
+    record { mask = x .mask; spoken = x .spoken; sent = out .1 .1; arrived = x .arrives } ∷ slotsMade (out .1 .0) xs
+
+abbrev pub afterwards : Call → List Said → Call
+afterwards s [] = s
+afterwards s (x ∷ xs) = afterwards (voiceOf s (x .mask) (x .spoken) .1 .0) xs
+
+abbrev pub sessionsMade : Call → List Saying → List Session
+sessionsMade s [] = []
+sessionsMade s (x ∷ xs) =
+    record { vector = s .vector; announced = x .announced; slots = slotsMade s (x .slots) } ∷ sessionsMade (afterwards s (x .slots)) xs
+
+-- a call from its start on: cipher, key, key ID, vector, book
+abbrev pub talkMade : ℕ → List ℕ → ℕ → List ℕ → List ℕ → List Saying → Talk
+talkMade c key i v b said = record { cipher = c; key = key; sessions = sessionsMade (startOf noCall c i v b .1) said }
+
+-- ---- what is asked of those who speak
+
+pub record SaidKept (x : Said) : Type 0 where
+  pub mask : x .mask ≤ 15
+  pub frame : IsFrame (x .spoken)
+
+-- a vector to start with: eight octets, for DES and AES not all zero
+pub record Starts (c : ℕ) (v : List ℕ) : Type 0 where
+  pub long : length v ≡ vectorOctets
+  pub octets : Octets v
+  pub some : scrambles c ≡ false → allZero v ≡ false
+
+abbrev pub AllSaid : List Saying → Type 0
+AllSaid = Each (λ x. Each SaidKept (x .slots))

@@ -1,0 +1,13 @@
+pub mod FrameLaws
+pub mod WordLaws
+pub mod LadderLaws
+pub mod CallLaws
+pub mod OpeningLaws
+pub mod SlotLaws
+pub mod VectorLaws
+pub mod GoodLaws
+pub mod OpeningGood
+pub mod SlotSteps
+pub mod Settled
+pub mod VoiceBits
+pub mod Examples

@@ -1,0 +1,101 @@
+-- Each operation's statement settles its outcome: any two outcomes that meet it are equal. And a refusal, any answer but 0 and 1, changes
+-- nothing. Assumes nothing.
+use mathlib.Core.Path.{_≡_, refl, ap}
+use mathlib.Core.Bool.{true, false}
+use mathlib.Core.List.{List}
+use Prim.Native.Nat.{ℕ, _≤_, _<_}
+use native.Mathlib.Omega.{arith}
+use Rattle.answers.specs.declared.Answer.{Answer}
+use Rattle.answers.specs.declared.Answer.the-variants.{Done}
+use Rattle.answers.specs.Numbers.{numberOf}
+use Rattle.answers.specs.Outcomes.{Refusals, settled}
+use Rattle.answers.proofs.OutcomeLaws.{by-refusals, one-outcome}
+use Rattle.voice.specs.declared.call.Call.{Call}
+use Rattle.voice.specs.Ladder.{keyFor}
+use Rattle.voice.specs.Call.{Standing, closed, bad, sending, receiving, standing, written, endRefusals, endOf}
+use Rattle.voice.specs.Opening.{sessionVector, joinRefusals, openRefusals, openOf, startOf, joined, joinOf}
+use Rattle.voice.specs.Slot.{slotOn, lostRefusals, lostOf, voiceRefusals, voiceAfter, voiceOf}
+use Rattle.voice.specs.Vector.{told, announceRefusals, announceOf, following, nextRefusals, nextVectorOf}
+
+-- ---- any two outcomes are equal
+
+module _ (a b : Answer) (x y : Call) (c : Call) where
+  pub one-end : (a, x) ≡ endOf c → (b, y) ≡ endOf c → (a ≡ b) × (x ≡ y)
+  one-end = one-outcome a b x y
+
+  pub one-lost : (a, x) ≡ lostOf c → (b, y) ≡ lostOf c → (a ≡ b) × (x ≡ y)
+  one-lost = one-outcome a b x y
+
+  pub one-announce : (w : List ℕ) → (a, x) ≡ announceOf c w → (b, y) ≡ announceOf c w → (a ≡ b) × (x ≡ y)
+  one-announce w = one-outcome a b x y
+
+  module _ (n i : ℕ) (book : List ℕ) where
+    pub one-join : (a, x) ≡ joinOf c n i book → (b, y) ≡ joinOf c n i book → (a ≡ b) × (x ≡ y)
+    one-join = one-outcome a b x y
+
+    pub one-open : (w : List ℕ) → (a, x) ≡ openOf c n i w book → (b, y) ≡ openOf c n i w book → (a ≡ b) × (x ≡ y)
+    one-open w = one-outcome a b x y
+
+    pub one-start : (w : List ℕ) → (a, x) ≡ startOf c n i w book → (b, y) ≡ startOf c n i w book → (a ≡ b) × (x ≡ y)
+    one-start w = one-outcome a b x y
+
+  pub one-voice : (mask : ℕ) (frame f g : List ℕ) → (a, (x, f)) ≡ voiceOf c mask frame → (b, (y, g)) ≡ voiceOf c mask frame → (a ≡ b) × (x ≡ y) × (f ≡ g)
+  one-voice mask frame f g p q =
+      let o = one-outcome a b (x, f) (y, g) p q in
+      (o .0, ap (λ (r : Call × List ℕ). r .0) (o .1), ap (λ (r : Call × List ℕ). r .1) (o .1))
+
+pub one-next : (a b : Answer) (f g : List ℕ) (c : Call) (out : List ℕ) → (a, f) ≡ nextVectorOf c out → (b, g) ≡ nextVectorOf c out → (a ≡ b) × (f ≡ g)
+one-next a b f g c out = one-outcome a b f g
+
+-- ---- a refusal changes nothing
+
+-- 2 and up
+abbrev pub Refusal : Answer → Type 0
+Refusal a = 2 ≤ numberOf a
+
+keeps : {S : Type 0} (before : S) (rs : Refusals) (last : Answer × S) → numberOf (last .0) < 2
+    → Refusal (settled before rs last .0) → settled before rs last .1 ≡ before
+keeps before rs last l = by-refusals (λ o. Refusal (o .0) → o .1 ≡ before) before rs last (λ a m h. refl) (λ n h. absurd (omega arith))
+
+module _ (c : Call) where
+  pub end-keeps : Refusal (endOf c .0) → endOf c .1 ≡ c
+  unfolding endOf
+  end-keeps = keeps c (endRefusals (standing c)) (Done, written closed) (omega arith)
+
+  pub lost-keeps : Refusal (lostOf c .0) → lostOf c .1 ≡ c
+  unfolding lostOf
+  lost-keeps = keeps c (lostRefusals (standing c)) (Done, written (slotOn (standing c))) (omega arith)
+
+  pub announce-keeps : (w : List ℕ) → Refusal (announceOf c w .0) → announceOf c w .1 ≡ c
+  unfolding announceOf
+  announce-keeps w = keeps c (announceRefusals (standing c) w) (Done, written (told w (standing c))) (omega arith)
+
+  pub next-keeps : (out : List ℕ) → Refusal (nextVectorOf c out .0) → nextVectorOf c out .1 ≡ out
+  unfolding nextVectorOf
+  next-keeps out = keeps out (nextRefusals (standing c) out) (Done, following (standing c)) (omega arith)
+
+  voice-done-or-held : (mask : ℕ) (frame : List ℕ) (s : Standing) → numberOf (voiceAfter mask frame s .0) < 2
+  voice-done-or-held mask frame closed = omega arith
+  voice-done-or-held mask frame bad = omega arith
+  voice-done-or-held mask frame (sending n k p v) = omega arith
+  voice-done-or-held mask frame (receiving n k p true v) = omega arith
+  voice-done-or-held mask frame (receiving n k p false v) = omega arith
+
+  pub voice-keeps : (mask : ℕ) (frame : List ℕ) → Refusal (voiceOf c mask frame .0) → voiceOf c mask frame .1 ≡ (c, frame)
+  unfolding voiceOf
+  voice-keeps mask frame =
+      keeps (c, frame) (voiceRefusals (standing c) mask frame) (voiceAfter mask frame (standing c)) (voice-done-or-held mask frame (standing c))
+
+  module _ (n i : ℕ) (book : List ℕ) where
+    pub join-keeps : Refusal (joinOf c n i book .0) → joinOf c n i book .1 ≡ c
+    unfolding joinOf
+    join-keeps = keeps c (joinRefusals (standing c) n i book) (Done, written (joined n (keyFor book n i))) (omega arith)
+
+    pub open-keeps : (w : List ℕ) → Refusal (openOf c n i w book .0) → openOf c n i w book .1 ≡ c
+    unfolding openOf
+    open-keeps w =
+        keeps c (openRefusals (standing c) n i w book) (Done, written (receiving n (keyFor book n i) 0 true (sessionVector n w))) (omega arith)
+
+    pub start-keeps : (w : List ℕ) → Refusal (startOf c n i w book .0) → startOf c n i w book .1 ≡ c
+    unfolding startOf
+    start-keeps w = keeps c (openRefusals (standing c) n i w book) (Done, written (sending n (keyFor book n i) 0 (sessionVector n w))) (omega arith)

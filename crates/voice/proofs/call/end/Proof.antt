@@ -1,0 +1,18 @@
+-- `voice::call::end` meets its contract. Assumes nothing.
+use Rattle.octets.proofs.TestLaws.{fails, holds}
+use Rattle.voice.specs.Call.{endRefusals}
+use Rattle.voice.proofs.CallLaws.{is-bad, not-bad, stands-none, stands-some, end-refused, end-done}
+use borrow.Author.Needs.{needs}
+use Rattle.voice.proofs.call.end.Statement.{statement}
+use Rattle.voice.proofs.call.end.Tie as tie
+
+pub end-spec : {M : Type 1} → statement M
+unfolding endRefusals
+end-spec =
+    tie.close
+    (tie.spec
+    (λ c κs. search needs)
+    (λ c. end-refused _ 0 (is-bad _ (fails (c .before .good-call .ensures) (c .if1 .taken))))
+    (λ c. let good = holds (c .before .before .before .good-call .ensures) (c .before .before .if1 .left) in end-refused _ 1 (not-bad _ good, stands-none _ good (c .if2 .taken)))
+    (λ c κs. search needs)
+    (λ c. let good = holds (c .before .before .before .before .good-call .ensures) (c .before .before .before .if1 .left) in rw (c .no-call .ensures) (end-done _ (not-bad _ good, (stands-some _ good (c .before .if2 .left), tt)))))

@@ -1,0 +1,17 @@
+-- `voice::call::vector_right` meets its contract. Assumes nothing.
+use borrow.Author.Tests.{eq-eqb, ne-eqb}
+use Rattle.voice.specs.Call.{vectorRight}
+use Rattle.voice.proofs.call.vector_right.Statement.{statement}
+use Rattle.voice.proofs.call.vector_right.Tie as tie
+
+pub vector-right-spec : {M : Type 1} → statement M
+unfolding vectorRight
+vector-right-spec =
+    tie.close
+    (tie.spec
+    (λ c. simp (eq-eqb _ _ (c .before .if1 .taken), c .if2 .taken))
+    (λ c. simp (eq-eqb _ _ (c .before .if1 .taken), c .if2 .left))
+    (λ c. simp (ne-eqb _ _ (c .before .before .if1 .left), eq-eqb _ _ (c .before .if3 .taken), c .if4 .taken))
+    (λ c. simp (ne-eqb _ _ (c .before .before .if1 .left), eq-eqb _ _ (c .before .if3 .taken), c .if4 .left))
+    (λ c. simp (ne-eqb _ _ (c .before .before .if1 .left), ne-eqb _ _ (c .before .if3 .left), c .if5 .taken))
+    (λ c. simp (ne-eqb _ _ (c .before .before .if1 .left), ne-eqb _ _ (c .before .if3 .left), c .if5 .left)))

@@ -1,0 +1,17 @@
+-- `voice::opening::join` meets its contract. Assumes nothing.
+use Rattle.voice.proofs.LadderLaws.{is-done, not-done}
+use Rattle.voice.proofs.OpeningLaws.{join-refused, join-done}
+use borrow.Author.Needs.{needs}
+use Rattle.voice.proofs.opening.join.Statement.{statement}
+use Rattle.voice.proofs.opening.join.Tie as tie
+
+pub join-spec : {M : Type 1} → statement M
+join-spec =
+    tie.close
+    (tie.spec
+    (λ c κs. search needs)
+    (λ c κs. search needs)
+    (λ c κs. search needs)
+    (λ c. join-refused _ _ (c .before .before .before .before .good-call .ensures) _ _ _ _ _ (c .before .before .opening-key .ensures) (not-done (c .before .before .opening-key .result .answer) (c .before .number .ensures) (c .if1 .taken)))
+    (λ c κs. search needs)
+    (λ c. rw (c .joining .ensures) (join-done _ _ (c .before .before .before .before .before .before .good-call .ensures) _ _ _ _ _ (c .before .before .before .before .opening-key .ensures) (is-done (c .before .before .before .before .opening-key .result .answer) (c .before .before .before .number .ensures) (c .before .before .if1 .left)))))

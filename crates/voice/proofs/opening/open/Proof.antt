@@ -1,0 +1,13 @@
+-- `voice::opening::open` meets its contract. Assumes nothing.
+use Rattle.voice.specs.Opening.{begunOf, openOf}
+use borrow.Author.Needs.{needs}
+use Rattle.voice.proofs.opening.open.Statement.{statement}
+use Rattle.voice.proofs.opening.open.Tie as tie
+
+pub open-spec : {M : Type 1} → statement M
+unfolding begunOf openOf
+open-spec =
+    tie.close
+    (tie.spec
+    (λ c κs. search needs)
+    (λ c. c .begin .ensures))

@@ -1,0 +1,23 @@
+-- `voice::slot::turn_slot` meets its contract. Assumes nothing.
+use mathlib.Core.Path.{ap}
+use Prim.Native.Nat.{ℕ, _*_}
+use native.Mathlib.Omega.{arith}
+use Rattle.ciphers.proofs.NumberLaws.{slot-ranged}
+use Rattle.voice.specs.Frame.{slotBits}
+use Rattle.voice.proofs.SlotLaws.{by-slot}
+use borrow.Author.Needs.{needs}
+use Rattle.voice.proofs.slot.turn_slot.Statement.{statement}
+use Rattle.voice.proofs.slot.turn_slot.Tie as tie
+
+pub turn-slot-spec : {M : Type 1} → statement M
+turn-slot-spec =
+    tie.close
+    (tie.spec
+    (λ c κs. search needs)
+    (λ c. search needs)
+    (λ c. search needs)
+    (λ c κs. slot-ranged _ _ (c .before .before .before .pre .0))
+    (λ c. search needs)
+    (λ c κs. search needs)
+    (λ c. search needs)
+    (λ c. by-slot _ _ _ _ _ _ _ _ _ _ (omega arith) (ap (λ (n : ℕ). slotBits * n) (c .before .before .before .before .before .before .before .before .wide .ensures .0)) (c .before .before .before .before .before .before .keystream .ensures) (c .before .before .turn-frame .ensures)))

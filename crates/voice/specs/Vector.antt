@@ -1,0 +1,63 @@
+-- Vectors of a call (document 01, "Voice"): one announced to a receiver, and the next one of a sender.
+use mathlib.Core.List.{List, [], _∷_}
+use mathlib.Core.Bool.{Bool, true, false, _&&_, not}
+use Prim.Native.Nat.{ℕ}
+use lib.Dec.{eqb}
+use lib.ListN.{length}
+use Rattle.octets.specs.Lists.{allZero}
+use Rattle.answers.specs.declared.Answer.{Answer}
+use Rattle.answers.specs.declared.Answer.the-variants.{WrongLength, Bad, ZeroVector, NotNow, NextZero}
+use Rattle.answers.specs.Outcomes.{Refusals, outcome}
+use Rattle.generator.specs.Generator.{nextVector}
+use Rattle.voice.specs.declared.call.Call.{Call}
+use Rattle.voice.specs.Ladder.{vectorOctets, noVector, scrambles}
+use Rattle.voice.specs.Call.{Standing, closed, bad, sending, receiving, standing, written, isBad}
+
+-- ---- announce
+
+-- DES or AES at position 0 with the vector unknown
+abbrev pub awaits : Standing → Bool
+awaits closed = false
+awaits bad = false
+awaits (sending c k p v) = false
+awaits (receiving c k p known v) = not (scrambles c) && (eqb p 0 && not known)
+
+-- a receiver that has been told its vector
+abbrev pub told : List ℕ → Standing → Standing
+told w closed = closed
+told w bad = bad
+told w (sending c k p v) = sending c k p v
+told w (receiving c k p known v) = receiving c k p true w
+
+-- 2, 4, 9, 8
+unfoldable pub announceRefusals : Standing → List ℕ → Refusals
+announceRefusals s w =
+    (not (eqb (length w) vectorOctets), WrongLength) ∷ (isBad s, Bad) ∷ (not (awaits s), NotNow) ∷ (allZero w, ZeroVector) ∷ []
+
+unfoldable pub announceOf : Call → List ℕ → Answer × Call
+announceOf c w = outcome c (announceRefusals (standing c) w) (written (told w (standing c)))
+
+-- ---- next vector
+
+-- a sender that has a next vector: DES or AES
+abbrev pub generates : Standing → Bool
+generates closed = false
+generates bad = false
+generates (sending c k p v) = not (scrambles c)
+generates (receiving c k p known v) = false
+
+-- L(S) of the current session
+abbrev pub following : Standing → List ℕ
+following closed = noVector
+following bad = noVector
+following (sending c k p v) = nextVector v
+following (receiving c k p known v) = noVector
+
+-- 2, 4, 9 (no call, scramble, receiving), 14
+unfoldable pub nextRefusals : Standing → List ℕ → Refusals
+nextRefusals s out =
+    (not (eqb (length out) vectorOctets), WrongLength) ∷ (isBad s, Bad) ∷ (not (generates s), NotNow) ∷ (allZero (following s), NextZero) ∷ []
+
+-- the call stays as it is; of the lent octets
+unfoldable pub nextVectorOf : Call → List ℕ → Answer × List ℕ
+nextVectorOf c out = outcome out (nextRefusals (standing c) out) (following (standing c))

@@ -1,0 +1,76 @@
+// What an opening asks, in order, and the one way in which a ready key is taken out of the book: for a call, and as well for a packet.
+ghost use mathlib.Core.Path.{_≡_};
+ghost use Rattle.voice.specs.Ladder.{withoutKey, keyOf, zeroFor, vectorKeyOf};
+use answers::Answer;
+use ciphers::cipher::Scramble;
+use keybook::BOOK_OCTETS;
+use keybook::Ready;
+use keybook::ready_key;
+use keyentry::KEY_ROOM;
+use keyentry::is_named;
+use octets::all_zero;
+
+pub const VECTOR_OCTETS: usize = 8;
+
+fn refused(answer: Answer) -> Ready
+    ensures { λ r. ⌜ (r .answer, r .key) ≡ withoutKey answer ⌝ }
+{
+    Ready {
+        answer,
+        key: [0; KEY_ROOM],
+    }
+}
+
+// The ready key for what is to be opened: it is bad, or busy, by the caller's word.
+pub fn opening_key(bad: bool, busy: bool, cipher: u8, id: u8, book: &[u8]) -> Ready
+    ensures { λ r. ⌜ (r .answer, r .key) ≡ keyOf bad busy cipher id (now (book .entry)) ⌝ }
+{
+    if book.len() != BOOK_OCTETS {
+        return refused(Answer::WrongLength);
+    }
+    if !is_named(cipher, id) {
+        return refused(Answer::OutOfRange);
+    }
+    if bad {
+        return refused(Answer::Bad);
+    }
+    if busy {
+        return refused(Answer::NotNow);
+    }
+    ready_key(book, cipher, id)
+}
+
+// Whether a vector is refused because it is zero.
+fn is_zero_for(cipher: u8, vector: &[u8]) -> bool
+    ensures { λ r. ⌜ r ≡ zeroFor cipher (now (vector .entry)) ⌝ }
+{
+    if cipher == Scramble::TYPE {
+        return false;
+    }
+    all_zero(vector)
+}
+
+// The same, for an opening that is given a vector.
+pub fn opening_key_with(
+    bad: bool,
+    busy: bool,
+    cipher: u8,
+    id: u8,
+    vector: &[u8],
+    book: &[u8],
+) -> Ready
+    ensures { λ r. ⌜ (r .answer, r .key) ≡ vectorKeyOf bad busy cipher id (now (vector .entry)) (now (book .entry)) ⌝ }
+{
+    if vector.len() != VECTOR_OCTETS {
+        return refused(Answer::WrongLength);
+    }
+    let ready = opening_key(bad, busy, cipher, id, book);
+    let answer = ready.answer;
+    if answer.number() != 0 {
+        return ready;
+    }
+    if is_zero_for(cipher, vector) {
+        return refused(Answer::ZeroVector);
+    }
+    ready
+}

@@ -1,0 +1,115 @@
+// How a call begins: open, join and start. The call has its own copy of the key.
+ghost use mathlib.Core.Path.{_≡_};
+ghost use lib.ListN.{length};
+ghost use Rattle.voice.specs.Ladder.{vectorOctets};
+ghost use Rattle.voice.specs.Call.{written};
+ghost use Rattle.voice.specs.Opening.{sessionVector, joined, joinOf, begunOf, openOf, startOf};
+use crate::call::CLOSED;
+use crate::call::Call;
+use crate::call::RECEIVING;
+use crate::call::SENDING;
+use crate::call::Stepped;
+use crate::call::good_call;
+use crate::ladder::VECTOR_OCTETS;
+use crate::ladder::opening_key;
+use crate::ladder::opening_key_with;
+use answers::Answer;
+use ciphers::cipher::Scramble;
+use keyentry::KEY_ROOM;
+use octets::copy;
+
+const SUPERFRAME_SLOTS: u8 = 4;
+
+// A lent vector for a session: scramble ignores it.
+fn session_vector(cipher: u8, vector: &[u8]) -> [u8; VECTOR_OCTETS]
+    requires { ⌜ length (now vector) ≡ vectorOctets ⌝ }
+    ensures { λ r. ⌜ r ≡ sessionVector cipher (now (vector .entry)) ⌝ }
+{
+    if cipher == Scramble::TYPE {
+        return [0; VECTOR_OCTETS];
+    }
+    let mut own = [0; VECTOR_OCTETS];
+    copy(vector, &mut own);
+    own
+}
+
+// A call at one of its ends, at position 0 with its vector known.
+fn begin(end: u8, call: Call, cipher: u8, id: u8, vector: &[u8], book: &[u8]) -> Stepped
+    ensures { λ r. ⌜ (r .answer, r .call) ≡ begunOf end call cipher id (now (vector .entry)) (now (book .entry)) ⌝ }
+{
+    let ready = opening_key_with(
+        !good_call(call),
+        call.end != CLOSED,
+        cipher,
+        id,
+        vector,
+        book,
+    );
+    let answer = ready.answer;
+    if answer.number() != 0 {
+        return Stepped { answer, call };
+    }
+    let key = ready.key;
+    Stepped {
+        answer: Answer::Done,
+        call: Call {
+            end,
+            cipher,
+            key,
+            position: 0,
+            vector: session_vector(cipher, vector),
+            known: true,
+        },
+    }
+}
+
+pub fn open(call: Call, cipher: u8, id: u8, vector: &[u8], book: &[u8]) -> Stepped
+    ensures { λ r. ⌜ (r .answer, r .call) ≡ openOf call cipher id (now (vector .entry)) (now (book .entry)) ⌝ }
+{
+    begin(RECEIVING, call, cipher, id, vector, book)
+}
+
+pub fn start(call: Call, cipher: u8, id: u8, vector: &[u8], book: &[u8]) -> Stepped
+    ensures { λ r. ⌜ (r .answer, r .call) ≡ startOf call cipher id (now (vector .entry)) (now (book .entry)) ⌝ }
+{
+    begin(SENDING, call, cipher, id, vector, book)
+}
+
+// A receiver at the end of a first superframe.
+fn joining(cipher: u8, key: [u8; KEY_ROOM]) -> Call
+    ensures { λ r. ⌜ r ≡ written (joined cipher key) ⌝ }
+{
+    if cipher == Scramble::TYPE {
+        return Call {
+            end: RECEIVING,
+            cipher,
+            key,
+            position: 0,
+            vector: [0; VECTOR_OCTETS],
+            known: true,
+        };
+    }
+    Call {
+        end: RECEIVING,
+        cipher,
+        key,
+        position: SUPERFRAME_SLOTS,
+        vector: [0; VECTOR_OCTETS],
+        known: false,
+    }
+}
+
+pub fn join(call: Call, cipher: u8, id: u8, book: &[u8]) -> Stepped
+    ensures { λ r. ⌜ (r .answer, r .call) ≡ joinOf call cipher id (now (book .entry)) ⌝ }
+{
+    let ready = opening_key(!good_call(call), call.end != CLOSED, cipher, id, book);
+    let answer = ready.answer;
+    if answer.number() != 0 {
+        return Stepped { answer, call };
+    }
+    let key = ready.key;
+    Stepped {
+        answer: Answer::Done,
+        call: joining(cipher, key),
+    }
+}

@@ -1,0 +1,233 @@
+// A voice slot of a call, arrived or lost.
+ghost use mathlib.Core.Path.{_≡_};
+ghost use Prim.Native.Nat.{_+_, _≤_, _<_};
+ghost use lib.ListN.{length};
+ghost use mathlib.Core.Bool.{true};
+ghost use Rattle.ciphers.specs.Numbers.{sessionSlots};
+ghost use Rattle.voice.specs.Frame.{frameOctets};
+ghost use Rattle.voice.specs.Call.{sendingEnd, receivingEnd, goodCall, written};
+ghost use Rattle.voice.specs.Slot.{goingOn, received, sent, lostOf, topMask, zeroAfter, inSlot, voiceOf};
+use crate::call::CLOSED;
+use crate::call::Call;
+use crate::call::RECEIVING;
+use crate::call::SENDING;
+use crate::call::Stepped;
+use crate::call::good_call;
+use crate::frame::FRAME_OCTETS;
+use crate::frame::SLOT_BITS;
+use crate::frame::turn_frame;
+use crate::ladder::VECTOR_OCTETS;
+use answers::Answer;
+use ciphers::cipher::Scramble;
+use ciphers::cipher::session_slots;
+use ciphers::keystream::keystream;
+use keyentry::KEY_ROOM;
+use octets::all_zero;
+use octets::wide;
+
+// The octets that hold a slot's bits.
+const SLOT_OCTETS: usize = (SLOT_BITS + 7) / 8;
+
+// The mask of all words.
+const TOP_MASK: u8 = 15;
+
+// ---- a slot on
+
+// A receiver after a slot.
+fn receiver_on(
+    cipher: u8,
+    key: [u8; KEY_ROOM],
+    position: u8,
+    known: bool,
+    vector: [u8; VECTOR_OCTETS],
+) -> Call
+    requires { ⌜ position < sessionSlots cipher ⌝ }
+    ensures { λ r. ⌜ r ≡ written (received cipher key (position + 1) known vector) ⌝ }
+{
+    let heard = position + 1;
+    if wide(heard) < session_slots(cipher) {
+        return Call {
+            end: RECEIVING,
+            cipher,
+            key,
+            position: heard,
+            vector,
+            known,
+        };
+    }
+    Call {
+        end: RECEIVING,
+        cipher,
+        key,
+        position: 0,
+        vector: [0; VECTOR_OCTETS],
+        known: cipher == Scramble::TYPE,
+    }
+}
+
+// The vector of a sender's next session.
+fn going_on(cipher: u8, vector: [u8; VECTOR_OCTETS]) -> [u8; VECTOR_OCTETS]
+    ensures { λ r. ⌜ r ≡ goingOn cipher vector ⌝ }
+{
+    if cipher == Scramble::TYPE {
+        return [0; VECTOR_OCTETS];
+    }
+    generator::next_vector(&vector)
+}
+
+// A sender after a slot.
+fn sender_on(cipher: u8, key: [u8; KEY_ROOM], position: u8, vector: [u8; VECTOR_OCTETS]) -> Call
+    requires { ⌜ position < sessionSlots cipher ⌝ }
+    ensures { λ r. ⌜ r ≡ written (sent cipher key (position + 1) vector) ⌝ }
+{
+    let sent = position + 1;
+    if wide(sent) < session_slots(cipher) {
+        return Call {
+            end: SENDING,
+            cipher,
+            key,
+            position: sent,
+            vector,
+            known: true,
+        };
+    }
+    Call {
+        end: SENDING,
+        cipher,
+        key,
+        position: 0,
+        vector: going_on(cipher, vector),
+        known: true,
+    }
+}
+
+// ---- a lost slot
+
+pub fn lost(call: Call) -> Stepped
+    ensures { λ r. ⌜ (r .answer, r .call) ≡ lostOf call ⌝ }
+{
+    if !good_call(call) {
+        return Stepped {
+            answer: Answer::Bad,
+            call,
+        };
+    }
+    if call.end != RECEIVING {
+        return Stepped {
+            answer: Answer::NotNow,
+            call,
+        };
+    }
+    let key = call.key;
+    let vector = call.vector;
+    Stepped {
+        answer: Answer::Done,
+        call: receiver_on(call.cipher, key, call.position, call.known, vector),
+    }
+}
+
+// ---- a voice slot
+
+// Whether a sender would go on after this slot with a vector of zeros.
+fn is_zero_after(cipher: u8, position: u8, vector: [u8; VECTOR_OCTETS]) -> bool
+    ensures { λ r. ⌜ r ≡ zeroAfter cipher position vector ⌝ }
+{
+    if cipher == Scramble::TYPE {
+        return false;
+    }
+    if wide(position) + 1 < session_slots(cipher) {
+        return false;
+    }
+    let next = generator::next_vector(&vector);
+    all_zero(&next)
+}
+
+// The frame turned by the bits of the session's slot, which stand for all words, in the mask or not.
+fn turn_slot(
+    cipher: u8,
+    key: [u8; KEY_ROOM],
+    position: u8,
+    vector: [u8; VECTOR_OCTETS],
+    mask: u8,
+    frame: &mut [u8],
+)
+    requires { ⌜ (position < sessionSlots cipher) × (length (now frame) ≡ frameOctets) ⌝ }
+    ensures { λ _. ⌜ now (frame .exit) ≡ inSlot mask (now (frame .entry)) cipher key position vector ⌝ }
+{
+    let mut slot = [0; SLOT_OCTETS];
+    keystream(cipher, key, vector, SLOT_BITS * wide(position), &mut slot);
+    turn_frame(frame, mask, &slot, 0);
+}
+
+fn send(call: Call, mask: u8, frame: &mut [u8]) -> Stepped
+    requires { ⌜ (goodCall call ≡ true) × (call .end ≡ sendingEnd) × (mask ≤ topMask) × (length (now frame) ≡ frameOctets) ⌝ }
+    ensures { λ r. ⌜ (r .answer, (r .call, now (frame .exit))) ≡ voiceOf call mask (now (frame .entry)) ⌝ }
+{
+    let key = call.key;
+    let vector = call.vector;
+    if is_zero_after(call.cipher, call.position, vector) {
+        return Stepped {
+            answer: Answer::NextZero,
+            call,
+        };
+    }
+    turn_slot(call.cipher, key, call.position, vector, mask, frame);
+    Stepped {
+        answer: Answer::Done,
+        call: sender_on(call.cipher, key, call.position, vector),
+    }
+}
+
+fn receive(call: Call, mask: u8, frame: &mut [u8]) -> Stepped
+    requires { ⌜ (goodCall call ≡ true) × (call .end ≡ receivingEnd) × (mask ≤ topMask) × (length (now frame) ≡ frameOctets) ⌝ }
+    ensures { λ r. ⌜ (r .answer, (r .call, now (frame .exit))) ≡ voiceOf call mask (now (frame .entry)) ⌝ }
+{
+    let key = call.key;
+    let vector = call.vector;
+    let next = receiver_on(call.cipher, key, call.position, call.known, vector);
+    if !call.known {
+        return Stepped {
+            answer: Answer::Held,
+            call: next,
+        };
+    }
+    turn_slot(call.cipher, key, call.position, vector, mask, frame);
+    Stepped {
+        answer: Answer::Done,
+        call: next,
+    }
+}
+
+// A slot sent or received: the words of the mask are turned in the lent frame, where they stand.
+pub fn voice(call: Call, mask: u8, frame: &mut [u8]) -> Stepped
+    ensures { λ r. ⌜ (r .answer, (r .call, now (frame .exit))) ≡ voiceOf call mask (now (frame .entry)) ⌝ }
+{
+    if frame.len() != FRAME_OCTETS {
+        return Stepped {
+            answer: Answer::WrongLength,
+            call,
+        };
+    }
+    if mask > TOP_MASK {
+        return Stepped {
+            answer: Answer::BadMask,
+            call,
+        };
+    }
+    if !good_call(call) {
+        return Stepped {
+            answer: Answer::Bad,
+            call,
+        };
+    }
+    if call.end == CLOSED {
+        return Stepped {
+            answer: Answer::NotNow,
+            call,
+        };
+    }
+    if call.end == SENDING {
+        return send(call, mask, frame);
+    }
+    receive(call, mask, frame)
+}

@@ -1,0 +1,109 @@
+// Vectors of a call: one announced to a receiver, and the next one of a sender.
+ghost use mathlib.Core.Path.{_≡_};
+ghost use mathlib.Core.Bool.{true};
+ghost use Rattle.voice.specs.Call.{goodCall, standing};
+ghost use Rattle.voice.specs.Vector.{awaits, announceOf, generates, nextVectorOf};
+use crate::call::Call;
+use crate::call::RECEIVING;
+use crate::call::SENDING;
+use crate::call::Stepped;
+use crate::call::good_call;
+use crate::ladder::VECTOR_OCTETS;
+use answers::Answer;
+use ciphers::cipher::Scramble;
+use octets::all_zero;
+use octets::copy;
+
+// Whether the call waits for a vector.
+fn is_awaiting(call: Call) -> bool
+    requires { ⌜ goodCall call ≡ true ⌝ }
+    ensures { λ r. ⌜ r ≡ awaits (standing call) ⌝ }
+{
+    if call.end != RECEIVING {
+        return false;
+    }
+    if call.cipher == Scramble::TYPE {
+        return false;
+    }
+    if call.position != 0 {
+        return false;
+    }
+    !call.known
+}
+
+// A vector for the session that begins. It belongs to no session that is under way.
+pub fn announce(call: Call, vector: &[u8]) -> Stepped
+    ensures { λ r. ⌜ (r .answer, r .call) ≡ announceOf call (now (vector .entry)) ⌝ }
+{
+    if vector.len() != VECTOR_OCTETS {
+        return Stepped {
+            answer: Answer::WrongLength,
+            call,
+        };
+    }
+    if !good_call(call) {
+        return Stepped {
+            answer: Answer::Bad,
+            call,
+        };
+    }
+    if !is_awaiting(call) {
+        return Stepped {
+            answer: Answer::NotNow,
+            call,
+        };
+    }
+    if all_zero(vector) {
+        return Stepped {
+            answer: Answer::ZeroVector,
+            call,
+        };
+    }
+    let key = call.key;
+    let mut own = [0; VECTOR_OCTETS];
+    copy(vector, &mut own);
+    Stepped {
+        answer: Answer::Done,
+        call: Call {
+            end: RECEIVING,
+            cipher: call.cipher,
+            key,
+            position: call.position,
+            vector: own,
+            known: true,
+        },
+    }
+}
+
+// Whether the call is a sender that has a next vector.
+fn is_generating(call: Call) -> bool
+    requires { ⌜ goodCall call ≡ true ⌝ }
+    ensures { λ r. ⌜ r ≡ generates (standing call) ⌝ }
+{
+    if call.end != SENDING {
+        return false;
+    }
+    call.cipher != Scramble::TYPE
+}
+
+// L(S) of the sender's session, written into lent octets.
+pub fn next_vector(call: Call, out: &mut [u8]) -> Answer
+    ensures { λ r. ⌜ (r, now (out .exit)) ≡ nextVectorOf call (now (out .entry)) ⌝ }
+{
+    if out.len() != VECTOR_OCTETS {
+        return Answer::WrongLength;
+    }
+    if !good_call(call) {
+        return Answer::Bad;
+    }
+    if !is_generating(call) {
+        return Answer::NotNow;
+    }
+    let vector = call.vector;
+    let next = generator::next_vector(&vector);
+    if all_zero(&next) {
+        return Answer::NextZero;
+    }
+    copy(&next, out);
+    Answer::Done
+}
