@@ -10,6 +10,7 @@ use Rattle.ciphers.specs.Keystream.{feedback, stream}
 use Rattle.keyentry.specs.Entry.{named, lacks, readyRight, usedRight, entryRight, isFor, completeRefusals}
 use Rattle.keybook.specs.Book.{entryOf, apart, goodBook, findEntry, bookRefusals}
 use Rattle.keybook.specs.Operations.{finishRefusals, finishOf}
+use Rattle.voice.proofs.Examples.{example-2-voice, example-11, example-12}
 use Rattle.demands.specs.Marked.{Marked, finishNumber}
 
 pub marked : Marked
@@ -17,10 +18,13 @@ unfolding stream feedback finishNumber allBelow firstBelow oddOctet scrambleKey 
 marked =
     record {
       example-1 = key-one;
+      example-2 = example-2-voice;
       example-4 = example-second;
       example-5 = ap nextVector example-second ∙ example-third;
       example-6 = example-aes;
       example-7 = λ key vector. (refl, refl);
       example-8 = refl;
       example-9 = refl;
+      example-11 = (example-11 .join, example-11 .slots, example-11 .after-four, example-11 .after-three);
+      example-12 = example-12;
     }

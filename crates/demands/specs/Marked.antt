@@ -1,7 +1,8 @@
 -- The build paper's marked examples in one table, each as a statement about the definitions.
 use mathlib.Core.Path.{_≡_}
 use mathlib.Core.List.{List, [], _∷_, _++_}
-use Prim.Native.Nat.{ℕ, _-_}
+use mathlib.Core.Bool.{true, false}
+use Prim.Native.Nat.{ℕ, _-_, _*_, _≤_}
 use lib.ListN.{length, replicate}
 use Rattle.octets.specs.Bits.{bit, octetsFrom}
 use Rattle.scramble.specs.Sequence.{P}
@@ -9,10 +10,19 @@ use Rattle.generator.specs.Generator.{nextVector, aesVector}
 use Rattle.des.specs.Des.{des}
 use Rattle.aes.specs.Cipher.{aes}
 use Rattle.ciphers.specs.Keystream.{usedBlock, stream}
+use Rattle.octets.specs.Lists.{allZero}
+use Rattle.answers.specs.declared.Answer.the-variants.{Done, Held, NotNow, ZeroVector}
 use Rattle.answers.specs.Numbers.{numberOf}
-use Rattle.keyentry.specs.Entry.{keyPlace}
+use Rattle.keyentry.specs.Entry.{entryOctets, keyPlace}
 use Rattle.keybook.specs.Book.{bookOctets}
 use Rattle.keybook.specs.Operations.{finishOf}
+use Rattle.voice.specs.declared.call.Call.{Call}
+use Rattle.voice.specs.Frame.{frameOctets}
+use Rattle.voice.specs.Ladder.{vectorOctets, noVector}
+use Rattle.voice.specs.Call.{noCall, receiving, written}
+use Rattle.voice.specs.Opening.{openOf, joinOf}
+use Rattle.voice.specs.Slot.{topMask, voiceOf}
+use Rattle.voice.specs.Vector.{announceOf}
 
 -- scramble key 0001
 abbrev pub key0001 : List ℕ
@@ -30,9 +40,33 @@ holding c k = c ∷ 0 ∷ length k ∷ 0 ∷ (k ++ replicate (bookOctets - keyPl
 unfoldable pub finishNumber : ℕ → List ℕ → ℕ
 finishNumber c k = numberOf (finishOf (holding c k) c 0 .0)
 
+-- key 0001 and DES key ABCDEF0123456789 as a book and a call keep them, and a book that has both ready, as key ID 0
+abbrev pub scramble0001 : List ℕ
+scramble0001 = key0001 ++ replicate 30 0
+
+abbrev pub desABCD : List ℕ
+desABCD = 0xAB ∷ 0xCD ∷ 0xEF ∷ 0x01 ∷ 0x23 ∷ 0x45 ∷ 0x67 ∷ 0x89 ∷ replicate 24 0
+
+abbrev pub bookOfTwo : List ℕ
+bookOfTwo = (1 ∷ 0 ∷ 2 ∷ 1 ∷ scramble0001) ++ ((2 ∷ 0 ∷ 8 ∷ 1 ∷ desABCD) ++ replicate (14 * entryOctets) 0)
+
+-- a scramble receiver at position p, and a DES receiver at position p that does not know its session's vector
+abbrev pub scrambling : ℕ → Call
+scrambling p = written (receiving 1 scramble0001 p true noVector)
+
+abbrev pub waiting : ℕ → Call
+waiting p = written (receiving 2 desABCD p false noVector)
+
+-- 8001000600140000F002200CC0000000000000000000000000000000
+abbrev pub frame8001 : List ℕ
+frame8001 =
+    0x80 ∷ 0x01 ∷ 0x00 ∷ 0x06 ∷ 0x00 ∷ 0x14 ∷ 0x00 ∷ 0x00 ∷ 0xF0 ∷ 0x02 ∷ 0x20 ∷ 0x0C ∷ 0xC0 ∷ 0x00 ∷ replicate 14 0
+
 pub record Marked : Type 0 where
   -- scramble key 0001: P0 to P31 are 80010006
   pub example-1 : octetsFrom 4 (P key0001) ≡ 0x80 ∷ 0x01 ∷ 0x00 ∷ 0x06 ∷ []
+  -- an all-zero frame, mask 3, that key, slot 0: the frame above
+  pub example-2 : voiceOf (scrambling 0) 3 (replicate frameOctets 0) ≡ (Done, (scrambling 1, frame8001))
   -- L(ABCDEF1234567890) = 8B8DDEEB890F4CF1
   pub example-4 : nextVector seed ≡ 0x8B ∷ 0x8D ∷ 0xDE ∷ 0xEB ∷ 0x89 ∷ 0x0F ∷ 0x4C ∷ 0xF1 ∷ []
   -- L of that = C83AB2073A8D80E8
@@ -48,3 +82,14 @@ pub record Marked : Type 0 where
   pub example-9 :
       finishNumber 2 (0xAB ∷ 0xCD ∷ 0xEF ∷ 0x01 ∷ 0x23 ∷ 0x45 ∷ 0x67 ∷ 0x89 ∷ [])
       ∷ finishNumber 2 (0xAB ∷ 0xCD ∷ 0xEF ∷ 0x01 ∷ 0x23 ∷ 0x45 ∷ 0x67 ∷ 0x88 ∷ []) ∷ [] ≡ 0 ∷ 7 ∷ []
+  -- a DES join, then four voice slots: 1 each; then announce: 0. Announce after three: 9. With any mask, any frame, and any vector that is not zero
+  pub example-11 : (joinOf noCall 2 0 bookOfTwo ≡ (Done, waiting 4))
+      × ((mask : ℕ) (frame : List ℕ) → mask ≤ topMask → length frame ≡ frameOctets
+      → (voiceOf (waiting 4) mask frame ≡ (Held, (waiting 5, frame)))
+      × (voiceOf (waiting 5) mask frame ≡ (Held, (waiting 6, frame)))
+      × (voiceOf (waiting 6) mask frame ≡ (Held, (waiting 7, frame)))
+      × (voiceOf (waiting 7) mask frame ≡ (Held, (waiting 0, frame))))
+      × ((w : List ℕ) → length w ≡ vectorOctets → allZero w ≡ false → announceOf (waiting 0) w ≡ (Done, written (receiving 2 desABCD 0 true w)))
+      × ((w : List ℕ) → length w ≡ vectorOctets → announceOf (waiting 7) w ≡ (NotNow, waiting 7))
+  -- vector zero: DES open 8, scramble open 0
+  pub example-12 : (openOf noCall 2 0 noVector bookOfTwo ≡ (ZeroVector, noCall)) × (openOf noCall 1 0 noVector bookOfTwo ≡ (Done, scrambling 0))

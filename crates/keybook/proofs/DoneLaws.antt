@@ -2,21 +2,23 @@
 -- Assumes nothing.
 use Prim.Native.Nat.{ℕ, _≤_, _<_}
 use native.Mathlib.Omega.{arith}
-use mathlib.Core.Path.{_≡_, refl, sym, _∙_}
+use mathlib.Core.Path.{_≡_, refl, sym, ap, _∙_}
 use mathlib.Core.Bool.{true, false, not}
 use mathlib.Core.List.{List, [], _∷_, _++_}
 use lib.ListN.{length}
 use lib.Dec.{ltb}
 use borrow.Author.Tests.{ltb-true, ltb-false, not-false}
-use Rattle.answers.specs.declared.Answer.the-variants.{NoEntry, Already, Full}
+use Rattle.answers.specs.declared.Answer.{Answer}
+use Rattle.answers.specs.declared.Answer.the-variants.{Done, NoEntry, Already, Full}
+use Rattle.answers.specs.Numbers.{isDone}
 use Rattle.answers.specs.Outcomes.{Refusals}
-use Rattle.answers.proofs.OutcomeLaws.{NoneHolds, neverDone, none-left, none-right}
+use Rattle.answers.proofs.OutcomeLaws.{NoneHolds, neverDone, none-left, none-right, done-none, none-settles}
 use Rattle.ciphers.specs.Keys.{keyAllowed}
 use Rattle.keyentry.specs.Entry.{entryOctets, cipherIn, idIn, keyIn, isReady, lacks, blank, newEntry, loadRefusals, loaded, completeRefusals, completed}
 use Rattle.keyentry.proofs.RightLaws.{Used, used-of, of-used, for-name, not-for}
 use Rattle.keyentry.proofs.WriteLaws.{named-used, blank-length, blank-cipher, blank-right, new-length, new-cipher, new-id, new-right, load-length, load-cipher, load-id, load-used, complete-length, complete-cipher, complete-id, complete-used}
 use Rattle.keybook.specs.Book.{entries, entryOf, withEntry, goodBook, findEntry, freeEntry, bookRefusals}
-use Rattle.keybook.specs.Operations.{has, entryFor, withFor, beginRefusals, beginAfter, addRefusals, finishRefusals, eraseRefusals, notReady, readyRefusals}
+use Rattle.keybook.specs.Operations.{has, entryFor, withFor, beginRefusals, beginAfter, addRefusals, finishRefusals, eraseRefusals, noKey, notReady, readyRefusals, readyKeyOf}
 use Rattle.keybook.proofs.BookLaws.{entry-length}
 use Rattle.keybook.proofs.GoodLaws.{none-for, found-for, good-sized, good-entry, good-apart, good-with}
 use Rattle.keybook.proofs.OperationLaws.{sized-by, named-by, good-by}
@@ -179,3 +181,21 @@ module _ (b : List ℕ) (c i : ℕ) where
           good = good-with b (findEntry b c i) blank (good-sized b (t .was-good)) (t .below) blank-length (t .was-good) blank-right
               (λ j m d u. absurd (u blank-cipher));
         }
+
+-- ---- a key that is handed out
+
+pub record Handed (b : List ℕ) (c i : ℕ) (k : List ℕ) : Type 0 where
+  pub from : There b c i
+  pub ready : isReady (entryFor b c i) ≡ true
+  pub is : k ≡ keyIn (entryFor b c i)
+
+pub handed : (b : List ℕ) (c i : ℕ) (k : List ℕ) → readyKeyOf b c i ≡ (Done, k) → Handed b c i k
+unfolding readyKeyOf readyRefusals notReady
+handed b c i k q =
+    let rest = notReady (entryFor b c i) in
+    let n = done-none (readyRefusals b c i) noKey (keyIn (entryFor b c i)) (ready-never-done b c i) (ap (λ (o : Answer × List ℕ). isDone (o .0)) q) in
+    record {
+      from = there b c i rest n;
+      ready = not-false _ (none-right (bookRefusals b c i) ((not (has b c i), NoEntry) ∷ rest) n .1 .0);
+      is = ap (λ (o : Answer × List ℕ). o .1) (sym q ∙ none-settles (readyRefusals b c i) noKey (Done, keyIn (entryFor b c i)) n);
+    }

@@ -3,23 +3,21 @@
 use Prim.Native.Nat.{ℕ, _-_, _≤_, _<_}
 use native.Mathlib.Decide.{decLt}
 use native.Mathlib.Omega.{arith}
-use mathlib.Core.Path.{_≡_, refl, sym, ap, ap₂, subst, _∙_}
+use mathlib.Core.Path.{_≡_, refl, sym, ap, ap₂, _∙_}
 use mathlib.Core.Bool.{Bool, true, false, _&&_, not, true≢false, false≢true}
 use mathlib.Core.List.{List, [], _∷_}
 use lib.ListN.{length}
 use lib.Dec.{eqb}
-use borrow.Author.Tests.{lt-ltb, eq-eqb, not-false}
-use Rattle.ciphers.proofs.NumberLaws.{key-at-most}
+use borrow.Author.Tests.{lt-ltb, eq-eqb}
 use Rattle.ciphers.proofs.KeyLaws.{padded-allowed}
+use Rattle.ciphers.proofs.NumberLaws.{key-at-most}
 use Rattle.octets.specs.Tests.{pick}
 use Rattle.octets.proofs.TestLaws.{and-left, and-right, first-le}
 use Rattle.ciphers.specs.Numbers.{keyOctets}
 use Rattle.ciphers.specs.Keys.{keyAllowed}
-use Rattle.answers.specs.declared.Answer.{Answer}
-use Rattle.answers.specs.declared.Answer.the-variants.{Done, NoEntry}
+use Rattle.answers.specs.declared.Answer.the-variants.{Done}
 use Rattle.answers.specs.Numbers.{isDone}
-use Rattle.answers.specs.Outcomes.{Refusals}
-use Rattle.answers.proofs.OutcomeLaws.{NoneHolds, none-left, none-right, done-none, none-settles}
+use Rattle.answers.proofs.OutcomeLaws.{NoneHolds, none-left, done-none, none-settles}
 use Rattle.keyentry.specs.Entry.{cipherIn, isReady, keyRoom, keyIn, keyLoaded, named, isFor, blank, loaded, completed}
 use Rattle.keyentry.proofs.WriteLaws.{named-used, loaded-count, ready-whole}
 use Rattle.keybook.specs.Book.{entries, bookOctets, entryOf, findEntry, bookRefusals}
@@ -27,48 +25,31 @@ use Rattle.keybook.specs.Operations.{has, entryFor, withFor, beginRefusa
 use Rattle.keybook.specs.History.{Operation, Begin, Add, Finish, Erase, names, finishes, added, finished, step, bookAfter, history, padded, Told}
 use Rattle.keybook.proofs.GoodLaws.{good-sized}
 use Rattle.keybook.proofs.OperationLaws.{named-by}
-use Rattle.keybook.proofs.DoneLaws.{There, there, begin-never-done, add-never-done, finish-never-done, erase-never-done, ready-never-done}
+use Rattle.keybook.proofs.DoneLaws.{handed, begin-never-done, add-never-done, finish-never-done, erase-never-done}
 use Rattle.keybook.proofs.FindLaws.{none-there}
 use Rattle.keybook.proofs.HoldLaws.{always-good, Holds, holds-what-was-told, key-padded, same-names}
 
-module _ (os : List Operation) (c i : ℕ) where
-  abbrev book : List ℕ
-  book = bookAfter os
-
-  -- what is known of the entry once it is there and ready
-  ready-told : There book c i → isReady (entryFor book c i) ≡ true → Told (history os) c i (keyIn (entryFor book c i))
-  ready-told t r =
-      let e = entryFor book c i in
-      let u = t .right in
-      let h = holds-what-was-told os c i (λ z. t .used (t .cipher ∙ z)) in
-      let w = ready-whole e u r in
-      let p = key-padded e (t .long) u in
-      let m = loaded-count e (t .long) (omega (arith, u .count, key-at-most (cipherIn e))) in
-      record {
-        is-finished = sym (h .ready) ∙ r;
-        is-added = p ∙ ap padded (h .octets);
-        is-whole = ap length (sym (h .octets)) ∙ m ∙ w .full ∙ ap keyOctets (t .cipher);
-        is-allowed =
-            ap (keyAllowed c) (sym (h .octets))
-            ∙ sym (padded-allowed (keyLoaded e) (keyRoom - length (keyLoaded e)) c)
-            ∙ ap (keyAllowed c) (sym p)
-            ∙ ap (λ (x : ℕ). keyAllowed x (keyIn e)) (sym (t .cipher))
-            ∙ w .allowed;
-      }
-
-  abbrev rest : Refusals
-  rest = notReady (entryFor book c i)
-
-  -- a key is handed out only if the history tells of it
-  pub ready-only-if-told : (k : List ℕ) → readyKeyOf book c i ≡ (Done, k) → Told (history os) c i k
-  unfolding readyKeyOf readyRefusals notReady
-  ready-only-if-told k q =
-      let n = done-none (readyRefusals book c i) noKey (keyIn (entryFor book c i)) (ready-never-done book c i) (ap (λ (o : Answer × List ℕ). isDone (o .0)) q) in
-      let t = there book c i rest n in
-      let r = not-false _ (none-right (bookRefusals book c i) ((not (has book c i), NoEntry) ∷ rest) n .1 .0) in
-      let e : keyIn (entryFor book c i) ≡ k =
-      ap (λ (o : Answer × List ℕ). o .1) (sym (none-settles (readyRefusals book c i) noKey (Done, keyIn (entryFor book c i)) n) ∙ q) in
-      subst (λ (l : List ℕ). Told (history os) c i l) e (ready-told t r)
+-- a key is handed out only if the history tells of it
+pub ready-only-if-told : (os : List Operation) (c i : ℕ) (k : List ℕ) → readyKeyOf (bookAfter os) c i ≡ (Done, k) → Told (history os) c i k
+ready-only-if-told os c i k q =
+    let d = handed (bookAfter os) c i k q in
+    let t = d .from in
+    let u = t .right in
+    let e = entryFor (bookAfter os) c i in
+    let h = holds-what-was-told os c i (λ z. t .used (t .cipher ∙ z)) in
+    let w = ready-whole e u (d .ready) in
+    let p = key-padded e (t .long) u in
+    let m = loaded-count e (t .long) (omega (arith, u .count, key-at-most (cipherIn e))) in
+    record {
+      is-finished = sym (h .ready) ∙ d .ready;
+      is-added = d .is ∙ p ∙ ap padded (h .octets);
+      is-whole = ap length (sym (h .octets)) ∙ m ∙ w .full ∙ ap keyOctets (t .cipher);
+      is-allowed =
+          ap (keyAllowed c) (sym (h .octets))
+          ∙ sym (padded-allowed (keyLoaded e) (keyRoom - length (keyLoaded e)) c)
+          ∙ ap₂ keyAllowed (sym (t .cipher)) (sym p)
+          ∙ w .allowed;
+    }
 
 -- ---- and whenever the history tells of it
 
@@ -135,11 +116,11 @@ module _ (os : List Operation) (c i : ℕ) (f : finished (history os) c i ≡ tr
       let is-ready : not (isReady (entryFor b c i)) ≡ false = rw (held .ready, f) in
       (sized, (rw in-range, (rw (always-good os), (has-it, (is-ready, tt)))))
 
-  handed : readyKeyOf (bookAfter os) c i ≡ (Done, keyIn (entryFor (bookAfter os) c i))
+  given : readyKeyOf (bookAfter os) c i ≡ (Done, keyIn (entryFor (bookAfter os) c i))
   unfolding readyKeyOf
-  handed = none-settles (readyRefusals (bookAfter os) c i) noKey (Done, keyIn (entryFor (bookAfter os) c i)) none-refuses
+  given = none-settles (readyRefusals (bookAfter os) c i) noKey (Done, keyIn (entryFor (bookAfter os) c i)) none-refuses
 
   -- a key that was finished is handed out
   pub ready-if-finished : readyKeyOf (bookAfter os) c i ≡ (Done, padded (added (history os) c i))
   ready-if-finished =
-      handed ∙ ap (λ (k : List ℕ). (Done, k)) (ready-only-if-told os c i (keyIn (entryFor (bookAfter os) c i)) handed .is-added)
+      given ∙ ap (λ (k : List ℕ). (Done, k)) (ready-only-if-told os c i (keyIn (entryFor (bookAfter os) c i)) given .is-added)

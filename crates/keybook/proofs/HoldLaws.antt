@@ -9,8 +9,8 @@ use lib.ListN.{length, replicate, length-drop, length-replicate, take-append-dro
 use lib.Seq.{ext-getD}
 use lib.Dec.{eqb}
 use borrow.Author.Tests.{eqb-true}
-use Rattle.ciphers.proofs.NumberLaws.{key-at-most}
 use Rattle.octets.specs.Lists.{allZero}
+use Rattle.ciphers.proofs.NumberLaws.{key-at-most}
 use Rattle.octets.specs.Tests.{pick, allBelow}
 use Rattle.octets.proofs.TestLaws.{and-left, and-right, first-holds}
 use Rattle.answers.specs.declared.Answer.{Answer}

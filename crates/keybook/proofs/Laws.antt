@@ -5,8 +5,10 @@ use native.Mathlib.Omega.{arith}
 use mathlib.Core.Path.{_≡_, sym, ap, ap₂, _∙_}
 use mathlib.Core.Bool.{Bool, true, false, not, true≢false}
 use mathlib.Core.List.{List, [], _∷_}
+use lib.ListN.{length, drop}
 use lib.Dec.{eqb}
 use borrow.Author.Tests.{lt-ltb, le-ltb, eq-eqb, ne-eqb, eqb-false, eqb-true}
+use Rattle.octets.specs.Lists.{allZero}
 use Rattle.octets.specs.Tests.{firstBelow}
 use Rattle.octets.proofs.TestLaws.{first-is, first-holds, first-all, first-before}
 use Rattle.answers.specs.declared.Answer.{Answer}
@@ -14,16 +16,18 @@ use Rattle.answers.specs.declared.Answer.the-variants.{Done, NoEntry}
 use Rattle.answers.specs.Numbers.{isDone}
 use Rattle.answers.specs.Outcomes.{Refusals, outcome}
 use Rattle.answers.proofs.OutcomeLaws.{NoneHolds, none-left, done-none, none-settles, by-refusals, refusal-keeps, one-outcome}
-use Rattle.keyentry.specs.Entry.{cipherIn, keyIn, named, blank, newEntry, loaded, completed}
+use Rattle.ciphers.specs.Numbers.{keyOctets}
+use Rattle.ciphers.specs.Keys.{keyAllowed}
+use Rattle.keyentry.specs.Entry.{cipherIn, countIn, keyRoom, keyIn, named, blank, newEntry, loaded, completed}
 use Rattle.keyentry.proofs.RightLaws.{not-for}
-use Rattle.keyentry.proofs.WriteLaws.{named-used, blank-length, blank-cipher}
+use Rattle.keyentry.proofs.WriteLaws.{named-used, key-length, ready-whole, blank-length, blank-cipher}
 use Rattle.keybook.specs.Book.{entries, entryOf, withEntry, goodBook, findEntry, freeEntry, bookRefusals}
 use Rattle.keybook.specs.Operations.{has, entryFor, withFor, beginRefusals, beginAfter, beginOf, addRefusals, addOf, finishRefusals, finishOf, eraseRefusals, eraseOf, noKey, readyRefusals, readyKeyOf}
 use Rattle.keybook.specs.declared.Ready.{Ready}
 use Rattle.keybook.proofs.GoodLaws.{good-sized, found-for, entry-same}
 use Rattle.keybook.proofs.FindLaws.{gone}
 use Rattle.keybook.proofs.OperationLaws.{named-by}
-use Rattle.keybook.proofs.DoneLaws.{Changed, begin-never-done, erase-never-done, erase-there, begin-changed, add-changed, finish-changed, erase-changed}
+use Rattle.keybook.proofs.DoneLaws.{Changed, handed, begin-never-done, erase-never-done, erase-there, begin-changed, add-changed, finish-changed, erase-changed}
 
 -- ---- a refusal leaves the book as it was, and hands out no key
 
@@ -173,6 +177,26 @@ module _ (b : List ℕ) (c i : ℕ) (d : eraseOf b c i .0 ≡ Done) where
       let h : has erased c i ≡ false = le-ltb (findEntry erased c i) entries (omega arith) in
       let f = some-free erased (findEntry b c i) (t .below) (ap cipherIn erase-frees-entry ∙ blank-cipher) in
       ap (λ (o : Answer × List ℕ). o .0) (begin-done-at-first-free erased c i erased-good n h (freeEntry erased) (first-free erased f))
+
+-- ---- a key that is handed out is whole and allowed, of whatever book
+
+pub record RightKey (c : ℕ) (k : List ℕ) : Type 0 where
+  pub long : length k ≡ keyRoom
+  pub allowed : keyAllowed c k ≡ true
+  pub rest : allZero (drop (keyOctets c) k) ≡ true
+
+pub ready-key-is-right : (b : List ℕ) (c i : ℕ) (k : List ℕ) → readyKeyOf b c i ≡ (Done, k) → RightKey c k
+ready-key-is-right b c i k q =
+    let d = handed b c i k q in
+    let t = d .from in
+    let e = entryFor b c i in
+    let w = ready-whole e (t .right) (d .ready) in
+    let n : keyOctets c ≡ countIn e = ap keyOctets (sym (t .cipher)) ∙ sym (w .full) in
+    record {
+      long = ap length (d .is) ∙ key-length e (t .long);
+      allowed = ap₂ keyAllowed (sym (t .cipher)) (d .is) ∙ w .allowed;
+      rest = rw (n, d .is) (t .right .rest);
+    }
 
 -- ---- any two outcomes that meet an operation's statement are equal
 

@@ -49,6 +49,7 @@ goodBook b = eqb (length b) bookOctets && allBelow (λ k. entryRight (entryOf b 
 
 -- ---- what every operation asks first
 
+-- 2, 3, 4
 unfoldable pub bookRefusals : List ℕ → ℕ → ℕ → Refusals
 bookRefusals b c i =
     (not (eqb (length b) bookOctets), WrongLength) ∷ (not (named c i), OutOfRange) ∷ (not (goodBook b), Bad) ∷ []

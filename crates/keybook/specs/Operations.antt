@@ -1,4 +1,5 @@
--- What each operation on a key book answers and leaves: of every book, cipher type, key ID and key octets.
+-- What each operation on a key book answers and leaves, for every book, cipher type, key ID and key octets. Its refusals
+-- are one list, in the order in which they count.
 use Prim.Native.Nat.{ℕ}
 use mathlib.Core.Bool.{Bool, not}
 use mathlib.Core.List.{List, [], _∷_, _++_}
@@ -22,7 +23,7 @@ entryFor b c i = entryOf b (findEntry b c i)
 abbrev pub withFor : List ℕ → ℕ → ℕ → List ℕ → List ℕ
 withFor b c i e = withEntry b (findEntry b c i) e
 
--- begin takes the free entry nearest the start; 2, 3, 4, 11, 12
+-- begin takes the free entry nearest the start; refused by 2, 3, 4 of the book, 11, 12
 unfoldable pub beginRefusals : List ℕ → ℕ → ℕ → Refusals
 beginRefusals b c i = bookRefusals b c i ++ ((has b c i, Already) ∷ (not (ltb (freeEntry b) entries), Full) ∷ [])
 
@@ -32,7 +33,7 @@ beginAfter b c i = withEntry b (freeEntry b) (newEntry c i)
 unfoldable pub beginOf : List ℕ → ℕ → ℕ → Answer × List ℕ
 beginOf b c i = outcome b (beginRefusals b c i) (beginAfter b c i)
 
--- add appends 0 to 32 octets; 2, 3, 4, 5, 11, 13
+-- add appends 0 to 32 octets; refused by 2 of the octets, 2, 3, 4 of the book, 5, 11, 13
 unfoldable pub addRefusals : List ℕ → ℕ → ℕ → List ℕ → Refusals
 addRefusals b c i xs =
     (ltb keyRoom (length xs), WrongLength) ∷ (bookRefusals b c i ++ ((not (has b c i), NoEntry) ∷ loadRefusals (entryFor b c i) xs))
@@ -40,21 +41,21 @@ addRefusals b c i xs =
 unfoldable pub addOf : List ℕ → ℕ → ℕ → List ℕ → Answer × List ℕ
 addOf b c i xs = outcome b (addRefusals b c i xs) (withFor b c i (loaded (entryFor b c i) xs))
 
--- finish marks ready; 2, 3, 4, 5, 11, 6, 7
+-- finish marks ready; refused by 2, 3, 4 of the book, 5, 11, 6, 7
 unfoldable pub finishRefusals : List ℕ → ℕ → ℕ → Refusals
 finishRefusals b c i = bookRefusals b c i ++ ((not (has b c i), NoEntry) ∷ completeRefusals (entryFor b c i))
 
 unfoldable pub finishOf : List ℕ → ℕ → ℕ → Answer × List ℕ
 finishOf b c i = outcome b (finishRefusals b c i) (withFor b c i (completed (entryFor b c i)))
 
--- erase zeroes an entry, ready or not; 2, 3, 4, 5
+-- erase zeroes an entry, ready or not; refused by 2, 3, 4 of the book, 5
 unfoldable pub eraseRefusals : List ℕ → ℕ → ℕ → Refusals
 eraseRefusals b c i = bookRefusals b c i ++ ((not (has b c i), NoEntry) ∷ [])
 
 unfoldable pub eraseOf : List ℕ → ℕ → ℕ → Answer × List ℕ
 eraseOf b c i = outcome b (eraseRefusals b c i) (withFor b c i blank)
 
--- the key of a ready entry, with zeros past its length; 2, 3, 4, 5, 6, and then all zeros
+-- the key of a ready entry, with zeros past its length; refused by 2, 3, 4 of the book, 5, 6, and then all zeros
 unfoldable pub noKey : List ℕ
 noKey = replicate keyRoom 0
 

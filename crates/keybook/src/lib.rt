@@ -33,11 +33,11 @@ pub fn begin(book: &mut [u8], cipher: u8, id: u8) -> Answer
         Found::Refused(a) => a,
         Found::At(_) => Answer::Already,
         Found::Missing => {
-            let k = free(book);
-            if k >= ENTRIES {
+            let first = free(book);
+            if first >= ENTRIES {
                 return Answer::Full;
             }
-            let a = k * ENTRY_OCTETS;
+            let a = first * ENTRY_OCTETS;
             write_new(&mut book[a..a + ENTRY_OCTETS], cipher, id);
             Answer::Done
         }

@@ -1,7 +1,6 @@
 -- The cases of an entry's rules, each as a way through the code meets it. Assumes nothing.
 use Prim.Native.Nat.{ℕ, _+_, _-_, _≤_, _<_}
 use native.Mathlib.Nat.{le-refl}
-use native.Mathlib.Omega.{arith}
 use mathlib.Core.Path.{_≡_, ap, _∙_}
 use mathlib.Core.Bool.{true, false}
 use mathlib.Core.List.{List}
@@ -27,13 +26,13 @@ module _ (e : List ℕ) where
   unfolding readyRight
   ready-other n h = rw (ne-eqb _ _ n, lt-leb _ _ h)
 
-  pub ready-short : (readyIn e ≡ 0 → ⊥) → readyIn e ≤ 1 → 0 < lacks e → false ≡ readyRight e
+  pub ready-short : (readyIn e ≡ 0 → ⊥) → readyIn e ≤ 1 → (lacks e ≡ 0 → ⊥) → false ≡ readyRight e
   unfolding readyRight
-  ready-short n h l = rw (ne-eqb _ _ n, le-leb _ _ h, ne-eqb (lacks e) 0 (λ z. omega arith))
+  ready-short n h l = rw (ne-eqb _ _ n, le-leb _ _ h, ne-eqb _ _ l)
 
-  pub ready-key : {k : List ℕ} → (readyIn e ≡ 0 → ⊥) → readyIn e ≤ 1 → lacks e ≤ 0 → k ≡ keyIn e → keyAllowed (cipherIn e) k ≡ readyRight e
+  pub ready-key : {k : List ℕ} → (readyIn e ≡ 0 → ⊥) → readyIn e ≤ 1 → lacks e ≡ 0 → k ≡ keyIn e → keyAllowed (cipherIn e) k ≡ readyRight e
   unfolding readyRight
-  ready-key n h l q = let z : lacks e ≡ 0 = omega arith in rw (ne-eqb _ _ n, le-leb _ _ h, eq-eqb _ _ z, q)
+  ready-key n h l q = rw (ne-eqb _ _ n, le-leb _ _ h, eq-eqb _ _ l, q)
 
   -- what the borrow checker says of a key lent from the count on
   pub rest-lent : {n : ℕ} {k : List ℕ} → n ≡ countIn e → k ≡ keyIn e → take (length k - n) (drop n k) ≡ keyRest e

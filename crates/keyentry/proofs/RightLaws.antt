@@ -8,8 +8,8 @@ use mathlib.Core.List.{List}
 use lib.ListN.{length, getD, List·getD-eq-default}
 use lib.Dec.{leb, eqb}
 use borrow.Author.Tests.{le-leb, leb-true, eq-eqb, ne-eqb, eqb-true}
-use Rattle.ciphers.proofs.NumberLaws.{key-at-most}
 use Rattle.octets.specs.Lists.{allZero}
+use Rattle.ciphers.proofs.NumberLaws.{key-at-most}
 use Rattle.octets.proofs.TestLaws.{all-at, and-left, and-right}
 use Rattle.ciphers.specs.Numbers.{keyOctets}
 use Rattle.keyentry.specs.Entry.{cipherIn, idIn, countIn, countPlace, keyRoom, keyRest, named, readyRight, usedRight, entryRight, isFor}

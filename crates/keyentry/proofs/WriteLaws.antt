@@ -9,9 +9,9 @@ use lib.ListN.{length, getD, take, drop, length-append, length-drop, length-set,
 use lib.Seq.{length-take-le, getD-take, getD-drop, getD-append-add, getD-set-same, getD-set-other, drop-set-lt, ext-getD}
 use lib.Dec.{leb, eqb, leb·zero}
 use borrow.Author.Tests.{leb-true, eq-eqb, ne-eqb, eqb-true, eqb-false}
-use Rattle.ciphers.proofs.NumberLaws.{key-at-most}
 use Rattle.octets.specs.Lists.{allZero, replaced}
 use Rattle.octets.proofs.Parts.{replaced-length, replaced-before, replaced-in, replaced-after}
+use Rattle.ciphers.proofs.NumberLaws.{key-at-most}
 use Rattle.octets.specs.Tests.{allBelow}
 use Rattle.octets.proofs.TestLaws.{all-intro, and-left, and-right}
 use Rattle.ciphers.specs.Numbers.{keyOctets}

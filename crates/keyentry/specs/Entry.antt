@@ -105,14 +105,14 @@ blank = replicate entryOctets 0
 unfoldable pub newEntry : ℕ → ℕ → List ℕ
 newEntry c i = c ∷ i ∷ replicate (entryOctets - 2) 0
 
--- add puts key octets after those that are there, and counts them
+-- add puts key octets after those that are there, and counts them; refused by 11, 13
 unfoldable pub loadRefusals : List ℕ → List ℕ → Refusals
 loadRefusals e xs = (isReady e, Already) ∷ (ltb (lacks e) (length xs), TooMany) ∷ []
 
 unfoldable pub loaded : List ℕ → List ℕ → List ℕ
 loaded e xs = set (replaced e (keyPlace + countIn e) (length xs) xs) countPlace (countIn e + length xs)
 
--- finish marks ready
+-- finish marks ready; refused by 11, 6, 7
 unfoldable pub completeRefusals : List ℕ → Refusals
 completeRefusals e =
     (isReady e, Already) ∷ (ltb 0 (lacks e), NotReady) ∷ (not (keyAllowed (cipherIn e) (keyIn e)), NotAllowed) ∷ []

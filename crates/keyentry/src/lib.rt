@@ -89,7 +89,7 @@ fn ready_right(e: &[u8]) -> bool
     if e[READY] > 1 {
         return false;
     }
-    if lacking(e) > 0 {
+    if lacking(e) != 0 {
         return false;
     }
     key_allowed(e[CIPHER], key(e))

@@ -8,6 +8,7 @@ use lib.Dec.{eqb, ltb}
 use lib.ListN.{length, getD, replicate, length-replicate, getD-replicate}
 use lib.Seq.{ext-getD}
 use borrow.Author.Tests.{le-leb, lt-ltb, ltb-true, ltb-false, eqb-true, not-false, not-true}
+use Rattle.octets.proofs.ListLaws.{zeros-are}
 use Rattle.octets.specs.Tests.{pick, allBelow}
 use Rattle.octets.specs.Lists.{allZero}
 use Rattle.octets.proofs.TestLaws.{and-left, every-at, all-at}
@@ -58,13 +59,6 @@ call-is c d a b e f g h =
     let r : Call = record { end = c .end; cipher = c .cipher; key = c .key; position = c .position; vector = c .vector; known = c .known } in
     rw (a, b, e, f, g, h) refl
 
--- as many zeros
-zeros-is : (xs : List ℕ) (n : ℕ) → length xs ≡ n → allZero xs ≡ true → xs ≡ replicate n 0
-unfolding allZero
-zeros-is xs n l z =
-    ext-getD 0 xs (replicate n 0) (l ∙ sym (length-replicate n 0))
-    (λ i h. eqb-true _ _ (all-at (λ i. eqb (getD xs i 0) 0) (length xs) i h z) ∙ sym (getD-replicate n i 0 0 (omega arith)))
-
 sender-known : (c : ℕ) (known zeros : Bool) → vectorRight 1 c known zeros ≡ true → known ≡ true
 unfolding vectorRight
 sender-known c known zeros = go (scrambles c) known
@@ -80,8 +74,8 @@ module _ (c : Call) (lk : length (c .key) ≡ keyRoom) (lv : length (c .vector) 
   unfolding isClosed closedTests
   closed-is e =
       call-is c noCall (eqb-true _ _ (every-at (closedTests c) 0 e)) (eqb-true _ _ (every-at (closedTests c) 1 e))
-      (zeros-is (c .key) keyRoom lk (every-at (closedTests c) 4 e)) (eqb-true _ _ (every-at (closedTests c) 2 e))
-      (zeros-is (c .vector) vectorOctets lv (every-at (closedTests c) 5 e)) (not-true _ (every-at (closedTests c) 3 e))
+      (zeros-are (c .key) keyRoom lk (every-at (closedTests c) 4 e)) (eqb-true _ _ (every-at (closedTests c) 2 e))
+      (zeros-are (c .vector) vectorOctets lv (every-at (closedTests c) 5 e)) (not-true _ (every-at (closedTests c) 3 e))
 
   pub written-read : c ≡ written (standing c)
   written-read = go (good-stands c good)

@@ -13,19 +13,11 @@ use Rattle.voice.specs.declared.call.Call.{Call}
 use Rattle.voice.specs.Frame.{words, wordBits, speechBits, frameOctets, slotBits, has, keyBit, ofSlot}
 use Rattle.voice.specs.Call.{Standing, closed, bad, sending, receiving, standing, isBad, stands}
 use Rattle.voice.specs.Slot.{voiceRefusals, inSlot, voiceAfter, voiceOf}
-use Rattle.voice.proofs.FrameLaws.{protect-bit, protect-stays, keyBit-spare, keyBit-other}
+use Rattle.voice.proofs.FrameLaws.{protect-bit, protect-stays, keyBit-spare, keyBit-other, keyBit-speech}
 use Rattle.voice.proofs.CallLaws.{Stands, none, sender, receiver, good-stands, good-by}
 
 sum : (a b n : ℕ) → a + (b + n) ≡ a + b + n
 sum a b n = omega arith
-
--- a speech bit's own bit of the slot
-keyBit-speech : (slot : ℕ → ℕ) (mask w j : ℕ) → j < speechBits → has mask w ≡ true → keyBit slot mask (wordBits * w + j) ≡ slot (speechBits * w + j)
-unfolding keyBit
-keyBit-speech slot mask w j h e =
-    let q : (wordBits * w + j) / wordBits ≡ w = omega arith in
-    let r : (wordBits * w + j) % wordBits ≡ j = omega arith in
-    rw (q, r, e, lt-ltb j speechBits h)
 
 module _ (c : Call) (mask : ℕ) (frame : List ℕ) where
   -- the frame afterwards

@@ -15,7 +15,7 @@ ready-right-spec =
     (λ c. search needs)
     (λ c. ready-other _ (search needs) (search needs))
     (λ c κs. search needs)
-    (λ c. ready-short _ (search needs) (search needs) (omega arith))
+    (λ c. ready-short _ (search needs) (search needs) (λ z. omega arith))
     (λ c. search needs)
     (λ c κs. search needs)
     (λ c κs. search needs)
