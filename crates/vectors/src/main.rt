@@ -3,6 +3,7 @@
 mod blocks;
 mod feedback;
 mod nxdn;
+mod slots;
 mod text;
 
 use libc::STDOUT_FILENO;
@@ -16,6 +17,7 @@ enum Set {
     Aes,
     Feedback,
     Nxdn,
+    Slots,
 }
 
 // How many rows of a set were tried, and how many of them held.
@@ -30,6 +32,7 @@ fn holds(set: Set, row: &[u8]) -> bool {
         Set::Aes => blocks::aes_holds(row),
         Set::Feedback => feedback::holds(row),
         Set::Nxdn => nxdn::holds(row),
+        Set::Slots => slots::holds(row),
     }
 }
 
@@ -127,5 +130,10 @@ fn main() {
         Set::Nxdn,
         b"nxdn-known-answers.tsv",
         b"NXDN TS 1-D, 7.2.2 and 7.2.3",
+    );
+    run(
+        Set::Slots,
+        b"voice-slots.tsv",
+        b"Voice slots past the first, by an independent model and OpenSSL",
     );
 }
