@@ -12,6 +12,7 @@ use lib.ListN.{length, getD, drop, length-take, length-drop, List·getD-eq-defau
 use lib.Seq.{getD-take, getD-drop}
 use Rattle.octets.specs.Tests.{pick}
 use Rattle.octets.specs.Bits.{bit, flip, Octets}
+use Rattle.octets.proofs.TestLaws.{and-false-r, and-left}
 use Rattle.octets.proofs.BitLaws.{flip-flip, flip-lt, flip-zero, bit-lt, bit-octetsFrom, length-octetsFrom, octets-octetsFrom, octets-ext}
 use Rattle.voice.specs.Frame.{wordOctets, wordBits, speechBits, frameOctets, slotBits, IsFrame, word, has, keyBit, protect}
 
@@ -48,11 +49,7 @@ module _ (slot : ℕ → ℕ) (mask : ℕ) where
 
   pub keyBit-other : (k : ℕ) → has mask (k / wordBits) ≡ false → keyBit slot mask k ≡ 0
   unfolding keyBit
-  keyBit-other k e = go (ltb (k % wordBits) speechBits) (has mask (k / wordBits)) e
-    where
-      go : (a b : Bool) → b ≡ false → pick (a && b) (slot (speechBits * (k / wordBits) + k % wordBits)) 0 ≡ 0
-      go true b e = rw e
-      go false b e = refl
+  keyBit-other k e = rw (e, and-false-r (ltb (k % wordBits) speechBits))
 
   -- and such a bit stays as it came
   pub protect-stays : (frame : List ℕ) (k : ℕ) → k < 8 * frameOctets → keyBit slot mask k ≡ 0 → bit (protect slot mask frame) k ≡ bit frame k
@@ -103,17 +100,17 @@ word-stays slot mask w frame f h e =
     long : length (word w (protect slot mask frame)) ≡ wordOctets
     long = word-long w (protect slot mask frame) h (g .long)
 
+picked : (t : Bool) (x y : ℕ) → (t ≡ true → x ≡ y) → pick t x 0 ≡ pick t y 0
+picked true x y h = h refl
+picked false x y h = refl
+
 -- a slot rests on its 196 bits alone
 module _ (one two : ℕ → ℕ) (mask : ℕ) (same : (n : ℕ) → n < slotBits → one n ≡ two n) where
   keyBit-same : (k : ℕ) → k < 8 * frameOctets → keyBit one mask k ≡ keyBit two mask k
   unfolding keyBit
-  keyBit-same k h = go (ltb (k % wordBits) speechBits) refl (has mask (k / wordBits))
-    where
-      go : (s : Bool) → ltb (k % wordBits) speechBits ≡ s → (t : Bool)
-          → pick (s && t) (one (speechBits * (k / wordBits) + k % wordBits)) 0 ≡ pick (s && t) (two (speechBits * (k / wordBits) + k % wordBits)) 0
-      go true e true = let l = ltb-true (k % wordBits) speechBits e in same (speechBits * (k / wordBits) + k % wordBits) (omega arith)
-      go true e false = refl
-      go false e t = refl
+  keyBit-same k h =
+      picked (ltb (k % wordBits) speechBits && has mask (k / wordBits)) _ _
+      (λ e. let l = ltb-true (k % wordBits) speechBits (and-left (ltb (k % wordBits) speechBits) (has mask (k / wordBits)) e) in same _ (omega arith))
 
   pub protect-same : (frame : List ℕ) → protect one mask frame ≡ protect two mask frame
   protect-same frame =

@@ -4,13 +4,13 @@ use mathlib.Core.Bool.{Bool, true, false, not, true≢false}
 use mathlib.Core.List.{List}
 use Prim.Native.Nat.{ℕ, _+_, _*_, _/_, _%_, _≤_, _<_}
 use native.Mathlib.Omega.{arith}
-use borrow.Author.Tests.{eq-eqb, lt-ltb}
+use borrow.Author.Tests.{eq-eqb}
 use Rattle.octets.specs.Bits.{bit, flip}
 use Rattle.answers.specs.Numbers.{numberOf}
 use Rattle.answers.proofs.OutcomeLaws.{NoneHolds, neverDone, among-not-done, by-refusals}
 use Rattle.ciphers.specs.Keystream.{stream}
 use Rattle.voice.specs.declared.call.Call.{Call}
-use Rattle.voice.specs.Frame.{words, wordBits, speechBits, frameOctets, slotBits, has, keyBit, ofSlot}
+use Rattle.voice.specs.Frame.{words, wordBits, speechBits, frameOctets, slotBits, has, ofSlot}
 use Rattle.voice.specs.Call.{Standing, closed, bad, sending, receiving, standing, isBad, stands}
 use Rattle.voice.specs.Slot.{voiceRefusals, inSlot, voiceAfter, voiceOf}
 use Rattle.voice.proofs.FrameLaws.{protect-bit, protect-stays, keyBit-spare, keyBit-other, keyBit-speech}
