@@ -1,16 +1,28 @@
 -- Laws of every outcome, whatever it refuses and leaves. Assumes nothing.
 use mathlib.Core.Path.{_≡_, refl, sym, ap, _∙_}
-use Prim.Native.Nat.{ℕ, zero, suc}
+use Prim.Native.Nat.{ℕ, zero, suc, _≤_, _<_}
+use native.Mathlib.Omega.{arith}
 use mathlib.Core.Logic.{_⊎_, inl, inr}
 use mathlib.Core.Bool.{Bool, true, false, _&&_, not, true≢false}
 use mathlib.Core.List.{[], _∷_, _++_, append-nil}
-use borrow.Author.Tests.{not-true}
+use borrow.Author.Tests.{not-true, eq-eqb, ne-eqb}
 use Rattle.octets.specs.Tests.{pick}
 use Rattle.octets.proofs.TestLaws.{and-left, and-right}
 use Rattle.answers.specs.declared.Answer.{Answer}
 use Rattle.answers.specs.declared.Answer.the-variants.{Done}
-use Rattle.answers.specs.Numbers.{isDone}
+use Rattle.answers.specs.Numbers.{numberOf, isDone}
 use Rattle.answers.specs.Outcomes.{Refusals, settled, outcome}
+
+-- an answer that is done, by its number
+pub is-done : (a : Answer) {n : ℕ} → n ≡ numberOf a → n ≡ 0 → isDone a ≡ true
+is-done a p q = eq-eqb (numberOf a) 0 (sym p ∙ q)
+
+pub not-done : (a : Answer) {n : ℕ} → n ≡ numberOf a → (n ≡ 0 → ⊥) → isDone a ≡ false
+not-done a p q = ne-eqb (numberOf a) 0 (λ e. q (p ∙ e))
+
+-- an answer that changes nothing: 2 and up
+abbrev pub Refusal : Answer → Type 0
+Refusal a = 2 ≤ numberOf a
 
 -- no test holds
 abbrev pub NoneHolds : Refusals → Type 0
@@ -55,6 +67,11 @@ module _ {S : Type 0} where
       → (settled before rs last .0 ≡ last .0 → ⊥) → settled before rs last .1 ≡ before
   refusal-keeps before rs last =
       by-refusals (λ o. (o .0 ≡ last .0 → ⊥) → o .1 ≡ before) before rs last (λ a m n. refl) (λ h n. absurd (n refl))
+
+  -- so, where the last answer is 0 or 1, any other
+  pub keeps : (before : S) (rs : Refusals) (last : Answer × S) → numberOf (last .0) < 2
+      → Refusal (settled before rs last .0) → settled before rs last .1 ≡ before
+  keeps before rs last l = by-refusals (λ o. Refusal (o .0) → o .1 ≡ before) before rs last (λ a m h. refl) (λ n h. absurd (omega arith))
 
   -- an outcome settles both the answer and what is left: any two that meet one equation are equal
   pub one-outcome : {o : Answer × S} (a b : Answer) (x y : S) → (a, x) ≡ o → (b, y) ≡ o → (a ≡ b) × (x ≡ y)

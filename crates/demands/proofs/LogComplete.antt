@@ -6,7 +6,7 @@ use Prim.Native.Nat.{ℕ}
 use lib.ListN.{drop}
 use Rattle.octets.specs.Tests.{pick}
 use Rattle.answers.specs.Numbers.{numberOf}
-use Rattle.voice.specs.Ladder.{scrambles}
+use Rattle.session.specs.Session.{scrambles}
 use Rattle.voice.specs.Opening.{superframeSlots}
 use Rattle.demands.specs.History.{Slot, Session, Talk, Entry, opening, joining, Each, Kept, HasKey}
 use Rattle.demands.specs.Log.{Receiver, Report, counts, reports, next, slotsLog, slotsEnd, started, sessionsLog, firstLog, firstVector, talkLog}

@@ -22,13 +22,15 @@ use Rattle.answers.specs.declared.Answer.the-variants.{Done}
 use Rattle.keybook.proofs.GoodLaws.{good-sized}
 use Rattle.voice.specs.declared.call.Call.{Call}
 use Rattle.voice.specs.Frame.{ofSlot, protect}
-use Rattle.voice.specs.Ladder.{noVector, scrambles, keyFor, keyRefusals, zeroFor, vectorRefusals}
+use Rattle.session.specs.Session.{noVector, scrambles, sessionVector}
+use Rattle.session.specs.Ladder.{keyFor, keyRefusals, zeroFor, vectorRefusals}
 use Rattle.voice.specs.Call.{vectorRight, noCall, sending, standing, written}
-use Rattle.voice.specs.Opening.{sessionVector, openRefusals, startOf}
+use Rattle.voice.specs.Opening.{openRefusals, startOf}
 use Rattle.voice.specs.Slot.{goingOn, sent, zeroAfter, voiceOf}
 use Rattle.voice.specs.Vector.{nextRefusals, nextVectorOf}
 use Rattle.voice.proofs.FrameLaws.{protect-same, protect-frame}
-use Rattle.voice.proofs.GoodLaws.{good-open, read-written, no-vector-zero}
+use Rattle.session.proofs.SessionLaws.{no-vector-zero}
+use Rattle.voice.proofs.GoodLaws.{good-open, read-written}
 use Rattle.voice.proofs.SlotSteps.{voice-sent}
 use Rattle.demands.specs.History.{Slot, SlotKept, SlotsKept, VectorKept, SessionKept, Each, Full, Kept, HasKey, Entry}
 use Rattle.demands.specs.Log.{talkLog}

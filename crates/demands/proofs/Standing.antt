@@ -24,14 +24,16 @@ use Rattle.keybook.specs.Operations.{entryFor}
 use Rattle.keybook.proofs.GoodLaws.{good-sized, good-entry, found-for}
 use Rattle.voice.specs.declared.call.Call.{Call}
 use Rattle.voice.specs.Frame.{ofSlot, protect}
-use Rattle.voice.specs.Ladder.{noVector, scrambles, keyFor, keyRefusals, zeroFor, vectorRefusals}
-use Rattle.voice.specs.Call.{keyRight, vectorRight, noCall, Standing, closed, receiving, standing, written}
-use Rattle.voice.specs.Opening.{superframeSlots, sessionVector, joinRefusals, openRefusals, openOf, joined, joinOf}
+use Rattle.session.specs.Session.{noVector, scrambles, sessionVector, keyRight}
+use Rattle.session.specs.Ladder.{keyFor, keyRefusals, zeroFor, vectorRefusals}
+use Rattle.voice.specs.Call.{vectorRight, noCall, Standing, closed, receiving, standing, written}
+use Rattle.voice.specs.Opening.{superframeSlots, joinRefusals, openRefusals, openOf, joined, joinOf}
 use Rattle.voice.specs.Slot.{received, lostRefusals, lostOf, voiceOf}
 use Rattle.voice.specs.Vector.{announceRefusals, announceOf}
 use Rattle.voice.proofs.FrameLaws.{protect-same, protect-twice}
-use Rattle.voice.proofs.GoodLaws.{closed-good, good-open, read-written, no-vector-zero, fresh-right}
-use Rattle.voice.proofs.OpeningGood.{key-right}
+use Rattle.session.proofs.SessionLaws.{no-vector-zero}
+use Rattle.session.proofs.ReadyLaws.{key-right}
+use Rattle.voice.proofs.GoodLaws.{closed-good, good-open, read-written, fresh-right}
 use Rattle.voice.proofs.SlotSteps.{voice-heard, voice-held}
 use Rattle.demands.specs.History.{Slot, SlotKept, VectorKept, HasKey}
 use Rattle.demands.specs.Log.{counts, started}

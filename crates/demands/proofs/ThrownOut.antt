@@ -16,7 +16,7 @@ use Rattle.answers.specs.declared.Answer.the-variants.{Done}
 use Rattle.answers.specs.Numbers.{numberOf}
 use Rattle.voice.specs.declared.call.Call.{Call}
 use Rattle.voice.specs.Frame.{word, keyBit, ofSlot, protect}
-use Rattle.voice.specs.Ladder.{noVector}
+use Rattle.session.specs.Session.{noVector}
 use Rattle.voice.specs.Call.{noCall}
 use Rattle.voice.specs.Opening.{openOf}
 use Rattle.voice.specs.Slot.{lostOf, voiceOf}

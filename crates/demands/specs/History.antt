@@ -12,7 +12,8 @@ use Rattle.keyentry.specs.Entry.{keyRoom, isReady}
 use Rattle.keybook.specs.Book.{goodBook}
 use Rattle.keybook.specs.Operations as book
 use Rattle.voice.specs.Frame.{IsFrame, has}
-use Rattle.voice.specs.Ladder.{vectorOctets, scrambles, keyFor}
+use Rattle.session.specs.Session.{vectorOctets, scrambles}
+use Rattle.session.specs.Ladder.{keyFor}
 
 -- a slot: its mask, the frame of four words that the sender spoke, the frame that it put on the air, and whether that arrived
 pub record Slot : Type 0 where

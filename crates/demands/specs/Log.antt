@@ -4,7 +4,7 @@ use mathlib.Core.Bool.{Bool, true, false, _&&_, _||_, not}
 use Prim.Native.Nat.{ℕ}
 use lib.ListN.{drop}
 use Rattle.answers.specs.declared.Answer.{Answer}
-use Rattle.voice.specs.Ladder.{noVector, scrambles}
+use Rattle.session.specs.Session.{noVector, scrambles}
 use Rattle.voice.specs.Opening.{superframeSlots}
 use Rattle.demands.specs.History.{Slot, Session, Talk, Entry, opening, joining}
 

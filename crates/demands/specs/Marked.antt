@@ -18,7 +18,7 @@ use Rattle.keybook.specs.Book.{bookOctets}
 use Rattle.keybook.specs.Operations.{finishOf}
 use Rattle.voice.specs.declared.call.Call.{Call}
 use Rattle.voice.specs.Frame.{frameOctets}
-use Rattle.voice.specs.Ladder.{vectorOctets, noVector}
+use Rattle.session.specs.Session.{vectorOctets, noVector}
 use Rattle.voice.specs.Call.{noCall, receiving, written}
 use Rattle.voice.specs.Opening.{openOf, joinOf}
 use Rattle.voice.specs.Slot.{topMask, voiceOf}

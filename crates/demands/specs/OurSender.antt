@@ -8,7 +8,7 @@ use Rattle.octets.specs.Bits.{Octets}
 use Rattle.octets.specs.Lists.{allZero}
 use Rattle.voice.specs.declared.call.Call.{Call}
 use Rattle.voice.specs.Frame.{IsFrame}
-use Rattle.voice.specs.Ladder.{vectorOctets, scrambles}
+use Rattle.session.specs.Session.{vectorOctets, scrambles}
 use Rattle.voice.specs.Call.{noCall}
 use Rattle.voice.specs.Opening.{startOf}
 use Rattle.voice.specs.Slot.{voiceOf}

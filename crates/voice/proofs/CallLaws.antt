@@ -2,11 +2,9 @@
 use mathlib.Core.Path.{_≡_, refl, sym, ap, _∙_}
 use mathlib.Core.Bool.{Bool, true, false, _||_, not, true≢false}
 use mathlib.Core.List.{List}
-use Prim.Native.Nat.{ℕ, zero, suc, _-_, _≤_, _<_}
+use Prim.Native.Nat.{ℕ, zero, suc, _≤_, _<_}
 use native.Mathlib.Omega.{arith}
-use lib.ListN.{length, take, drop}
 use borrow.Author.Tests.{eq-eqb, ne-eqb, eqb-true, leb-true, ltb-true}
-use borrow.Rule.Slice.PartAt.{part-to-end}
 use Rattle.octets.specs.Tests.{pick}
 use Rattle.octets.specs.Lists.{allZero}
 use Rattle.octets.proofs.TestLaws.{every-at}
@@ -14,12 +12,8 @@ use Rattle.ciphers.specs.Numbers.{sessionSlots}
 use Rattle.answers.specs.declared.Answer.the-variants.{Done}
 use Rattle.answers.proofs.OutcomeLaws.{NoneHolds, none-settles, Refuses, answerAt, refused-at}
 use Rattle.voice.specs.declared.call.Call.{Call}
-use Rattle.voice.specs.Call.{closedEnd, sendingEnd, receivingEnd, keyRight, vectorRight, closedTests, openTests, isClosed, isOpen, goodCall, Standing, closed, bad, sending, receiving, standing, written, isBad, stands, receives, endRefusals, endOf}
-
--- ---- the rules
-
-pub zeros-past : (key : List ℕ) (room n : ℕ) → length key ≡ room → allZero (take (room - n) (drop n key)) ≡ allZero (drop n key)
-zeros-past key room n e = ap (λ (m : ℕ). allZero (take (m - n) (drop n key))) (sym e) ∙ ap allZero (part-to-end key n)
+use Rattle.session.specs.Session.{keyRight}
+use Rattle.voice.specs.Call.{closedEnd, sendingEnd, receivingEnd, vectorRight, closedTests, openTests, isClosed, isOpen, goodCall, Standing, closed, bad, sending, receiving, standing, written, isBad, stands, receives, endRefusals, endOf}
 
 -- ---- what a struct stands for
 

@@ -17,8 +17,9 @@ use Rattle.keyentry.specs.Entry as entry
 use Rattle.keybook.specs.Book as book
 use Rattle.voice.specs.declared.call.Call.{Call}
 use Rattle.voice.specs.Frame.{frameOctets, keyBit, ofSlot, protect}
-use Rattle.voice.specs.Ladder.{vectorOctets, noVector, keyRefusals, zeroFor, vectorRefusals}
-use Rattle.voice.specs.Call.{keyRight, vectorRight, closedTests, openTests, isClosed, isOpen, goodCall, noCall, sending, receiving, standing, written}
+use Rattle.session.specs.Session.{vectorOctets, noVector, keyRight}
+use Rattle.session.specs.Ladder.{keyRefusals, zeroFor, vectorRefusals}
+use Rattle.voice.specs.Call.{vectorRight, closedTests, openTests, isClosed, isOpen, goodCall, noCall, sending, receiving, standing, written}
 use Rattle.voice.specs.Opening.{joinRefusals, openRefusals, openOf, joinOf}
 use Rattle.voice.specs.Slot.{received, topMask, voiceOf}
 use Rattle.voice.specs.Vector.{announceRefusals, announceOf}

@@ -20,10 +20,11 @@ use Rattle.answers.specs.Outcomes.{Refusals, settled}
 use Rattle.answers.proofs.OutcomeLaws.{NoneHolds, by-refusals}
 use Rattle.voice.specs.declared.call.Call.{Call}
 use Rattle.keyentry.specs.Entry.{keyRoom}
-use Rattle.voice.specs.Ladder.{vectorOctets, noVector, scrambles}
-use Rattle.voice.specs.Call.{keyRight, vectorRight, closedTests, openTests, isClosed, isOpen, goodCall, noCall, Standing, closed, bad, sending, receiving, standing, written, isBad, receives, endRefusals, endOf}
+use Rattle.session.specs.Session.{vectorOctets, noVector, scrambles, keyRight}
+use Rattle.voice.specs.Call.{vectorRight, closedTests, openTests, isClosed, isOpen, goodCall, noCall, Standing, closed, bad, sending, receiving, standing, written, isBad, receives, endRefusals, endOf}
 use Rattle.voice.specs.Slot.{goingOn, received, sent, slotOn, lostRefusals, lostOf, zeroAfter, zeroNext, voiceRefusals, voiceAfter, voiceOf}
 use Rattle.voice.specs.Vector.{awaits, told, announceRefusals, announceOf}
+use Rattle.session.proofs.SessionLaws.{no-vector-zero}
 use Rattle.voice.proofs.CallLaws.{open-place, open-key, open-vector, Stands, none, sender, receiver, good-stands, is-sender, is-receiver}
 
 -- ---- written, then read
@@ -89,10 +90,6 @@ module _ (c : Call) (lk : length (c .key) ≡ keyRoom) (lv : length (c .vector) 
           call-is c (written (receiving (c .cipher) (c .key) (c .position) (c .known) (c .vector))) e refl refl refl refl refl ∙ ap written (sym s)
 
 -- ---- a slot on
-
-pub no-vector-zero : allZero noVector ≡ true
-unfolding allZero allBelow
-no-vector-zero = refl
 
 -- scramble's vector, and one that is unknown
 pub fresh-right : (c : ℕ) → vectorRight 2 c (scrambles c) (allZero noVector) ≡ true

@@ -1,6 +1,5 @@
 pub mod FrameLaws
 pub mod WordLaws
-pub mod LadderLaws
 pub mod CallLaws
 pub mod OpeningLaws
 pub mod SlotLaws

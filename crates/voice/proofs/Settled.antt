@@ -9,11 +9,12 @@ use Rattle.answers.specs.declared.Answer.{Answer}
 use Rattle.answers.specs.declared.Answer.the-variants.{Done}
 use Rattle.answers.specs.Numbers.{numberOf}
 use Rattle.answers.specs.Outcomes.{Refusals, settled}
-use Rattle.answers.proofs.OutcomeLaws.{by-refusals, one-outcome}
+use Rattle.answers.proofs.OutcomeLaws.{Refusal, keeps, one-outcome}
 use Rattle.voice.specs.declared.call.Call.{Call}
-use Rattle.voice.specs.Ladder.{keyFor}
+use Rattle.session.specs.Session.{sessionVector}
+use Rattle.session.specs.Ladder.{keyFor}
 use Rattle.voice.specs.Call.{Standing, closed, bad, sending, receiving, standing, written, endRefusals, endOf}
-use Rattle.voice.specs.Opening.{sessionVector, joinRefusals, openRefusals, openOf, startOf, joined, joinOf}
+use Rattle.voice.specs.Opening.{joinRefusals, openRefusals, openOf, startOf, joined, joinOf}
 use Rattle.voice.specs.Slot.{slotOn, lostRefusals, lostOf, voiceRefusals, voiceAfter, voiceOf}
 use Rattle.voice.specs.Vector.{told, announceRefusals, announceOf, following, nextRefusals, nextVectorOf}
 
@@ -48,14 +49,6 @@ pub one-next : (a b : Answer) (f g : List ℕ) (c : Call) (out : List ℕ) → (
 one-next a b f g c out = one-outcome a b f g
 
 -- ---- a refusal changes nothing
-
--- 2 and up
-abbrev pub Refusal : Answer → Type 0
-Refusal a = 2 ≤ numberOf a
-
-keeps : {S : Type 0} (before : S) (rs : Refusals) (last : Answer × S) → numberOf (last .0) < 2
-    → Refusal (settled before rs last .0) → settled before rs last .1 ≡ before
-keeps before rs last l = by-refusals (λ o. Refusal (o .0) → o .1 ≡ before) before rs last (λ a m h. refl) (λ n h. absurd (omega arith))
 
 module _ (c : Call) where
   pub end-keeps : Refusal (endOf c .0) → endOf c .1 ≡ c

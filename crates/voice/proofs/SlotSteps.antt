@@ -19,7 +19,7 @@ use Rattle.answers.specs.declared.Answer.{Answer}
 use Rattle.answers.specs.declared.Answer.the-variants.{Done, Held}
 use Rattle.voice.specs.declared.call.Call.{Call}
 use Rattle.voice.specs.Frame.{frameOctets, slotBits, IsFrame, ofSlot, protect}
-use Rattle.voice.specs.Ladder.{scrambles}
+use Rattle.session.specs.Session.{scrambles}
 use Rattle.voice.specs.Call.{closedEnd, sendingEnd, receivingEnd, goodCall, sending, receiving, standing, written}
 use Rattle.voice.specs.Slot.{received, sent, topMask, zeroAfter, voiceRefusals, inSlot, voiceOf}
 use Rattle.voice.proofs.FrameLaws.{protect-same, protect-none}

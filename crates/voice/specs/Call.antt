@@ -3,17 +3,16 @@ use mathlib.Core.List.{List, [], _∷_}
 use mathlib.Core.Bool.{Bool, true, false, _&&_, _||_, not}
 use Prim.Native.Nat.{ℕ}
 use lib.Dec.{ltb, leb, eqb}
-use lib.ListN.{drop, replicate}
+use lib.ListN.{replicate}
 use Rattle.octets.specs.Tests.{pick, every}
 use Rattle.octets.specs.Lists.{allZero}
-use Rattle.ciphers.specs.Numbers.{keyOctets, sessionSlots}
-use Rattle.ciphers.specs.Keys.{keyAllowed}
+use Rattle.ciphers.specs.Numbers.{sessionSlots}
 use Rattle.answers.specs.declared.Answer.{Answer}
 use Rattle.answers.specs.declared.Answer.the-variants.{Bad, NotNow}
 use Rattle.answers.specs.Outcomes.{Refusals, outcome}
 use Rattle.keyentry.specs.Entry.{keyRoom}
 use Rattle.voice.specs.declared.call.Call.{Call}
-use Rattle.voice.specs.Ladder.{noVector, scrambles}
+use Rattle.session.specs.Session.{noVector, scrambles, keyRight}
 
 -- ---- the numbers of the struct
 
@@ -27,10 +26,6 @@ abbrev pub receivingEnd : ℕ
 receivingEnd = 2
 
 -- ---- the rules
-
--- an allowed key, and nothing past its length
-unfoldable pub keyRight : ℕ → List ℕ → Bool
-keyRight cipher key = keyAllowed cipher key && allZero (drop (keyOctets cipher) key)
 
 -- a scramble vector is always known and zeros; a sender's DES or AES vector is known and not zero; an unknown one is kept as zeros
 unfoldable pub vectorRight : ℕ → ℕ → Bool → Bool → Bool

@@ -1,5 +1,4 @@
 pub mod Frame
-pub mod Ladder
 pub mod Call
 pub mod Opening
 pub mod Slot

@@ -6,16 +6,13 @@ use Rattle.octets.specs.Tests.{pick}
 use Rattle.answers.specs.declared.Answer.{Answer}
 use Rattle.answers.specs.Outcomes.{Refusals, outcome}
 use Rattle.voice.specs.declared.call.Call.{Call}
-use Rattle.voice.specs.Ladder.{noVector, scrambles, keyFor, keyRefusals, vectorRefusals}
-use Rattle.voice.specs.Call.{Standing, sending, receiving, standing, written, isBad, stands}
+use Rattle.session.specs.Session.{noVector, scrambles, sessionVector}
+use Rattle.session.specs.Ladder.{keyFor, keyRefusals, vectorRefusals}
+use Rattle.voice.specs.Call.{sendingEnd, receivingEnd, Standing, receiving, standing, written, isBad, stands}
 
 -- the slots of a superframe
 abbrev pub superframeSlots : ℕ
 superframeSlots = 4
-
--- a vector for a session: scramble ignores it
-abbrev pub sessionVector : ℕ → List ℕ → List ℕ
-sessionVector c w = pick (scrambles c) noVector w
 
 -- 2, 3, 4 of the call, 9 while a call stands, 4 of the book, 5, 6
 unfoldable pub joinRefusals : Standing → ℕ → ℕ → List ℕ → Refusals
@@ -29,16 +26,15 @@ openRefusals s c i w b = vectorRefusals (isBad s) (stands s) c i w b
 abbrev pub begun : ℕ → ℕ → List ℕ → List ℕ → Call
 begun end c w k = record { end = end; cipher = c; key = k; position = 0; vector = sessionVector c w; known = true }
 
-unfoldable pub begunOf : ℕ → Call → ℕ → ℕ → List ℕ → List ℕ → Answer × Call
+abbrev pub begunOf : ℕ → Call → ℕ → ℕ → List ℕ → List ℕ → Answer × Call
 begunOf end call c i w b = outcome call (openRefusals (standing call) c i w b) (begun end c w (keyFor b c i))
 
--- a receiver at position 0, vector known
 unfoldable pub openOf : Call → ℕ → ℕ → List ℕ → List ℕ → Answer × Call
-openOf call c i w b = outcome call (openRefusals (standing call) c i w b) (written (receiving c (keyFor b c i) 0 true (sessionVector c w)))
+openOf = begunOf receivingEnd
 
 -- a sender takes what open takes
 unfoldable pub startOf : Call → ℕ → ℕ → List ℕ → List ℕ → Answer × Call
-startOf call c i w b = outcome call (openRefusals (standing call) c i w b) (written (sending c (keyFor b c i) 0 (sessionVector c w)))
+startOf = begunOf sendingEnd
 
 -- a receiver at the end of a first superframe: scramble is at position 0 and running; DES and AES are at position 4, vector unknown
 abbrev pub joined : ℕ → List ℕ → Standing

@@ -14,7 +14,7 @@ use Rattle.ciphers.specs.Keystream.{stream}
 use Rattle.generator.specs.Generator.{nextVector}
 use Rattle.voice.specs.declared.call.Call.{Call}
 use Rattle.voice.specs.Frame.{words, frameOctets, ofSlot, protect}
-use Rattle.voice.specs.Ladder.{noVector, scrambles}
+use Rattle.session.specs.Session.{noVector, scrambles}
 use Rattle.voice.specs.Call.{Standing, closed, bad, sending, receiving, standing, written, isBad, stands, receives}
 
 -- ---- a slot on

@@ -1,15 +1,15 @@
 // A call by value, the rules that a good one keeps, and its end.
 ghost use mathlib.Core.Path.{_≡_};
-ghost use Rattle.voice.specs.Call.{vectorRight, keyRight, isClosed, isOpen, goodCall, noCall, endOf};
-use crate::ladder::VECTOR_OCTETS;
+ghost use Rattle.session.specs.Session.{keyRight};
+ghost use Rattle.voice.specs.Call.{vectorRight, isClosed, isOpen, goodCall, noCall, endOf};
 use answers::Answer;
 use ciphers::cipher::Scramble;
-use ciphers::cipher::key_octets;
 use ciphers::cipher::session_slots;
-use ciphers::key::key_allowed;
 use keyentry::KEY_ROOM;
 use octets::all_zero;
 use octets::wide;
+use session::VECTOR_OCTETS;
+use session::key_right;
 
 pub const CLOSED: u8 = 0;
 
@@ -54,17 +54,6 @@ fn vector_right(end: u8, cipher: u8, known: bool, zeros: bool) -> bool
         return true;
     }
     zeros
-}
-
-// Whether the key is allowed, and zero past its length.
-fn key_right(cipher: u8, key: [u8; KEY_ROOM]) -> bool
-    ensures { λ r. ⌜ r ≡ keyRight cipher key ⌝ }
-{
-    if !key_allowed(cipher, &key) {
-        return false;
-    }
-    let length = key_octets(cipher);
-    all_zero(&key[length..])
 }
 
 fn is_closed(call: Call) -> bool

@@ -1,7 +1,6 @@
 // Voice, sending and receiving: a call by value, how it begins and ends, its slots and its vectors.
 pub mod call;
 pub mod frame;
-pub mod ladder;
 pub mod opening;
 pub mod slot;
 pub mod vector;

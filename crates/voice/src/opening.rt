@@ -1,37 +1,24 @@
 // How a call begins: open, join and start. The call has its own copy of the key.
 ghost use mathlib.Core.Path.{_≡_};
 ghost use lib.ListN.{length};
-ghost use Rattle.voice.specs.Ladder.{vectorOctets};
+ghost use Rattle.session.specs.Session.{vectorOctets, sessionVector};
 ghost use Rattle.voice.specs.Call.{written};
-ghost use Rattle.voice.specs.Opening.{sessionVector, joined, joinOf, begunOf, openOf, startOf};
+ghost use Rattle.voice.specs.Opening.{joined, joinOf, begunOf, openOf, startOf};
 use crate::call::CLOSED;
 use crate::call::Call;
 use crate::call::RECEIVING;
 use crate::call::SENDING;
 use crate::call::Stepped;
 use crate::call::good_call;
-use crate::ladder::VECTOR_OCTETS;
-use crate::ladder::opening_key;
-use crate::ladder::opening_key_with;
 use answers::Answer;
 use ciphers::cipher::Scramble;
 use keyentry::KEY_ROOM;
-use octets::copy;
+use session::VECTOR_OCTETS;
+use session::ladder::opening_key;
+use session::ladder::opening_key_with;
+use session::session_vector;
 
 const SUPERFRAME_SLOTS: u8 = 4;
-
-// A lent vector for a session: scramble ignores it.
-fn session_vector(cipher: u8, vector: &[u8]) -> [u8; VECTOR_OCTETS]
-    requires { ⌜ length (now vector) ≡ vectorOctets ⌝ }
-    ensures { λ r. ⌜ r ≡ sessionVector cipher (now (vector .entry)) ⌝ }
-{
-    if cipher == Scramble::TYPE {
-        return [0; VECTOR_OCTETS];
-    }
-    let mut own = [0; VECTOR_OCTETS];
-    copy(vector, &mut own);
-    own
-}
 
 // A call at one of its ends, at position 0 with its vector known.
 fn begin(end: u8, call: Call, cipher: u8, id: u8, vector: &[u8], book: &[u8]) -> Stepped

@@ -16,7 +16,6 @@ use crate::call::good_call;
 use crate::frame::FRAME_OCTETS;
 use crate::frame::SLOT_BITS;
 use crate::frame::turn_frame;
-use crate::ladder::VECTOR_OCTETS;
 use answers::Answer;
 use ciphers::cipher::Scramble;
 use ciphers::cipher::session_slots;
@@ -24,6 +23,7 @@ use ciphers::keystream::keystream;
 use keyentry::KEY_ROOM;
 use octets::all_zero;
 use octets::wide;
+use session::VECTOR_OCTETS;
 
 // The octets that hold a slot's bits.
 const SLOT_OCTETS: usize = (SLOT_BITS + 7) / 8;

@@ -8,11 +8,11 @@ use crate::call::RECEIVING;
 use crate::call::SENDING;
 use crate::call::Stepped;
 use crate::call::good_call;
-use crate::ladder::VECTOR_OCTETS;
 use answers::Answer;
 use ciphers::cipher::Scramble;
 use octets::all_zero;
 use octets::copy;
+use session::VECTOR_OCTETS;
 
 // Whether the call waits for a vector.
 fn is_awaiting(call: Call) -> bool

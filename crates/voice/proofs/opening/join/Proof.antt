@@ -1,5 +1,5 @@
 -- `voice::opening::join` meets its contract. Assumes nothing.
-use Rattle.voice.proofs.LadderLaws.{is-done, not-done}
+use Rattle.answers.proofs.OutcomeLaws.{is-done, not-done}
 use Rattle.voice.proofs.OpeningLaws.{join-refused, join-done}
 use borrow.Author.Needs.{needs}
 use Rattle.voice.proofs.opening.join.Statement.{statement}

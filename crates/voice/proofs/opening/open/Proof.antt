@@ -1,11 +1,11 @@
 -- `voice::opening::open` meets its contract. Assumes nothing.
-use Rattle.voice.specs.Opening.{begunOf, openOf}
+use Rattle.voice.specs.Opening.{openOf}
 use borrow.Author.Needs.{needs}
 use Rattle.voice.proofs.opening.open.Statement.{statement}
 use Rattle.voice.proofs.opening.open.Tie as tie
 
 pub open-spec : {M : Type 1} → statement M
-unfolding begunOf openOf
+unfolding openOf
 open-spec =
     tie.close
     (tie.spec

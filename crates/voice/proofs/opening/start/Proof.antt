@@ -1,11 +1,11 @@
 -- `voice::opening::start` meets its contract. Assumes nothing.
-use Rattle.voice.specs.Opening.{begunOf, startOf}
+use Rattle.voice.specs.Opening.{startOf}
 use borrow.Author.Needs.{needs}
 use Rattle.voice.proofs.opening.start.Statement.{statement}
 use Rattle.voice.proofs.opening.start.Tie as tie
 
 pub start-spec : {M : Type 1} → statement M
-unfolding begunOf startOf
+unfolding startOf
 start-spec =
     tie.close
     (tie.spec

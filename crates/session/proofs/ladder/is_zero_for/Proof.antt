@@ -1,9 +1,9 @@
--- `voice::ladder::is_zero_for` meets its contract. Assumes nothing.
+-- `session::ladder::is_zero_for` meets its contract. Assumes nothing.
 use borrow.Author.Tests.{eq-eqb, ne-eqb}
-use Rattle.voice.specs.Ladder.{zeroFor}
+use Rattle.session.specs.Ladder.{zeroFor}
 use borrow.Author.Needs.{needs}
-use Rattle.voice.proofs.ladder.is_zero_for.Statement.{statement}
-use Rattle.voice.proofs.ladder.is_zero_for.Tie as tie
+use Rattle.session.proofs.ladder.is_zero_for.Statement.{statement}
+use Rattle.session.proofs.ladder.is_zero_for.Tie as tie
 
 pub is-zero-for-spec : {M : Type 1} → statement M
 unfolding zeroFor

@@ -1,13 +1,13 @@
--- `voice::call::key_right` meets its contract. Assumes nothing.
+-- `session::key_right` meets its contract. Assumes nothing.
 use mathlib.Core.Path.{sym, _∙_}
 use native.Mathlib.Omega.{arith}
 use Rattle.ciphers.proofs.NumberLaws.{key-at-most}
 use Rattle.octets.proofs.TestLaws.{fails, holds}
-use Rattle.voice.specs.Call.{keyRight}
-use Rattle.voice.proofs.CallLaws.{zeros-past}
+use Rattle.session.specs.Session.{keyRight}
+use Rattle.session.proofs.SessionLaws.{zeros-past}
 use borrow.Author.Needs.{needs}
-use Rattle.voice.proofs.call.key_right.Statement.{statement}
-use Rattle.voice.proofs.call.key_right.Tie as tie
+use Rattle.session.proofs.key_right.Statement.{statement}
+use Rattle.session.proofs.key_right.Tie as tie
 
 pub key-right-spec : {M : Type 1} → statement M
 unfolding keyRight

@@ -1,6 +1,7 @@
 // What an opening asks, in order, and the one way in which a ready key is taken out of the book: for a call, and as well for a packet.
 ghost use mathlib.Core.Path.{_≡_};
-ghost use Rattle.voice.specs.Ladder.{withoutKey, keyOf, zeroFor, vectorKeyOf};
+ghost use Rattle.session.specs.Ladder.{withoutKey, keyOf, zeroFor, vectorKeyOf};
+use crate::VECTOR_OCTETS;
 use answers::Answer;
 use ciphers::cipher::Scramble;
 use keybook::BOOK_OCTETS;
@@ -9,8 +10,6 @@ use keybook::ready_key;
 use keyentry::KEY_ROOM;
 use keyentry::is_named;
 use octets::all_zero;
-
-pub const VECTOR_OCTETS: usize = 8;
 
 fn refused(answer: Answer) -> Ready
     ensures { λ r. ⌜ (r .answer, r .key) ≡ withoutKey answer ⌝ }

@@ -4,7 +4,7 @@ use mathlib.Core.List.{List, [], _∷_, _++_}
 use mathlib.Core.Bool.{Bool, _&&_, not}
 use Prim.Native.Nat.{ℕ}
 use lib.Dec.{eqb}
-use lib.ListN.{length, replicate}
+use lib.ListN.{length}
 use Rattle.octets.specs.Lists.{allZero}
 use Rattle.answers.specs.declared.Answer.{Answer}
 use Rattle.answers.specs.declared.Answer.the-variants.{WrongLength, OutOfRange, Bad, NoEntry, NotReady, ZeroVector, NotNow}
@@ -12,18 +12,7 @@ use Rattle.answers.specs.Outcomes.{Refusals, outcome}
 use Rattle.keyentry.specs.Entry.{named, isReady, keyIn}
 use Rattle.keybook.specs.Book.{bookOctets, goodBook}
 use Rattle.keybook.specs.Operations.{has, entryFor, noKey}
-
--- the octets of an announced vector
-abbrev pub vectorOctets : ℕ
-vectorOctets = 8
-
--- what stands for a vector that is unknown, or that scramble does not have
-abbrev pub noVector : List ℕ
-noVector = replicate vectorOctets 0
-
--- scramble needs no vector
-abbrev pub scrambles : ℕ → Bool
-scrambles cipher = eqb cipher 1
+use Rattle.session.specs.Session.{vectorOctets, scrambles}
 
 -- the key of the ready entry
 abbrev pub keyFor : List ℕ → ℕ → ℕ → List ℕ

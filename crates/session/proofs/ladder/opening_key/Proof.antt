@@ -1,13 +1,13 @@
--- `voice::ladder::opening_key` meets its contract. Assumes nothing.
+-- `session::ladder::opening_key` meets its contract. Assumes nothing.
 use mathlib.Core.Path.{ap, _∙_}
 use mathlib.Core.Bool.{not}
 use borrow.Author.Tests.{eq-eqb, ne-eqb}
 use Rattle.octets.proofs.TestLaws.{fails, holds}
-use Rattle.voice.specs.Ladder.{keyRefusals}
-use Rattle.voice.proofs.LadderLaws.{key-refused, key-ready}
+use Rattle.session.specs.Ladder.{keyRefusals}
+use Rattle.session.proofs.LadderLaws.{key-refused, key-ready}
 use borrow.Author.Needs.{needs}
-use Rattle.voice.proofs.ladder.opening_key.Statement.{statement}
-use Rattle.voice.proofs.ladder.opening_key.Tie as tie
+use Rattle.session.proofs.ladder.opening_key.Statement.{statement}
+use Rattle.session.proofs.ladder.opening_key.Tie as tie
 
 pub opening-key-spec : {M : Type 1} → statement M
 unfolding keyRefusals

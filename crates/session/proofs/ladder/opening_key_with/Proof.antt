@@ -1,10 +1,11 @@
--- `voice::ladder::opening_key_with` meets its contract. Assumes nothing.
+-- `session::ladder::opening_key_with` meets its contract. Assumes nothing.
 use mathlib.Core.Path.{sym, _∙_}
-use Rattle.voice.specs.Ladder.{vectorRefusals}
-use Rattle.voice.proofs.LadderLaws.{is-done, not-done, key-none, vector-length, vector-key-refused, vector-zero, vector-ready}
+use Rattle.session.specs.Ladder.{vectorRefusals}
+use Rattle.answers.proofs.OutcomeLaws.{is-done, not-done}
+use Rattle.session.proofs.LadderLaws.{key-none, vector-length, vector-key-refused, vector-zero, vector-ready}
 use borrow.Author.Needs.{needs}
-use Rattle.voice.proofs.ladder.opening_key_with.Statement.{statement}
-use Rattle.voice.proofs.ladder.opening_key_with.Tie as tie
+use Rattle.session.proofs.ladder.opening_key_with.Statement.{statement}
+use Rattle.session.proofs.ladder.opening_key_with.Tie as tie
 
 pub opening-key-with-spec : {M : Type 1} → statement M
 unfolding vectorRefusals

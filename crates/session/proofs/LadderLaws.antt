@@ -13,14 +13,8 @@ use Rattle.answers.proofs.OutcomeLaws.{NoneHolds, neverDone, none-first, none-s
 use Rattle.keyentry.specs.Entry.{named}
 use Rattle.keybook.specs.Book.{bookOctets, bookRefusals}
 use Rattle.keybook.specs.Operations.{noKey, notReady, readyRefusals, readyKeyOf}
-use Rattle.voice.specs.Ladder.{vectorOctets, keyFor, keyRefusals, keyOf, zeroFor, vectorRefusals, vectorKeyOf}
-
--- an answer that is done, by its number
-pub is-done : (a : Answer) {n : ℕ} → n ≡ numberOf a → n ≡ 0 → isDone a ≡ true
-is-done a p q = eq-eqb (numberOf a) 0 (sym p ∙ q)
-
-pub not-done : (a : Answer) {n : ℕ} → n ≡ numberOf a → (n ≡ 0 → ⊥) → isDone a ≡ false
-not-done a p q = ne-eqb (numberOf a) 0 (λ e. q (p ∙ e))
+use Rattle.session.specs.Session.{vectorOctets}
+use Rattle.session.specs.Ladder.{keyFor, keyRefusals, keyOf, zeroFor, vectorRefusals, vectorKeyOf}
 
 -- a key that was handed out: nothing refused it, and it is the one of the book
 module _ (rs : Refusals) (key : List ℕ) (never : neverDone rs ≡ true) {o : Answer × List ℕ} (e : o ≡ outcome noKey rs key) where

@@ -1,8 +1,8 @@
--- `voice::opening::session_vector` meets its contract. Assumes nothing.
+-- `session::session_vector` meets its contract. Assumes nothing.
 use borrow.Author.Tests.{eq-eqb, ne-eqb}
 use borrow.Author.Needs.{needs}
-use Rattle.voice.proofs.opening.session_vector.Statement.{statement}
-use Rattle.voice.proofs.opening.session_vector.Tie as tie
+use Rattle.session.proofs.session_vector.Statement.{statement}
+use Rattle.session.proofs.session_vector.Tie as tie
 
 pub session-vector-spec : {M : Type 1} → statement M
 session-vector-spec =

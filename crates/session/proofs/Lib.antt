@@ -1,0 +1,4 @@
+pub mod SessionLaws
+pub mod LadderLaws
+pub mod BegunLaws
+pub mod ReadyLaws

@@ -1,0 +1,74 @@
+-- A ready key of a good book is right: it is whole, allowed, and nothing stands past its length. Assumes nothing.
+use mathlib.Core.Path.{_≡_, sym, ap, _∙_}
+use mathlib.Core.Bool.{Bool, true, _&&_}
+use mathlib.Core.List.{List}
+use Prim.Native.Nat.{ℕ, _-_, _≤_, _<_}
+use native.Mathlib.Omega.{arith}
+use lib.Dec.{leb, eqb}
+use lib.ListN.{length, getD, drop}
+use borrow.Author.Tests.{eqb-true, eq-eqb, leb-true, ltb-true, not-false}
+use Rattle.octets.specs.Lists.{allZero}
+use Rattle.octets.proofs.TestLaws.{and-left, and-right, all-intro}
+use Rattle.ciphers.specs.Numbers.{keyOctets}
+use Rattle.ciphers.specs.Keys.{keyAllowed}
+use Rattle.answers.proofs.OutcomeLaws.{NoneHolds}
+use Rattle.keyentry.specs.Entry.{cipherIn, countIn, readyIn, isReady, keyIn, keyRest, named, lacks, readyRight}
+use Rattle.keyentry.proofs.RightLaws.{zero-at, Used, used-of, for-name}
+use Rattle.keybook.specs.Book.{entries, findEntry, goodBook}
+use Rattle.keybook.specs.Operations.{has, entryFor}
+use Rattle.keybook.proofs.GoodLaws.{good-entry, found-for}
+use Rattle.session.specs.Session.{keyRight}
+use Rattle.session.specs.Ladder.{keyFor, keyRefusals}
+
+named-some : (c i : ℕ) → named c i ≡ true → (1 ≤ c) × (c ≤ 3)
+unfolding named
+named-some c i e = (leb-true 1 c (and-left (leb 1 c) _ e), leb-true c 3 (and-left (leb c 3) _ (and-right (leb 1 c) _ e)))
+
+lacks-none : (a b n : ℕ) → b ≡ n → b - a ≡ 0 → a ≤ b → a ≡ n
+lacks-none a b n e z l = omega arith
+
+module _ (b : List ℕ) (c i : ℕ) (good : goodBook b ≡ true) (ranged : named c i ≡ true) (there : has b c i ≡ true) (ready : isReady (entryFor b c i) ≡ true) where
+  abbrev e : List ℕ
+  e = entryFor b c i
+
+  below : findEntry b c i < entries
+  below = ltb-true _ _ there
+
+  is-cipher : cipherIn e ≡ c
+  is-cipher = for-name e c i (found-for b c i below) .0
+
+  used : Used e
+  used = used-of e (λ z. let q = is-cipher in omega (arith, named-some c i ranged)) (good-entry b good (findEntry b c i) below)
+
+  -- it has its full, allowed key
+  full : (eqb (lacks e) 0 && keyAllowed (cipherIn e) (keyIn e)) ≡ true
+  unfolding readyRight
+  full = rw (eqb-true (readyIn e) 1 ready) at (used .ready)
+
+  allowed : keyAllowed c (keyIn e) ≡ true
+  allowed = rw is-cipher at (and-right (eqb (lacks e) 0) _ full)
+
+  whole : countIn e ≡ keyOctets c
+  unfolding lacks
+  whole =
+      lacks-none (countIn e) (keyOctets (cipherIn e)) (keyOctets c) (ap keyOctets is-cipher)
+      (eqb-true (lacks e) 0 (and-left (eqb (lacks e) 0) _ full)) (used .count)
+
+  rest-zero : (j : ℕ) → getD (drop (keyOctets c) (keyIn e)) j 0 ≡ 0
+  rest-zero j = ap (λ (n : ℕ). getD (drop n (keyIn e)) j 0) (sym whole) ∙ zero-at (keyRest e) (used .rest) j
+
+  pub key-right : keyRight c (keyFor b c i) ≡ true
+  unfolding keyRight allZero
+  key-right =
+      rw allowed
+      (all-intro (λ j. eqb (getD (drop (keyOctets c) (keyIn e)) j 0) 0) (length (drop (keyOctets c) (keyIn e))) (λ j l. eq-eqb _ _ (rest-zero j)))
+
+-- where nothing refuses the key
+module _ (bad busy : Bool) (c i : ℕ) (b : List ℕ) (n : NoneHolds (keyRefusals bad busy c i b)) where
+  pub none-named : (1 ≤ c) × (c ≤ 3)
+  unfolding keyRefusals
+  none-named = named-some c i (not-false _ (n .1 .0))
+
+  pub none-key : keyRight c (keyFor b c i) ≡ true
+  unfolding keyRefusals
+  none-key = key-right b c i (not-false _ (n .1 .1 .1 .1 .0)) (not-false _ (n .1 .0)) (not-false _ (n .1 .1 .1 .1 .1 .0)) (not-false _ (n .1 .1 .1 .1 .1 .1 .0))
