@@ -23,6 +23,9 @@ use Rattle.voice.specs.Call.{noCall, receiving, written}
 use Rattle.voice.specs.Opening.{openOf, joinOf}
 use Rattle.voice.specs.Slot.{topMask, voiceOf}
 use Rattle.voice.specs.Vector.{announceOf}
+use Rattle.data.specs.declared.packet.Packet.{Packet}
+use Rattle.data.specs.Opening.{opened}
+use Rattle.data.specs.Message.{counted, ofMessage, messageOf}
 
 -- scramble key 0001
 abbrev pub key0001 : List ℕ
@@ -62,11 +65,26 @@ abbrev pub frame8001 : List ℕ
 frame8001 =
     0x80 ∷ 0x01 ∷ 0x00 ∷ 0x06 ∷ 0x00 ∷ 0x14 ∷ 0x00 ∷ 0x00 ∷ 0xF0 ∷ 0x02 ∷ 0x20 ∷ 0x0C ∷ 0xC0 ∷ 0x00 ∷ replicate 14 0
 
+-- a scramble packet of DCALL messages under key 0001, before its first
+abbrev pub dcalls : Packet
+dcalls = opened 1 1 noVector scramble0001
+
+-- ABCDEFGHIJKLMNOPQRST, and C143434245524730485A4D2C580E30D150545540
+abbrev pub letters : List ℕ
+letters =
+    0x41 ∷ 0x42 ∷ 0x43 ∷ 0x44 ∷ 0x45 ∷ 0x46 ∷ 0x47 ∷ 0x48 ∷ 0x49 ∷ 0x4A ∷ 0x4B ∷ 0x4C ∷ 0x4D ∷ 0x4E ∷ 0x4F ∷ 0x50 ∷ 0x51 ∷ 0x52 ∷ 0x53 ∷ 0x54 ∷ []
+
+abbrev pub lettersTurned : List ℕ
+lettersTurned =
+    0xC1 ∷ 0x43 ∷ 0x43 ∷ 0x42 ∷ 0x45 ∷ 0x52 ∷ 0x47 ∷ 0x30 ∷ 0x48 ∷ 0x5A ∷ 0x4D ∷ 0x2C ∷ 0x58 ∷ 0x0E ∷ 0x30 ∷ 0xD1 ∷ 0x50 ∷ 0x54 ∷ 0x55 ∷ 0x40 ∷ []
+
 pub record Marked : Type 0 where
   -- scramble key 0001: P0 to P31 are 80010006
   pub example-1 : octetsFrom 4 (P key0001) ≡ 0x80 ∷ 0x01 ∷ 0x00 ∷ 0x06 ∷ []
   -- an all-zero frame, mask 3, that key, slot 0: the frame above
   pub example-2 : voiceOf (scrambling 0) 3 (replicate frameOctets 0) ≡ (Done, (scrambling 1, frame8001))
+  -- "ABCDEFGHIJKLMNOPQRST", that key: C143434245524730485A4D2C580E30D150545540. Whatever the two octets before them
+  pub example-3 : (h0 h1 : ℕ) → messageOf dcalls (h0 ∷ h1 ∷ letters) ≡ (Done, (counted dcalls, h0 ∷ h1 ∷ lettersTurned))
   -- L(ABCDEF1234567890) = 8B8DDEEB890F4CF1
   pub example-4 : nextVector seed ≡ 0x8B ∷ 0x8D ∷ 0xDE ∷ 0xEB ∷ 0x89 ∷ 0x0F ∷ 0x4C ∷ 0xF1 ∷ []
   -- L of that = C83AB2073A8D80E8
@@ -82,6 +100,10 @@ pub record Marked : Type 0 where
   pub example-9 :
       finishNumber 2 (0xAB ∷ 0xCD ∷ 0xEF ∷ 0x01 ∷ 0x23 ∷ 0x45 ∷ 0x67 ∷ 0x89 ∷ [])
       ∷ finishNumber 2 (0xAB ∷ 0xCD ∷ 0xEF ∷ 0x01 ∷ 0x23 ∷ 0x45 ∷ 0x67 ∷ 0x88 ∷ []) ∷ [] ≡ 0 ∷ 7 ∷ []
+  -- the second UPCH message starts at bit 48 of DES block 2, blocks counted from 1. Inbound and outbound, for every key and vector
+  pub example-10 : (key vector : List ℕ)
+      → (ofMessage (stream 2 key vector) 2 1 0 ≡ bit (usedBlock (des key) vector 1) 48)
+      × (ofMessage (stream 2 key vector) 3 1 0 ≡ bit (usedBlock (des key) vector 1) 48)
   -- a DES join, then four voice slots: 1 each; then announce: 0. Announce after three: 9. With any mask, any frame, and any vector that is not zero
   pub example-11 : (joinOf noCall 2 0 bookOfTwo ≡ (Done, waiting 4))
       × ((mask : ℕ) (frame : List ℕ) → mask ≤ topMask → length frame ≡ frameOctets

@@ -8,7 +8,7 @@ use mathlib.Core.Path.{_≡_, refl, sym, ap, subst, _∙_}
 use mathlib.Core.Logic.{⊎-elim}
 use mathlib.Core.List.{List, [], _∷_}
 use lib.ListN.{getD}
-use mathlib.Core.Bool.{Bool, true, false, _&&_, not, true≢false, false≢true}
+use mathlib.Core.Bool.{Bool, true, false, _&&_, _||_, not, true≢false, false≢true}
 use lib.Dec.{eqb}
 use borrow.Author.Tests.{not-true, not-false, eqb-true}
 use Rattle.octets.specs.Tests.{pick, every, allBelow, firstBelow}
@@ -25,6 +25,24 @@ and-left false b e = absurd (false≢true e)
 pub and-right : (a b : Bool) → (a && b) ≡ true → b ≡ true
 and-right true b e = e
 and-right false b e = absurd (false≢true e)
+
+-- what is left of an `||`, where one side fails
+pub or-right : (a b : Bool) → (a || b) ≡ true → (a ≡ true → ⊥) → b ≡ true
+or-right true b e n = absurd (n refl)
+or-right false b e n = e
+
+pub or-left : (a b : Bool) → (a || b) ≡ true → (b ≡ true → ⊥) → a ≡ true
+or-left true b e n = refl
+or-left false b e n = absurd (n e)
+
+-- both sides of an `||` that fails
+pub or-neither : (a b : Bool) → (a || b) ≡ false → (a ≡ false) × (b ≡ false)
+or-neither true b e = absurd (true≢false e)
+or-neither false b e = (refl, e)
+
+pub not-so : (a : Bool) → (a ≡ true → ⊥) → a ≡ false
+not-so true n = absurd (n refl)
+not-so false n = refl
 
 -- what a callee's result r says of a test t, by a test of `!r`
 pub fails : {r t : Bool} → r ≡ t → not r ≡ true → t ≡ false

@@ -64,12 +64,23 @@ module _ (w : ℕ) (ks : ℕ → ℕ) (part : List ℕ) where
       nought : (n : ℕ) → 0 / 2 ^ n % 2 ≡ 0
       nought n = omega (arith, zero-div (2 ^ n))
 
--- by keystreams that agree
+-- by keystreams that agree inside the width
+module _ (w : ℕ) (ks ls : ℕ → ℕ) (e : (k : ℕ) → k < w → ks k ≡ ls k) where
+  within-same : (k : ℕ) → within w ks k ≡ within w ls k
+  within-same k = go (decLt k w)
+    where
+      go : Dec (k < w) → within w ks k ≡ within w ls k
+      go (yes h) = within-in w ks k h ∙ e k h ∙ sym (within-in w ls k h)
+      go (no h) = within-out w ks k (omega arith) ∙ sym (within-out w ls k (omega arith))
+
+  pub turned-within : (part : List ℕ) → turned w ks part ≡ turned w ls part
+  unfolding turned
+  turned-within part =
+      octetsFrom-same (length part) (λ k. flip (bit part k) (within w ks k)) (λ k. flip (bit part k) (within w ls k))
+      (λ k. ap (flip (bit part k)) (within-same k))
+
 pub turned-same : (w : ℕ) (ks ls : ℕ → ℕ) → ((k : ℕ) → ks k ≡ ls k) → (part : List ℕ) → turned w ks part ≡ turned w ls part
-unfolding turned within
-turned-same w ks ls e part =
-    octetsFrom-same (length part) (λ k. flip (bit part k) (within w ks k)) (λ k. flip (bit part k) (within w ls k))
-    (λ k. ap (λ (b : ℕ). flip (bit part k) (pick (ltb k w) b 0)) (e k))
+turned-same w ks ls e = turned-within w ks ls (λ k h. e k)
 
 -- turning twice is nothing
 pub turned-twice : (w : ℕ) (ks : ℕ → ℕ) (part : List ℕ) → Octets part → turned w ks (turned w ks part) ≡ part

@@ -7,7 +7,7 @@ use native.Mathlib.Omega.{arith}
 use borrow.Author.Tests.{eq-eqb, ne-eqb, eqb-true, leb-true, ltb-true}
 use Rattle.octets.specs.Tests.{pick}
 use Rattle.octets.specs.Lists.{allZero}
-use Rattle.octets.proofs.TestLaws.{every-at}
+use Rattle.octets.proofs.TestLaws.{or-right, or-left, not-so, every-at}
 use Rattle.ciphers.specs.Numbers.{sessionSlots}
 use Rattle.answers.specs.declared.Answer.the-variants.{Done}
 use Rattle.answers.proofs.OutcomeLaws.{NoneHolds, none-settles, Refuses, answerAt, refused-at}
@@ -21,18 +21,6 @@ read-bad : (a b : Bool) (s : Standing) → (a || b) ≡ false → pick a closed 
 read-bad true b s e = absurd (true≢false e)
 read-bad false true s e = absurd (true≢false e)
 read-bad false false s e = refl
-
-or-right : (a b : Bool) → (a || b) ≡ true → (a ≡ true → ⊥) → b ≡ true
-or-right true b e n = absurd (n refl)
-or-right false b e n = e
-
-or-left : (a b : Bool) → (a || b) ≡ true → (b ≡ true → ⊥) → a ≡ true
-or-left true b e n = refl
-or-left false b e n = absurd (n e)
-
-not-so : (a : Bool) → (a ≡ true → ⊥) → a ≡ false
-not-so true n = absurd (n refl)
-not-so false n = refl
 
 -- the three ways in which a good call stands
 pub data Stands (c : Call) : Type 0 where

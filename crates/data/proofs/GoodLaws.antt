@@ -1,0 +1,108 @@
+-- A good packet stays good under every operation, and what open leaves is a good open packet. Assumes nothing.
+use mathlib.Core.Path.{_≡_, refl, ap, _∙_}
+use mathlib.Core.Bool.{Bool, true, false, _||_, not}
+use mathlib.Core.List.{List, [], _∷_}
+use Prim.Native.Nat.{ℕ, _+_, _≤_, _<_}
+use native.Mathlib.Omega.{arith}
+use borrow.Author.Tests.{le-leb, not-false}
+use Rattle.octets.specs.Tests.{allBelow}
+use Rattle.octets.specs.Lists.{allZero}
+use Rattle.answers.specs.declared.Answer.{Answer}
+use Rattle.answers.specs.declared.Answer.the-variants.{Done, ZeroVector}
+use Rattle.answers.specs.Numbers.{isDone}
+use Rattle.answers.specs.Outcomes.{Refusals, settled}
+use Rattle.answers.proofs.OutcomeLaws.{NoneHolds, neverDone, none-left, none-settles, by-refusals, done-none}
+use Rattle.session.specs.Session.{scrambles, sessionVector, keyRight}
+use Rattle.session.specs.Ladder.{keyFor, keyRefusals, zeroFor, vectorRefusals}
+use Rattle.session.proofs.SessionLaws.{no-vector-zero}
+use Rattle.session.proofs.ReadyLaws.{none-key}
+use Rattle.data.specs.declared.packet.Packet.{Packet}
+use Rattle.data.specs.Kinds.{isKind}
+use Rattle.data.specs.Packet.{mostMessages, closedTests, openTests, isClosed, isOpen, goodPacket, noPacket, endRefusals, endOf}
+use Rattle.data.specs.Opening.{openRefusals, opened, openOf}
+use Rattle.data.specs.Message.{counted, lostRefusals, lostOf, messageRefusals, messageTurned, messageOf}
+use Rattle.data.proofs.PacketLaws.{open-kind, open-key, open-vector, open-is-good}
+use Rattle.data.proofs.MessageLaws.{none-open, none-few}
+
+pub closed-good : goodPacket noPacket ≡ true
+unfolding goodPacket isClosed closedTests allZero allBelow
+closed-good = refl
+
+-- a struct that keeps the rules of an open packet
+pub opens : (kind c : ℕ) (k : List ℕ) (n : ℕ) (v : List ℕ) → isKind kind ≡ true → keyRight c k ≡ true → n ≤ mostMessages
+    → (not (scrambles c) || allZero v) ≡ true → isOpen (record { kind = kind; cipher = c; key = k; count = n; vector = v }) ≡ true
+unfolding isOpen openTests
+opens kind c k n v is key few vector = rw (is, key, le-leb _ _ few, vector)
+
+-- an open packet, with another count
+abbrev pub atCount : Packet → ℕ → Packet
+atCount p n = record { kind = p .kind; cipher = p .cipher; key = p .key; count = n; vector = p .vector }
+
+module _ (p : Packet) (o : isOpen p ≡ true) where
+  pub at-open : (n : ℕ) → n ≤ mostMessages → isOpen (atCount p n) ≡ true
+  at-open n h = opens (p .kind) (p .cipher) (p .key) n (p .vector) (open-kind p o) (open-key p o) h (open-vector p o)
+
+  pub counted-open : p .count < mostMessages → isOpen (counted p) ≡ true
+  counted-open h = at-open (p .count + 1) (omega arith)
+
+-- ---- an opening
+
+session-right : (c : ℕ) (w : List ℕ) → (not (scrambles c) || allZero (sessionVector c w)) ≡ true
+session-right c w = go (scrambles c) refl
+  where
+    go : (t : Bool) → scrambles c ≡ t → (not (scrambles c) || allZero (sessionVector c w)) ≡ true
+    go true e = rw (e, no-vector-zero)
+    go false e = rw e
+
+module _ (p : Packet) (kind c i : ℕ) (w b : List ℕ) where
+  opened-open : NoneHolds (openRefusals p kind c i w b) → isOpen (opened kind c w (keyFor b c i)) ≡ true
+  unfolding openRefusals vectorRefusals
+  opened-open n =
+      opens kind c (keyFor b c i) 0 (sessionVector c w) (not-false _ (n .1 .0))
+      (none-key (not (goodPacket p)) (not (isClosed p)) c i b
+      (none-left (keyRefusals (not (goodPacket p)) (not (isClosed p)) c i b) ((zeroFor c w, ZeroVector) ∷ []) (n .1 .1 .1)))
+      (omega arith) (session-right c w)
+
+  open-never : neverDone (openRefusals p kind c i w b) ≡ true
+  unfolding openRefusals vectorRefusals keyRefusals
+  open-never = refl
+
+  -- done, it leaves the one packet before its first message, which is open and so good
+  pub open-leaves : isDone (openOf p kind c i w b .0) ≡ true
+      → (openOf p kind c i w b .1 ≡ opened kind c w (keyFor b c i)) × (isOpen (openOf p kind c i w b .1) ≡ true)
+  unfolding openOf
+  open-leaves d =
+      let n = done-none (openRefusals p kind c i w b) p (opened kind c w (keyFor b c i)) open-never d in
+      let e = ap (λ (o : Answer × Packet). o .1) (none-settles (openRefusals p kind c i w b) p (Done, opened kind c w (keyFor b c i)) n) in
+      (e, ap isOpen e ∙ opened-open n)
+
+-- ---- the operations
+
+-- what is refused leaves a good packet; it is left to show that what is done leaves one
+kept : {S : Type 0} (f : S → Packet) (before : S) (rs : Refusals) (last : Answer × S) → goodPacket (f before) ≡ true
+    → (NoneHolds rs → goodPacket (f (last .1)) ≡ true) → goodPacket (f (settled before rs last .1)) ≡ true
+kept f before rs last good = by-refusals (λ o. goodPacket (f (o .1)) ≡ true) before rs last (λ a m. good)
+
+module _ (p : Packet) (good : goodPacket p ≡ true) where
+  pub end-good : goodPacket (endOf p .1) ≡ true
+  unfolding endOf
+  end-good = kept (λ q. q) p (endRefusals p) (Done, noPacket) good (λ n. closed-good)
+
+  pub open-good : (kind c i : ℕ) (w b : List ℕ) → goodPacket (openOf p kind c i w b .1) ≡ true
+  unfolding openOf
+  open-good kind c i w b =
+      kept (λ q. q) p (openRefusals p kind c i w b) (Done, opened kind c w (keyFor b c i)) good
+      (λ n. open-is-good (opened kind c w (keyFor b c i)) (opened-open p kind c i w b n))
+
+  on-good : NoneHolds (lostRefusals p) → goodPacket (counted p) ≡ true
+  on-good n = open-is-good (counted p) (counted-open p (none-open p n) (none-few p n))
+
+  pub lost-good : goodPacket (lostOf p .1) ≡ true
+  unfolding lostOf
+  lost-good = kept (λ q. q) p (lostRefusals p) (Done, counted p) good on-good
+
+  pub message-good : (message : List ℕ) → goodPacket (messageOf p message .1 .0) ≡ true
+  unfolding messageOf messageRefusals
+  message-good message =
+      kept (λ (o : Packet × List ℕ). o .0) (p, message) (messageRefusals p message) (Done, (counted p, messageTurned p message)) good
+      (λ n. on-good (none-left (lostRefusals p) _ n))

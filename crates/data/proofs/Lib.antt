@@ -1,0 +1,9 @@
+pub mod KindLaws
+pub mod PacketLaws
+pub mod OpeningLaws
+pub mod MessageLaws
+pub mod Settled
+pub mod GoodLaws
+pub mod MessageBits
+pub mod ExchangeLaws
+pub mod Examples

@@ -1,0 +1,50 @@
+-- Each operation's statement settles its outcome: any two outcomes that meet it are equal. And a refusal, any answer but 0, changes
+-- nothing. Assumes nothing.
+use mathlib.Core.Path.{_≡_, ap}
+use mathlib.Core.List.{List}
+use Prim.Native.Nat.{ℕ}
+use native.Mathlib.Omega.{arith}
+use Rattle.answers.specs.declared.Answer.{Answer}
+use Rattle.answers.specs.declared.Answer.the-variants.{Done}
+use Rattle.answers.proofs.OutcomeLaws.{Refusal, keeps, one-outcome}
+use Rattle.session.specs.Ladder.{keyFor}
+use Rattle.data.specs.declared.packet.Packet.{Packet}
+use Rattle.data.specs.Packet.{noPacket, endRefusals, endOf}
+use Rattle.data.specs.Opening.{openRefusals, opened, openOf}
+use Rattle.data.specs.Message.{counted, lostRefusals, lostOf, messageRefusals, messageTurned, messageOf}
+
+-- ---- any two outcomes are equal
+
+module _ (a b : Answer) (x y : Packet) (p : Packet) where
+  pub one-end : (a, x) ≡ endOf p → (b, y) ≡ endOf p → (a ≡ b) × (x ≡ y)
+  one-end = one-outcome a b x y
+
+  pub one-open : (kind c i : ℕ) (w book : List ℕ) → (a, x) ≡ openOf p kind c i w book → (b, y) ≡ openOf p kind c i w book → (a ≡ b) × (x ≡ y)
+  one-open kind c i w book = one-outcome a b x y
+
+  pub one-lost : (a, x) ≡ lostOf p → (b, y) ≡ lostOf p → (a ≡ b) × (x ≡ y)
+  one-lost = one-outcome a b x y
+
+  pub one-message : (message f g : List ℕ) → (a, (x, f)) ≡ messageOf p message → (b, (y, g)) ≡ messageOf p message → (a ≡ b) × (x ≡ y) × (f ≡ g)
+  one-message message f g e h =
+      let o = one-outcome a b (x, f) (y, g) e h in
+      (o .0, ap (λ (r : Packet × List ℕ). r .0) (o .1), ap (λ (r : Packet × List ℕ). r .1) (o .1))
+
+-- ---- a refusal changes nothing
+
+module _ (p : Packet) where
+  pub end-keeps : Refusal (endOf p .0) → endOf p .1 ≡ p
+  unfolding endOf
+  end-keeps = keeps p (endRefusals p) (Done, noPacket) (omega arith)
+
+  pub open-keeps : (kind c i : ℕ) (w b : List ℕ) → Refusal (openOf p kind c i w b .0) → openOf p kind c i w b .1 ≡ p
+  unfolding openOf
+  open-keeps kind c i w b = keeps p (openRefusals p kind c i w b) (Done, opened kind c w (keyFor b c i)) (omega arith)
+
+  pub lost-keeps : Refusal (lostOf p .0) → lostOf p .1 ≡ p
+  unfolding lostOf
+  lost-keeps = keeps p (lostRefusals p) (Done, counted p) (omega arith)
+
+  pub message-keeps : (message : List ℕ) → Refusal (messageOf p message .0) → messageOf p message .1 ≡ (p, message)
+  unfolding messageOf
+  message-keeps message = keeps (p, message) (messageRefusals p message) (Done, (counted p, messageTurned p message)) (omega arith)

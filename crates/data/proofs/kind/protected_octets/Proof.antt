@@ -1,0 +1,14 @@
+-- `data::kind::protected_octets` meets its contract. Assumes nothing.
+use Rattle.data.proofs.KindLaws.{of-dcall, of-inbound, of-outbound, of-facch, of-none}
+use Rattle.data.proofs.kind.protected_octets.Statement.{statement}
+use Rattle.data.proofs.kind.protected_octets.Tie as tie
+
+pub protected-octets-spec : {M : Type 1} → statement M
+protected-octets-spec =
+    tie.close
+    (tie.spec
+    (λ c. of-dcall _ _ _ _ _ _ (c .match .keys1))
+    (λ c. of-inbound _ _ _ _ _ _ (c .match .keys2))
+    (λ c. of-outbound _ _ _ _ _ _ (c .match .keys3))
+    (λ c. of-facch _ _ _ _ _ _ (c .match .keys4))
+    (λ c. of-none _ _ _ _ _ _ (c .match .rest .0 .0 .0 .1) (c .match .rest .0 .0 .1) (c .match .rest .0 .1) (c .match .rest .1)))

@@ -1,0 +1,23 @@
+-- `data::packet::is_closed` meets its contract. Assumes nothing.
+use mathlib.Core.Bool.{and-true}
+use borrow.Author.Tests.{eq-eqb, ne-eqb}
+use Rattle.octets.proofs.TestLaws.{every-fails, fails, holds}
+use Rattle.data.specs.Packet.{isClosed, closedTests}
+use borrow.Author.Needs.{needs}
+use Rattle.data.proofs.packet.is_closed.Statement.{statement}
+use Rattle.data.proofs.packet.is_closed.Tie as tie
+
+pub is-closed-spec : {M : Type 1} → statement M
+unfolding isClosed closedTests
+is-closed-spec =
+    tie.close
+    (tie.spec
+    (λ c. every-fails (closedTests (c .before .before .args .packet)) 0 (ne-eqb _ _ (c .if1 .taken)))
+    (λ c. every-fails (closedTests (c .before .before .before .before .args .packet)) 1 (ne-eqb _ _ (c .if2 .taken)))
+    (λ c. every-fails (closedTests (c .before .before .before .before .before .before .args .packet)) 2 (ne-eqb _ _ (c .if3 .taken)))
+    (λ c. search needs)
+    (λ c κs. search needs)
+    (λ c. every-fails (closedTests (c .before .before .before .before .before .before .before .before .before .before .args .packet)) 3 (fails (c .before .all-zero .ensures) (c .if4 .taken)))
+    (λ c. search needs)
+    (λ c κs. search needs)
+    (λ c. rw (eq-eqb _ _ (c .before .before .before .before .before .before .before .before .before .before .before .if1 .left), eq-eqb _ _ (c .before .before .before .before .before .before .before .before .before .if2 .left), eq-eqb _ _ (c .before .before .before .before .before .before .before .if3 .left), holds (c .before .before .before .before .all-zero .ensures) (c .before .before .before .if4 .left), and-true) (c .all-zero2 .ensures)))

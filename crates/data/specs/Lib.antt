@@ -1,0 +1,5 @@
+pub mod Kinds
+pub mod Packet
+pub mod Opening
+pub mod Message
+pub mod Exchange
