@@ -2,6 +2,7 @@
 // line for each row that did not.
 mod blocks;
 mod feedback;
+mod messages;
 mod nxdn;
 mod slots;
 mod text;
@@ -18,6 +19,7 @@ enum Set {
     Feedback,
     Nxdn,
     Slots,
+    Messages,
 }
 
 // How many rows of a set were tried, and how many of them held.
@@ -33,6 +35,7 @@ fn holds(set: Set, row: &[u8]) -> bool {
         Set::Feedback => feedback::holds(row),
         Set::Nxdn => nxdn::holds(row),
         Set::Slots => slots::holds(row),
+        Set::Messages => messages::holds(row),
     }
 }
 
@@ -135,5 +138,10 @@ fn main() {
         Set::Slots,
         b"voice-slots.tsv",
         b"Voice slots past the first, by an independent model and OpenSSL",
+    );
+    run(
+        Set::Messages,
+        b"data-messages.tsv",
+        b"Data messages of each kind, by NXDN TS 1-D, 7.2.2, an independent model and OpenSSL",
     );
 }
