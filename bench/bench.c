@@ -14,7 +14,9 @@ typedef unsigned char octet;
 void timed_blocks(const octet *key, size_t key_len, octet *block, size_t block_len, size_t n);
 void timed_session(octet cipher, const octet *key, size_t key_len, const octet *vector, size_t vector_len, octet *out, size_t out_len);
 
-enum { BATCHES = 40, BLOCKS = 2000, SESSIONS = 200, SESSION_OCTETS = 196, SCRAMBLE_OCTETS = 98 };
+void timed_message(octet cipher, const octet *key, size_t key_len, const octet *vector, size_t vector_len, unsigned short count, octet *message, size_t message_len);
+
+enum { MESSAGES = 1000, DCALL_OCTETS = 22, BATCHES = 40, BLOCKS = 2000, SESSIONS = 200, SESSION_OCTETS = 196, SCRAMBLE_OCTETS = 98 };
 
 static const octet des_key[8] = {0xAB, 0xCD, 0xEF, 0x01, 0x23, 0x45, 0x67, 0x89};
 static const octet aes_key[32] = {0xAB, 0xCD, 0xEF, 0x01, 0x23, 0x45, 0x67, 0x89, 0xCD, 0xEF, 0x01, 0x23, 0x45, 0x67, 0x89, 0xAB,
@@ -71,11 +73,25 @@ static double per_block(void (*run)(octet *, size_t), octet *block) {
     return best;
 }
 
-static void our_session(int cipher, octet *out) {
-    octet key[32] = {0};
+static void key_of(int cipher, octet *key) {
     if (cipher == 1) key[1] = 1;
     else if (cipher == 2) memcpy(key, des_key, 8);
     else memcpy(key, aes_key, 32);
+}
+
+/* All the messages that a packet has, in milliseconds: each needs the keystream from the session's start to its own place. */
+static double packet(int cipher) {
+    octet key[32] = {0}, vector[8] = {0}, message[DCALL_OCTETS] = {0};
+    key_of(cipher, key);
+    if (cipher != 1) memcpy(vector, seed, 8);
+    double t = now();
+    for (int n = 0; n < MESSAGES; n++) timed_message(cipher, key, 32, vector, 8, n, message, DCALL_OCTETS);
+    return (now() - t) / 1e6;
+}
+
+static void our_session(int cipher, octet *out) {
+    octet key[32] = {0};
+    key_of(cipher, key);
     timed_session(cipher, key, 32, seed, 8, out, cipher == 1 ? SCRAMBLE_OCTETS : SESSION_OCTETS);
 }
 
@@ -111,5 +127,6 @@ int main(void) {
     row("scramble session, 98 octets", per_session(our_session, 1, a), 0);
     row("DES session, 196 octets", per_session(our_session, 2, a), per_session(openssl_session, 2, b));
     row("AES session, 196 octets", per_session(our_session, 3, a), per_session(openssl_session, 3, b));
+    for (int cipher = 1; cipher <= 3; cipher++) printf("packet of %d DCALL messages, cipher type %d %14.0f ms\n", MESSAGES, cipher, packet(cipher));
     return 0;
 }

@@ -1,6 +1,8 @@
 // What bench/ measures, for C to call. Blocks are enciphered in a chain, each the input of the next, so that no work can be left out.
 ghost use mathlib.Core.Path.{_≡_};
 ghost use lib.ListN.{length};
+use data::kind::DCALL;
+use data::packet::Packet;
 
 fn des_chain(key: &[u8], block: &mut [u8], n: usize)
     requires { ⌜ (length (now key) ≡ 8) × (length (now block) ≡ 8) ⌝ }
@@ -72,4 +74,29 @@ pub extern "C" fn timed_session(cipher: u8, key: &[u8], vector: &[u8], out: &mut
             ciphers::keystream::keystream(cipher, thirty_two(key), eight(vector), 0, out);
         }
     }
+}
+
+// A packet's DCALL message after so many others. The key is 32 octets, its own first.
+#[no_mangle]
+pub extern "C" fn timed_message(
+    cipher: u8,
+    key: &[u8],
+    vector: &[u8],
+    count: u16,
+    message: &mut [u8],
+) {
+    if key.len() != 32 {
+        return;
+    }
+    if vector.len() != 8 {
+        return;
+    }
+    let packet = Packet {
+        kind: DCALL,
+        cipher,
+        key: thirty_two(key),
+        count,
+        vector: eight(vector),
+    };
+    data::message::message(packet, message);
 }
