@@ -1,35 +1,24 @@
 -- What open, join and start leave is a good call. Assumes nothing.
-use mathlib.Core.Path.{_≡_, refl, sym, ap, _∙_}
-use mathlib.Core.Bool.{Bool, true, false, _&&_, true≢false}
+use mathlib.Core.Path.{_≡_, refl}
+use mathlib.Core.Bool.{Bool, true, false, true≢false}
 use mathlib.Core.List.{List, [], _∷_}
-use Prim.Native.Nat.{ℕ, _-_, _≤_, _<_}
+use Prim.Native.Nat.{ℕ, _≤_, _<_}
 use native.Mathlib.Omega.{arith}
-use lib.Dec.{leb, eqb}
-use lib.ListN.{length, getD, drop}
-use borrow.Author.Tests.{eqb-true, eq-eqb, leb-true, ltb-true, not-false}
+use lib.Dec.{eqb}
 use Rattle.ciphers.proofs.Cases.{by-range}
 use Rattle.octets.specs.Tests.{pick}
 use Rattle.octets.specs.Lists.{allZero}
-use Rattle.octets.proofs.TestLaws.{and-left, and-right, all-intro}
-use Rattle.ciphers.specs.Numbers.{keyOctets, sessionSlots}
-use Rattle.ciphers.specs.Keys.{keyAllowed}
+use Rattle.ciphers.specs.Numbers.{sessionSlots}
 use Rattle.answers.specs.declared.Answer.the-variants.{Done, ZeroVector}
 use Rattle.answers.proofs.OutcomeLaws.{NoneHolds, none-left, none-right}
-use Rattle.keyentry.specs.Entry.{cipherIn, countIn, readyIn, isReady, keyIn, keyRest, named, lacks, readyRight}
-use Rattle.keyentry.proofs.RightLaws.{zero-at, Used, used-of, for-name}
-use Rattle.keybook.specs.Book.{entries, findEntry, goodBook}
-use Rattle.keybook.specs.Operations.{has, entryFor}
-use Rattle.keybook.proofs.GoodLaws.{good-entry, found-for}
-use Rattle.voice.specs.declared.call.Call.{Call}
 use Rattle.session.specs.Session.{noVector, scrambles, sessionVector, keyRight}
 use Rattle.session.specs.Ladder.{keyFor, keyRefusals, zeroFor, vectorRefusals}
-use Rattle.voice.specs.Call.{sendingEnd, receivingEnd, vectorRight, goodCall, receiving, standing, written, isBad, stands}
-use Rattle.voice.specs.Opening.{superframeSlots, joinRefusals, openRefusals, begun, openOf, startOf, joined, joinOf}
 use Rattle.session.proofs.SessionLaws.{no-vector-zero}
 use Rattle.session.proofs.ReadyLaws.{none-named, none-key}
+use Rattle.voice.specs.declared.call.Call.{Call}
+use Rattle.voice.specs.Call.{sendingEnd, receivingEnd, vectorRight, goodCall, receiving, standing, written, isBad, stands}
+use Rattle.voice.specs.Opening.{superframeSlots, joinRefusals, openRefusals, begun, openOf, startOf, joined, joinOf}
 use Rattle.voice.proofs.GoodLaws.{good-open, fresh-right, kept}
-
--- ---- what an opening leaves
 
 -- a session has slots, and more than a superframe where it needs a vector
 slots-some : (c : ℕ) → (1 ≤ c) × (c ≤ 3) → 0 < sessionSlots c
@@ -52,10 +41,10 @@ session-right end c w z = go (scrambles c) refl
         go′ false = refl
 
 module _ (bad busy : Bool) (c i : ℕ) (b : List ℕ) (n : NoneHolds (keyRefusals bad busy c i b)) where
-  abbrev named : (1 ≤ c) × (c ≤ 3)
-  named = none-named bad busy c i b n
+  ranged : (1 ≤ c) × (c ≤ 3)
+  ranged = none-named bad busy c i b n
 
-  abbrev key : keyRight c (keyFor b c i) ≡ true
+  key : keyRight c (keyFor b c i) ≡ true
   key = none-key bad busy c i b n
 
   joined-good : goodCall (written (joined c (keyFor b c i))) ≡ true
@@ -63,13 +52,13 @@ module _ (bad busy : Bool) (c i : ℕ) (b : List ℕ) (n : NoneHolds (keyRefusal
     where
       go : (t : Bool) → scrambles c ≡ t
           → goodCall (written (pick t (receiving c (keyFor b c i) 0 true noVector) (receiving c (keyFor b c i) superframeSlots false noVector))) ≡ true
-      go true e = good-open 2 c (keyFor b c i) 0 noVector true (omega arith) (omega arith) key (slots-some c named) (rw e at (fresh-right c))
+      go true e = good-open 2 c (keyFor b c i) 0 noVector true (omega arith) (omega arith) key (slots-some c ranged) (rw e at (fresh-right c))
       go false e =
-          good-open 2 c (keyFor b c i) superframeSlots noVector false (omega arith) (omega arith) key (slots-more c named e) (rw e at (fresh-right c))
+          good-open 2 c (keyFor b c i) superframeSlots noVector false (omega arith) (omega arith) key (slots-more c ranged e) (rw e at (fresh-right c))
 
   begun-good : (end : ℕ) → 1 ≤ end → end ≤ 2 → (w : List ℕ) → zeroFor c w ≡ false → goodCall (begun end c w (keyFor b c i)) ≡ true
   begun-good end low high w z =
-      good-open end c (keyFor b c i) 0 (sessionVector c w) true low high key (slots-some c named) (session-right end c w z)
+      good-open end c (keyFor b c i) 0 (sessionVector c w) true low high key (slots-some c ranged) (session-right end c w z)
 
 module _ (call : Call) (good : goodCall call ≡ true) (c i : ℕ) (b : List ℕ) where
   pub join-good : goodCall (joinOf call c i b .1) ≡ true
