@@ -161,40 +161,17 @@ module _ (c : Call) (session : List ℕ) (i : IsSession c session) where
       → IsSession (written t) session
   held-as t b g k e = record { known = ap knows (read-written t b g) ∙ k; bits = λ n l. i .bits n l ∙ sym (e n) }
 
-  -- one slot on in the same session, or in the next one of scramble
-  sent-kept : goodCall (written (sent (c .cipher) (c .key) (c .position + 1) (c .vector))) ≡ true
-      → (written (sent (c .cipher) (c .key) (c .position + 1) (c .vector)) .position ≡ 0 → scrambles (c .cipher) ≡ true)
-      → IsSession (written (sent (c .cipher) (c .key) (c .position + 1) (c .vector))) session
-  unfolding sent
-  sent-kept = go (ltb (c .position + 1) (sessionSlots (c .cipher)))
-    where
-      next : Bool → Standing
-      next t =
-          pick t (sending (c .cipher) (c .key) (c .position + 1) (c .vector)) (sending (c .cipher) (c .key) 0 (goingOn (c .cipher) (c .vector)))
-
-      go : (t : Bool) → goodCall (written (next t)) ≡ true → (written (next t) .position ≡ 0 → scrambles (c .cipher) ≡ true)
-          → IsSession (written (next t)) session
-      go true g h = held-as (next true) refl g refl (λ n. refl)
-      go false g h = held-as (next false) refl g refl (λ n. scramble-same (c .cipher) (c .key) _ _ n (h refl))
-
-  received-kept : c .known ≡ true → goodCall (written (received (c .cipher) (c .key) (c .position + 1) (c .known) (c .vector))) ≡ true
-      → (written (received (c .cipher) (c .key) (c .position + 1) (c .known) (c .vector)) .position ≡ 0 → scrambles (c .cipher) ≡ true)
-      → IsSession (written (received (c .cipher) (c .key) (c .position + 1) (c .known) (c .vector))) session
-  unfolding received
-  received-kept k = go (ltb (c .position + 1) (sessionSlots (c .cipher)))
-    where
-      next : Bool → Standing
-      next t =
-          pick t (receiving (c .cipher) (c .key) (c .position + 1) (c .known) (c .vector))
-          (receiving (c .cipher) (c .key) 0 (scrambles (c .cipher)) noVector)
-
-      go : (t : Bool) → goodCall (written (next t)) ≡ true → (written (next t) .position ≡ 0 → scrambles (c .cipher) ≡ true)
-          → IsSession (written (next t)) session
-      go true g h = held-as (next true) refl g k (λ n. refl)
-      go false g h = held-as (next false) refl g (h refl) (λ n. scramble-same (c .cipher) (c .key) _ _ n (h refl))
+  -- one slot on it is the same session, or the next one of scramble, whose bits are the same
+  either-kept : (t : Bool) (on next : Standing) → (goodCall (written on) ≡ true → IsSession (written on) session)
+      → (goodCall (written next) ≡ true → scrambles (c .cipher) ≡ true → IsSession (written next) session) → written next .position ≡ 0
+      → goodCall (written (pick t on next)) ≡ true → (written (pick t on next) .position ≡ 0 → scrambles (c .cipher) ≡ true)
+      → IsSession (written (pick t on next)) session
+  either-kept true on next f f′ z g h = f g
+  either-kept false on next f f′ z g h = f′ g (h z)
 
   on-kept : zeroNext (standing c) ≡ false → (written (slotOn (standing c)) .position ≡ 0 → scrambles (c .cipher) ≡ true)
       → IsSession (written (slotOn (standing c))) session
+  unfolding sent received
   on-kept z h = go (good-stands c good)
     where
       good : goodCall c ≡ true
@@ -202,8 +179,19 @@ module _ (c : Call) (session : List ℕ) (i : IsSession c session) where
 
       go : Stands c → IsSession (written (slotOn (standing c))) session
       go (none o e s) = absurd (true≢false (sym (i .known) ∙ ap knows s))
-      go (sender o e s) = rw s (sent-kept (rw s at (slot-good c good z)) (rw s at h))
-      go (receiver o e s) = rw s (received-kept (sym (ap knows s) ∙ i .known) (rw s at (slot-good c good z)) (rw s at h))
+      go (sender o e s) =
+          let on : Standing = sending (c .cipher) (c .key) (c .position + 1) (c .vector) in
+          let next : Standing = sending (c .cipher) (c .key) 0 (goingOn (c .cipher) (c .vector)) in
+          rw s
+          (either-kept (ltb (c .position + 1) (sessionSlots (c .cipher))) on next (λ g. held-as on refl g refl (λ n. refl))
+          (λ g e. held-as next refl g refl (λ n. scramble-same (c .cipher) (c .key) (goingOn (c .cipher) (c .vector)) (c .vector) n e)) refl
+          (rw s at (slot-good c good z)) (rw s at h))
+      go (receiver o e s) =
+          let on : Standing = receiving (c .cipher) (c .key) (c .position + 1) (c .known) (c .vector) in
+          let next : Standing = receiving (c .cipher) (c .key) 0 (scrambles (c .cipher)) noVector in
+          rw s
+          (either-kept (ltb (c .position + 1) (sessionSlots (c .cipher))) on next (λ g. held-as on refl g (sym (ap knows s) ∙ i .known) (λ n. refl))
+          (λ g e. held-as next refl g e (λ n. scramble-same (c .cipher) (c .key) noVector (c .vector) n e)) refl (rw s at (slot-good c good z)) (rw s at h))
 
   -- so it is kept by every slot, voice or lost, but the one after which another session begins; and scramble's by every slot
   pub session-kept-lost : (lostOf c .1 .position ≡ 0 → scrambles (c .cipher) ≡ true) → IsSession (lostOf c .1) session

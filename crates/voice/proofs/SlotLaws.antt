@@ -20,7 +20,7 @@ use Rattle.answers.specs.Numbers.{numberOf}
 use Rattle.answers.specs.Outcomes.{Refusals, settled}
 use Rattle.answers.proofs.OutcomeLaws.{NoneHolds, none-settles, Refuses, answerAt, refused-at, Refusal, Among, by-refusals, around}
 use Rattle.voice.specs.declared.call.Call.{Call}
-use Rattle.voice.specs.Frame.{frameOctets, slotBits, sessionBits, ofSlot, protect}
+use Rattle.voice.specs.Frame.{frameOctets, slotBits, ofSlot, protect}
 use Rattle.voice.specs.Call.{closedEnd, sendingEnd, receivingEnd, goodCall, Standing, closed, bad, sending, receiving, standing, written, stands}
 use Rattle.voice.specs.Slot.{slotOn, lostRefusals, lostOf, topMask, zeroAfter, zeroNext, voiceRefusals, inSlot, voiceAfter, voiceBy, voiceOf, withoutFrame}
 use Rattle.voice.proofs.FrameLaws.{protect-same}
@@ -264,6 +264,6 @@ module _ (st : ℕ → List ℕ → List ℕ → ℕ → ℕ) (c : Call) (mask :
     pub turned-inside : c .position < sessionSlots (c .cipher)
     turned-inside = inside c (none-good c mask frame none-refused) (none-open c mask frame none-refused)
 
-    -- and the slot's bits begin inside the session's
-    pub turned-from : (q : ℕ) → q ≡ c .position → slotBits * q < sessionBits
-    turned-from q w = let l = turned-inside in omega (arith, slots-at-most (c .cipher))
+    -- no session has more than 8 slots
+    pub turned-early : c .position < 8
+    turned-early = let l = turned-inside in omega (arith, slots-at-most (c .cipher))
