@@ -4,15 +4,15 @@ use mathlib.Core.Bool.{Bool, true, false, _&&_, _||_, not, and-true, or-true, tr
 use mathlib.Core.List.{List}
 use Prim.Native.Nat.{ℕ, _+_, _≤_, _<_}
 use native.Mathlib.Omega.{arith}
-use lib.Dec.{eqb, ltb}
-use lib.ListN.{length, getD, replicate, length-replicate, getD-replicate}
-use lib.Seq.{ext-getD}
+use lib.Dec.{ltb}
+use lib.ListN.{length}
 use borrow.Author.Tests.{le-leb, lt-ltb, ltb-true, ltb-false, eqb-true, not-false, not-true}
 use Rattle.octets.proofs.ListLaws.{zeros-are}
 use Rattle.octets.specs.Tests.{pick, allBelow}
 use Rattle.octets.specs.Lists.{allZero}
-use Rattle.octets.proofs.TestLaws.{and-left, every-at, all-at}
+use Rattle.octets.proofs.TestLaws.{and-left, every-at}
 use Rattle.ciphers.specs.Numbers.{sessionSlots}
+use Rattle.ciphers.specs.Keystream.{stream}
 use Rattle.generator.specs.Generator.{nextVector}
 use Rattle.answers.specs.declared.Answer.{Answer}
 use Rattle.answers.specs.declared.Answer.the-variants.{Done}
@@ -22,10 +22,11 @@ use Rattle.voice.specs.declared.call.Call.{Call}
 use Rattle.keyentry.specs.Entry.{keyRoom}
 use Rattle.session.specs.Session.{vectorOctets, noVector, scrambles, keyRight}
 use Rattle.voice.specs.Call.{vectorRight, closedTests, openTests, isClosed, isOpen, goodCall, noCall, Standing, closed, bad, sending, receiving, standing, written, isBad, receives, endRefusals, endOf}
-use Rattle.voice.specs.Slot.{goingOn, received, sent, slotOn, lostRefusals, lostOf, zeroAfter, zeroNext, voiceRefusals, voiceAfter, voiceOf}
+use Rattle.voice.specs.Slot.{goingOn, received, sent, slotOn, lostRefusals, lostOf, zeroAfter, zeroNext, voiceRefusals, voiceAfter, voiceBy, voiceOf}
 use Rattle.voice.specs.Vector.{awaits, told, announceRefusals, announceOf}
 use Rattle.session.proofs.SessionLaws.{no-vector-zero}
 use Rattle.voice.proofs.CallLaws.{open-place, open-key, open-vector, Stands, none, sender, receiver, good-stands, is-sender, is-receiver}
+use Rattle.voice.proofs.SlotLaws.{voice-moves}
 
 -- ---- written, then read
 
@@ -60,7 +61,7 @@ call-is c d a b e f g h =
     let r : Call = record { end = c .end; cipher = c .cipher; key = c .key; position = c .position; vector = c .vector; known = c .known } in
     rw (a, b, e, f, g, h) refl
 
-sender-known : (c : ℕ) (known zeros : Bool) → vectorRight 1 c known zeros ≡ true → known ≡ true
+pub sender-known : (c : ℕ) (known zeros : Bool) → vectorRight 1 c known zeros ≡ true → known ≡ true
 unfolding vectorRight
 sender-known c known zeros = go (scrambles c) known
   where
@@ -153,7 +154,7 @@ pub kept : {S : Type 0} (f : S → Call) (before : S) (rs : Refusals) (last : An
     → (NoneHolds rs → goodCall (f (last .1)) ≡ true) → goodCall (f (settled before rs last .1)) ≡ true
 kept f before rs last good = by-refusals (λ o. goodCall (f (o .1)) ≡ true) before rs last (λ a m. good)
 
-receiver-not-zero : (s : Standing) → not (receives s) ≡ false → zeroNext s ≡ false
+pub receiver-not-zero : (s : Standing) → not (receives s) ≡ false → zeroNext s ≡ false
 receiver-not-zero closed e = refl
 receiver-not-zero bad e = refl
 receiver-not-zero (sending c k p v) e = absurd (true≢false e)
@@ -170,18 +171,14 @@ module _ (c : Call) (good : goodCall c ≡ true) where
       kept (λ d. d) c (lostRefusals (standing c)) (Done, written (slotOn (standing c))) good
       (λ n. slot-good c good (receiver-not-zero (standing c) (n .1 .0)))
 
-  voice-moves : (mask : ℕ) (frame : List ℕ) (s : Standing) → voiceAfter mask frame s .1 .0 ≡ written (slotOn s)
-  voice-moves mask frame closed = refl
-  voice-moves mask frame bad = refl
-  voice-moves mask frame (sending n k p v) = refl
-  voice-moves mask frame (receiving n k p true v) = refl
-  voice-moves mask frame (receiving n k p false v) = refl
+  pub voice-by-good : (st : ℕ → List ℕ → List ℕ → ℕ → ℕ) (mask : ℕ) (frame : List ℕ) → goodCall (voiceBy st c mask frame .1 .0) ≡ true
+  unfolding voiceBy voiceRefusals
+  voice-by-good st mask frame =
+      kept (λ (d : Call × List ℕ). d .0) (c, frame) (voiceRefusals (standing c) mask frame) (voiceAfter st mask frame (standing c)) good
+      (λ n. ap goodCall (voice-moves st c mask frame (standing c)) ∙ slot-good c good (n .1 .1 .1 .1 .0))
 
   pub voice-good : (mask : ℕ) (frame : List ℕ) → goodCall (voiceOf c mask frame .1 .0) ≡ true
-  unfolding voiceOf voiceRefusals
-  voice-good mask frame =
-      kept (λ (d : Call × List ℕ). d .0) (c, frame) (voiceRefusals (standing c) mask frame) (voiceAfter mask frame (standing c)) good
-      (λ n. ap goodCall (voice-moves mask frame (standing c)) ∙ slot-good c good (n .1 .1 .1 .1 .0))
+  voice-good = voice-by-good stream
 
   pub announce-good : (w : List ℕ) → goodCall (announceOf c w .1) ≡ true
   unfolding announceOf announceRefusals

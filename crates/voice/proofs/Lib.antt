@@ -9,4 +9,5 @@ pub mod OpeningGood
 pub mod SlotSteps
 pub mod Settled
 pub mod VoiceBits
+pub mod SessionOnce
 pub mod Examples

@@ -1,22 +1,22 @@
 -- Each operation's statement settles its outcome: any two outcomes that meet it are equal. And a refusal, any answer but 0 and 1, changes
 -- nothing. Assumes nothing.
-use mathlib.Core.Path.{_≡_, refl, ap}
-use mathlib.Core.Bool.{true, false}
+use mathlib.Core.Path.{_≡_, ap}
+use mathlib.Core.Bool.{true}
 use mathlib.Core.List.{List}
-use Prim.Native.Nat.{ℕ, _≤_, _<_}
+use Prim.Native.Nat.{ℕ}
 use native.Mathlib.Omega.{arith}
 use Rattle.answers.specs.declared.Answer.{Answer}
 use Rattle.answers.specs.declared.Answer.the-variants.{Done}
-use Rattle.answers.specs.Numbers.{numberOf}
-use Rattle.answers.specs.Outcomes.{Refusals, settled}
 use Rattle.answers.proofs.OutcomeLaws.{Refusal, keeps, one-outcome}
+use Rattle.ciphers.specs.Keystream.{stream}
 use Rattle.voice.specs.declared.call.Call.{Call}
 use Rattle.session.specs.Session.{sessionVector}
 use Rattle.session.specs.Ladder.{keyFor}
-use Rattle.voice.specs.Call.{Standing, closed, bad, sending, receiving, standing, written, endRefusals, endOf}
+use Rattle.voice.specs.Call.{closed, sending, receiving, standing, written, endRefusals, endOf}
 use Rattle.voice.specs.Opening.{joinRefusals, openRefusals, openOf, startOf, joined, joinOf}
-use Rattle.voice.specs.Slot.{slotOn, lostRefusals, lostOf, voiceRefusals, voiceAfter, voiceOf}
+use Rattle.voice.specs.Slot.{slotOn, lostRefusals, lostOf, voiceRefusals, voiceAfter, voiceBy, voiceOf}
 use Rattle.voice.specs.Vector.{told, announceRefusals, announceOf, following, nextRefusals, nextVectorOf}
+use Rattle.voice.proofs.SlotLaws.{voice-under-two}
 
 -- ---- any two outcomes are equal
 
@@ -40,10 +40,15 @@ module _ (a b : Answer) (x y : Call) (c : Call) where
     pub one-start : (w : List ℕ) → (a, x) ≡ startOf c n i w book → (b, y) ≡ startOf c n i w book → (a ≡ b) × (x ≡ y)
     one-start w = one-outcome a b x y
 
-  pub one-voice : (mask : ℕ) (frame f g : List ℕ) → (a, (x, f)) ≡ voiceOf c mask frame → (b, (y, g)) ≡ voiceOf c mask frame → (a ≡ b) × (x ≡ y) × (f ≡ g)
-  one-voice mask frame f g p q =
-      let o = one-outcome a b (x, f) (y, g) p q in
-      (o .0, ap (λ (r : Call × List ℕ). r .0) (o .1), ap (λ (r : Call × List ℕ). r .1) (o .1))
+  module _ (mask : ℕ) (frame f g : List ℕ) where
+    pub one-voice-by : (st : ℕ → List ℕ → List ℕ → ℕ → ℕ) → (a, (x, f)) ≡ voiceBy st c mask frame → (b, (y, g)) ≡ voiceBy st c mask frame
+        → (a ≡ b) × (x ≡ y) × (f ≡ g)
+    one-voice-by st p q =
+        let o = one-outcome a b (x, f) (y, g) p q in
+        (o .0, ap (λ (r : Call × List ℕ). r .0) (o .1), ap (λ (r : Call × List ℕ). r .1) (o .1))
+
+    pub one-voice : (a, (x, f)) ≡ voiceOf c mask frame → (b, (y, g)) ≡ voiceOf c mask frame → (a ≡ b) × (x ≡ y) × (f ≡ g)
+    one-voice = one-voice-by stream
 
 pub one-next : (a b : Answer) (f g : List ℕ) (c : Call) (out : List ℕ) → (a, f) ≡ nextVectorOf c out → (b, g) ≡ nextVectorOf c out → (a ≡ b) × (f ≡ g)
 one-next a b f g c out = one-outcome a b f g
@@ -67,17 +72,14 @@ module _ (c : Call) where
   unfolding nextVectorOf
   next-keeps out = keeps out (nextRefusals (standing c) out) (Done, following (standing c)) (omega arith)
 
-  voice-done-or-held : (mask : ℕ) (frame : List ℕ) (s : Standing) → numberOf (voiceAfter mask frame s .0) < 2
-  voice-done-or-held mask frame closed = omega arith
-  voice-done-or-held mask frame bad = omega arith
-  voice-done-or-held mask frame (sending n k p v) = omega arith
-  voice-done-or-held mask frame (receiving n k p true v) = omega arith
-  voice-done-or-held mask frame (receiving n k p false v) = omega arith
+  pub voice-by-keeps : (st : ℕ → List ℕ → List ℕ → ℕ → ℕ) (mask : ℕ) (frame : List ℕ) → Refusal (voiceBy st c mask frame .0)
+      → voiceBy st c mask frame .1 ≡ (c, frame)
+  unfolding voiceBy
+  voice-by-keeps st mask frame =
+      keeps (c, frame) (voiceRefusals (standing c) mask frame) (voiceAfter st mask frame (standing c)) (voice-under-two st c mask frame (standing c))
 
   pub voice-keeps : (mask : ℕ) (frame : List ℕ) → Refusal (voiceOf c mask frame .0) → voiceOf c mask frame .1 ≡ (c, frame)
-  unfolding voiceOf
-  voice-keeps mask frame =
-      keeps (c, frame) (voiceRefusals (standing c) mask frame) (voiceAfter mask frame (standing c)) (voice-done-or-held mask frame (standing c))
+  voice-keeps = voice-by-keeps stream
 
   module _ (n i : ℕ) (book : List ℕ) where
     pub join-keeps : Refusal (joinOf c n i book .0) → joinOf c n i book .1 ≡ c

@@ -1,37 +1,41 @@
 -- Slots of a call, as the code goes through them. Assumes nothing.
 use mathlib.Core.Path.{_≡_, refl, sym, ap, _∙_}
-use mathlib.Core.Bool.{true, false}
+use mathlib.Core.Logic.{inl, inr}
+use mathlib.Core.Bool.{Bool, true, false, not, true≢false}
 use mathlib.Core.List.{List}
-use Prim.Native.Nat.{ℕ, _+_, _*_, _≤_}
+use Prim.Native.Nat.{ℕ, _+_, _*_, _≤_, _<_}
 use native.Mathlib.Nat.{zero-add}
 use native.Mathlib.Omega.{arith}
+use lib.ListN.{length}
+use borrow.Author.Tests.{eq-eqb, eqb-true, le-ltb, not-false}
+use Rattle.ciphers.proofs.NumberLaws.{slots-at-most}
 use Rattle.ciphers.proofs.KeystreamLaws.{bits-stream}
 use Rattle.octets.specs.Bits.{bit, octetsFrom}
 use Rattle.octets.proofs.BitLaws.{bit-octetsFrom}
+use Rattle.ciphers.specs.Numbers.{sessionSlots}
 use Rattle.ciphers.specs.Keystream.{stream}
+use Rattle.answers.specs.declared.Answer.{Answer}
 use Rattle.answers.specs.declared.Answer.the-variants.{Done, Held}
-use Rattle.answers.proofs.OutcomeLaws.{NoneHolds, none-settles, Refuses, answerAt, refused-at}
+use Rattle.answers.specs.Numbers.{numberOf}
+use Rattle.answers.specs.Outcomes.{Refusals, settled}
+use Rattle.answers.proofs.OutcomeLaws.{NoneHolds, none-settles, Refuses, answerAt, refused-at, Refusal, Among, by-refusals, around}
 use Rattle.voice.specs.declared.call.Call.{Call}
-use Rattle.voice.specs.Frame.{slotBits, ofSlot, protect}
-use Rattle.voice.specs.Call.{sendingEnd, receivingEnd, goodCall, standing, written}
-use Rattle.voice.specs.Slot.{received, sent, slotOn, lostRefusals, lostOf, zeroAfter, zeroNext, voiceRefusals, inSlot, voiceAfter, voiceOf}
+use Rattle.voice.specs.Frame.{frameOctets, slotBits, ofSlot, protect}
+use Rattle.voice.specs.Call.{closedEnd, sendingEnd, receivingEnd, goodCall, Standing, closed, bad, sending, receiving, standing, written, stands}
+use Rattle.voice.specs.Slot.{slotOn, lostRefusals, lostOf, topMask, zeroAfter, zeroNext, voiceRefusals, inSlot, voiceAfter, voiceBy, voiceOf, withoutFrame}
 use Rattle.voice.proofs.FrameLaws.{protect-same}
-use Rattle.voice.proofs.CallLaws.{unless-sender, is-sender, is-receiver}
+use Rattle.voice.proofs.CallLaws.{Stands, none, sender, receiver, good-stands, good-by, not-bad, stands-none, stands-some, unless-sender, is-sender, is-receiver, inside}
 
 module _ (c : Call) where
   pub lost-refused : (n : ℕ) → Refuses (lostRefusals (standing c)) n → (answerAt (lostRefusals (standing c)) n, c) ≡ lostOf c
   unfolding lostOf
   lost-refused = refused-at c (lostRefusals (standing c)) (Done, written (slotOn (standing c)))
 
-  pub lost-done : NoneHolds (lostRefusals (standing c)) → (Done, written (slotOn (standing c))) ≡ lostOf c
-  unfolding lostOf
-  lost-done n = sym (none-settles (lostRefusals (standing c)) c (Done, written (slotOn (standing c))) n)
-
 -- ---- voice
 
 -- a slot's own octets turn the frame as its session does
 pub by-slot : (c : ℕ) (k : List ℕ) (p : ℕ) (v : List ℕ) (mask : ℕ) (frame slot g : List ℕ) (from size : ℕ) → slotBits ≤ 8 * size → from ≡ slotBits * p
-    → slot ≡ octetsFrom size (λ n. stream c k v (from + n)) → g ≡ protect (λ n. bit slot (0 + n)) mask frame → g ≡ inSlot mask frame c k p v
+    → slot ≡ octetsFrom size (λ n. stream c k v (from + n)) → g ≡ protect (λ n. bit slot (0 + n)) mask frame → g ≡ inSlot stream mask frame c k p v
 by-slot c k p v mask frame slot g from size room f e h =
     h
     ∙ protect-same (λ n. bit slot (0 + n)) (ofSlot (stream c k v) p) mask
@@ -42,6 +46,11 @@ by-slot c k p v mask frame slot g from size room f e h =
     ∙ ap (λ (z : ℕ). stream c k v (z + n)) f)
     frame
 
+-- and so do a session's octets, from the slot's place on
+pub by-octets : (session : List ℕ) (q p mask : ℕ) (frame g : List ℕ) → q ≡ p → g ≡ protect (λ n. bit session (slotBits * q + n)) mask frame
+    → g ≡ protect (ofSlot (bit session) p) mask frame
+by-octets session q p mask frame g e h = h ∙ ap (λ (m : ℕ). protect (ofSlot (bit session) m) mask frame) e
+
 module _ (c : Call) (good : goodCall c ≡ true) where
   pub zero-sender : c .end ≡ sendingEnd → zeroNext (standing c) ≡ zeroAfter (c .cipher) (c .position) (c .vector)
   zero-sender z = ap zeroNext (is-sender c good z)
@@ -49,27 +58,212 @@ module _ (c : Call) (good : goodCall c ≡ true) where
   pub zero-receiver : (c .end ≡ sendingEnd → ⊥) → zeroNext (standing c) ≡ false
   zero-receiver = unless-sender c good zeroNext refl (λ n k p b v. refl)
 
+-- ---- what nothing refuses
+
 module _ (c : Call) (mask : ℕ) (frame : List ℕ) where
+  -- no refusal is 0 or 1
+  refuses-from-two : (a : Answer) → Among a (voiceRefusals (standing c) mask frame) → Refusal a
+  unfolding voiceRefusals
+  refuses-from-two a (inl e) = rw (← e) (omega arith)
+  refuses-from-two a (inr (inl e)) = rw (← e) (omega arith)
+  refuses-from-two a (inr (inr (inl e))) = rw (← e) (omega arith)
+  refuses-from-two a (inr (inr (inr (inl e)))) = rw (← e) (omega arith)
+  refuses-from-two a (inr (inr (inr (inr (inl e))))) = rw (← e) (omega arith)
+
+  module _ (n : NoneHolds (voiceRefusals (standing c) mask frame)) where
+    pub none-long : length frame ≡ frameOctets
+    unfolding voiceRefusals
+    none-long = eqb-true _ _ (not-false _ (n .0))
+
+    pub none-good : goodCall c ≡ true
+    unfolding voiceRefusals
+    none-good = good-by c (n .1 .1 .0)
+
+    none-stands : not (stands (standing c)) ≡ false
+    unfolding voiceRefusals
+    none-stands = n .1 .1 .1 .0
+
+    pub none-open : c .end ≡ closedEnd → ⊥
+    none-open z = true≢false (sym (stands-none c none-good z) ∙ none-stands)
+
+-- ---- whatever gives the session's bits
+
+module _ (st : ℕ → List ℕ → List ℕ → ℕ → ℕ) (c : Call) (mask : ℕ) (frame : List ℕ) where
   pub voice-refused : (n : ℕ) → Refuses (voiceRefusals (standing c) mask frame) n
-      → (answerAt (voiceRefusals (standing c) mask frame) n, (c, frame)) ≡ voiceOf c mask frame
-  unfolding voiceOf
-  voice-refused = refused-at (c, frame) (voiceRefusals (standing c) mask frame) (voiceAfter mask frame (standing c))
+      → (answerAt (voiceRefusals (standing c) mask frame) n, (c, frame)) ≡ voiceBy st c mask frame
+  unfolding voiceBy
+  voice-refused = refused-at (c, frame) (voiceRefusals (standing c) mask frame) (voiceAfter st mask frame (standing c))
 
-  pub voice-done : NoneHolds (voiceRefusals (standing c) mask frame) → voiceAfter mask frame (standing c) ≡ voiceOf c mask frame
-  unfolding voiceOf
-  voice-done n = sym (none-settles (voiceRefusals (standing c) mask frame) (c, frame) (voiceAfter mask frame (standing c)) n)
+  pub voice-done : NoneHolds (voiceRefusals (standing c) mask frame) → voiceAfter st mask frame (standing c) ≡ voiceBy st c mask frame
+  unfolding voiceBy
+  voice-done n = sym (none-settles (voiceRefusals (standing c) mask frame) (c, frame) (voiceAfter st mask frame (standing c)) n)
 
-  module _ (good : goodCall c ≡ true) where
-    pub after-sent : c .end ≡ sendingEnd
-        → (Done, (written (sent (c .cipher) (c .key) (c .position + 1) (c .vector)), inSlot mask frame (c .cipher) (c .key) (c .position) (c .vector)))
-        ≡ voiceAfter mask frame (standing c)
-    after-sent z = rw (is-sender c good z)
+  -- what holds of every refusal, 2 and up, and of a slot that is taken, holds of the outcome
+  pub by-voice : (P : Answer × (Call × List ℕ) → Type 0) → ((a : Answer) → Refusal a → P (a, (c, frame)))
+      → (NoneHolds (voiceRefusals (standing c) mask frame) → P (voiceAfter st mask frame (standing c))) → P (voiceBy st c mask frame)
+  unfolding voiceBy
+  by-voice P f =
+      by-refusals P (c, frame) (voiceRefusals (standing c) mask frame) (voiceAfter st mask frame (standing c))
+      (λ a m. f a (refuses-from-two c mask frame a m))
 
-    pub after-heard : c .end ≡ receivingEnd → c .known ≡ true
-        → (Done, (written (received (c .cipher) (c .key) (c .position + 1) (c .known) (c .vector)), inSlot mask frame (c .cipher) (c .key) (c .position) (c .vector)))
-        ≡ voiceAfter mask frame (standing c)
-    after-heard z e = rw (is-receiver c good z, e)
+  -- a slot that is answered 0 or 1 is refused by nothing
+  pub voice-taken : numberOf (voiceBy st c mask frame .0) < 2 → NoneHolds (voiceRefusals (standing c) mask frame)
+  voice-taken =
+      by-voice (λ o. numberOf (o .0) < 2 → NoneHolds (voiceRefusals (standing c) mask frame)) (λ a r l. absurd (omega arith)) (λ n l. n)
 
-    pub after-held : c .end ≡ receivingEnd → c .known ≡ false
-        → (Held, (written (received (c .cipher) (c .key) (c .position + 1) (c .known) (c .vector)), frame)) ≡ voiceAfter mask frame (standing c)
-    after-held z e = rw (is-receiver c good z, e)
+  pub voice-under-two : (s : Standing) → numberOf (voiceAfter st mask frame s .0) < 2
+  voice-under-two closed = omega arith
+  voice-under-two bad = omega arith
+  voice-under-two (sending n k p v) = omega arith
+  voice-under-two (receiving n k p true v) = omega arith
+  voice-under-two (receiving n k p false v) = omega arith
+
+  -- it moves the call one slot on
+  pub voice-moves : (s : Standing) → voiceAfter st mask frame s .1 .0 ≡ written (slotOn s)
+  voice-moves closed = refl
+  voice-moves bad = refl
+  voice-moves (sending n k p v) = refl
+  voice-moves (receiving n k p true v) = refl
+  voice-moves (receiving n k p false v) = refl
+
+  after-known : (n : ℕ) (k : List ℕ) (p : ℕ) (b : Bool) (v : List ℕ) → numberOf (voiceAfter st mask frame (receiving n k p b v) .0) ≡ 0
+      → voiceAfter st mask frame (receiving n k p b v) .1 .1 ≡ inSlot st mask frame n k p v
+  after-known n k p true v z = refl
+  after-known n k p false v z = absurd (omega arith)
+
+  -- answer 0: the frame is the slot's turning of it by the bits for the call's own fields, at either end
+  pub done-turned : numberOf (voiceBy st c mask frame .0) ≡ 0
+      → voiceBy st c mask frame .1 .1 ≡ inSlot st mask frame (c .cipher) (c .key) (c .position) (c .vector)
+  done-turned =
+      by-voice (λ o. numberOf (o .0) ≡ 0 → o .1 .1 ≡ inSlot st mask frame (c .cipher) (c .key) (c .position) (c .vector))
+      (λ a r z. absurd (omega arith)) last
+    where
+      last : NoneHolds (voiceRefusals (standing c) mask frame) → numberOf (voiceAfter st mask frame (standing c) .0) ≡ 0
+          → voiceAfter st mask frame (standing c) .1 .1 ≡ inSlot st mask frame (c .cipher) (c .key) (c .position) (c .vector)
+      last n z = go (good-stands c (none-good c mask frame n))
+        where
+          go : Stands c → voiceAfter st mask frame (standing c) .1 .1 ≡ inSlot st mask frame (c .cipher) (c .key) (c .position) (c .vector)
+          go (none o e s) = absurd (none-open c mask frame n e)
+          go (sender o e s) = ap (λ (t : Standing). voiceAfter st mask frame t .1 .1) s
+          go (receiver o e s) =
+              ap (λ (t : Standing). voiceAfter st mask frame t .1 .1) s
+              ∙ after-known (c .cipher) (c .key) (c .position) (c .known) (c .vector)
+              (sym (ap (λ (t : Standing). numberOf (voiceAfter st mask frame t .0)) s) ∙ z)
+
+  -- any other answer: the frame is as it came
+  pub undone-stays : (numberOf (voiceBy st c mask frame .0) ≡ 0 → ⊥) → voiceBy st c mask frame .1 .1 ≡ frame
+  undone-stays =
+      by-voice (λ o. (numberOf (o .0) ≡ 0 → ⊥) → o .1 .1 ≡ frame) (λ a r n. refl) (λ h. last (standing c))
+    where
+      last : (s : Standing) → (numberOf (voiceAfter st mask frame s .0) ≡ 0 → ⊥) → voiceAfter st mask frame s .1 .1 ≡ frame
+      last closed n = refl
+      last bad n = refl
+      last (sending m k p v) n = absurd (n refl)
+      last (receiving m k p true v) n = absurd (n refl)
+      last (receiving m k p false v) n = refl
+
+-- the answer and the call after it rest on no bit of the session
+pub voice-beside : (st su : ℕ → List ℕ → List ℕ → ℕ → ℕ) (c : Call) (mask : ℕ) (frame : List ℕ)
+    → withoutFrame (voiceBy st c mask frame) ≡ withoutFrame (voiceBy su c mask frame)
+unfolding voiceBy
+voice-beside st su c mask frame =
+    around call (c, frame) refusals (voiceAfter st mask frame (standing c))
+    ∙ ap (settled c refusals) (same (standing c))
+    ∙ sym (around call (c, frame) refusals (voiceAfter su mask frame (standing c)))
+  where
+    refusals : Refusals
+    refusals = voiceRefusals (standing c) mask frame
+
+    call : Call × List ℕ → Call
+    call r = r .0
+
+    same : (s : Standing) → withoutFrame (voiceAfter st mask frame s) ≡ withoutFrame (voiceAfter su mask frame s)
+    same closed = refl
+    same bad = refl
+    same (sending n k p v) = refl
+    same (receiving n k p true v) = refl
+    same (receiving n k p false v) = refl
+
+-- ---- as the code goes
+
+module _ (c : Call) (mask : ℕ) (frame : List ℕ) where
+  -- the answer
+  pub answer-refused : (n : ℕ) → Refuses (voiceRefusals (standing c) mask frame) n
+      → answerAt (voiceRefusals (standing c) mask frame) n ≡ voiceOf c mask frame .0
+  answer-refused n r = ap (λ (o : Answer × (Call × List ℕ)). o .0) (voice-refused stream c mask frame n r)
+
+  module _ (l : length frame ≡ frameOctets) (m : mask ≤ topMask) (good : goodCall c ≡ true) where
+    none-holds : (c .end ≡ closedEnd → ⊥) → zeroNext (standing c) ≡ false → NoneHolds (voiceRefusals (standing c) mask frame)
+    unfolding voiceRefusals
+    none-holds o z = (ap not (eq-eqb _ _ l), (le-ltb _ _ m, (not-bad c good, (stands-some c good o, (z, tt)))))
+
+    answer-of : {t : Standing} → (c .end ≡ closedEnd → ⊥) → zeroNext (standing c) ≡ false → standing c ≡ t
+        → voiceAfter stream mask frame t .0 ≡ voiceOf c mask frame .0
+    answer-of o z s =
+        sym (ap (λ (t : Standing). voiceAfter stream mask frame t .0) s)
+        ∙ ap (λ (r : Answer × (Call × List ℕ)). r .0) (voice-done stream c mask frame (none-holds o z))
+
+    pub answer-sent : c .end ≡ sendingEnd → zeroAfter (c .cipher) (c .position) (c .vector) ≡ false → Done ≡ voiceOf c mask frame .0
+    answer-sent e z = answer-of (λ o. omega arith) (zero-sender c good e ∙ z) (is-sender c good e)
+
+    answer-by : (b : Bool) → c .end ≡ receivingEnd → c .known ≡ b
+        → voiceAfter stream mask frame (receiving (c .cipher) (c .key) (c .position) b (c .vector)) .0 ≡ voiceOf c mask frame .0
+    answer-by b e k =
+        answer-of (λ o. omega arith) (zero-receiver c good (λ s. omega arith))
+        (is-receiver c good e ∙ ap (λ (t : Bool). receiving (c .cipher) (c .key) (c .position) t (c .vector)) k)
+
+    pub answer-heard : c .end ≡ receivingEnd → c .known ≡ true → Done ≡ voiceOf c mask frame .0
+    answer-heard = answer-by true
+
+    pub answer-held : c .end ≡ receivingEnd → c .known ≡ false → Held ≡ voiceOf c mask frame .0
+    answer-held = answer-by false
+
+  -- the call after it
+  module _ (a : Answer) (e : a ≡ voiceOf c mask frame .0) where
+    pub taken-none : numberOf a < 2 → NoneHolds (voiceRefusals (standing c) mask frame)
+    taken-none l = voice-taken stream c mask frame (rw e at l)
+
+    pub refused-call : Refusal a → (a, c) ≡ withoutFrame (voiceOf c mask frame)
+    refused-call r =
+        rw e
+        (by-voice stream c mask frame (λ o. Refusal (o .0) → (o .0, c) ≡ withoutFrame o) (λ b q h. refl)
+        (λ n h. absurd (omega (arith, voice-under-two stream c mask frame (standing c)))) (rw e at r))
+
+    pub taken-call : numberOf a < 2 → (d : Call) → d ≡ written (slotOn (standing c)) → (a, d) ≡ withoutFrame (voiceOf c mask frame)
+    taken-call l d f =
+        let o = voice-done stream c mask frame (taken-none l) in
+        rw (e, f, ← o) (ap (λ (x : Call). (voiceAfter stream mask frame (standing c) .0, x)) (sym (voice-moves stream c mask frame (standing c))))
+
+with-frame : (a : Answer) (d : Call) (g : List ℕ) (o : Answer × (Call × List ℕ)) → (a, d) ≡ withoutFrame o → g ≡ o .1 .1 → (a, (d, g)) ≡ o
+with-frame a d g o e f =
+    ap (λ (r : Answer × Call). (r .0, (r .1, g))) e ∙ ap (λ (h : List ℕ). (o .0, (o .1 .0, h))) f
+
+-- the frame
+module _ (st : ℕ → List ℕ → List ℕ → ℕ → ℕ) (c : Call) (mask : ℕ) (frame : List ℕ)
+    (a : Answer) (d : Call) (e : (a, d) ≡ withoutFrame (voiceOf c mask frame)) where
+  number-by : numberOf a ≡ numberOf (voiceBy st c mask frame .0)
+  number-by = ap (λ (r : Answer × Call). numberOf (r .0)) (e ∙ voice-beside stream st c mask frame)
+
+  pub frame-stays : (numberOf a ≡ 0 → ⊥) → (a, (d, frame)) ≡ voiceBy st c mask frame
+  frame-stays n =
+      with-frame a d frame (voiceBy st c mask frame) (e ∙ voice-beside stream st c mask frame)
+      (sym (undone-stays st c mask frame (λ z. n (number-by ∙ z))))
+
+  module _ (z : numberOf a ≡ 0) where
+    pub frame-turned : (g : List ℕ) → g ≡ inSlot st mask frame (c .cipher) (c .key) (c .position) (c .vector) → (a, (d, g)) ≡ voiceBy st c mask frame
+    frame-turned g t =
+        with-frame a d g (voiceBy st c mask frame) (e ∙ voice-beside stream st c mask frame)
+        (t ∙ sym (done-turned st c mask frame (sym number-by ∙ z)))
+
+    none-refused : NoneHolds (voiceRefusals (standing c) mask frame)
+    none-refused = voice-taken st c mask frame (omega (arith, number-by))
+
+    pub turned-long : length frame ≡ frameOctets
+    turned-long = none-long c mask frame none-refused
+
+    pub turned-inside : c .position < sessionSlots (c .cipher)
+    turned-inside = inside c (none-good c mask frame none-refused) (none-open c mask frame none-refused)
+
+    -- no session has more than 8 slots
+    pub turned-early : c .position < 8
+    turned-early = let l = turned-inside in omega (arith, slots-at-most (c .cipher))

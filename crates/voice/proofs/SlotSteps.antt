@@ -21,7 +21,7 @@ use Rattle.voice.specs.declared.call.Call.{Call}
 use Rattle.voice.specs.Frame.{frameOctets, slotBits, IsFrame, ofSlot, protect}
 use Rattle.session.specs.Session.{scrambles}
 use Rattle.voice.specs.Call.{closedEnd, sendingEnd, receivingEnd, goodCall, sending, receiving, standing, written}
-use Rattle.voice.specs.Slot.{received, sent, topMask, zeroAfter, voiceRefusals, inSlot, voiceOf}
+use Rattle.voice.specs.Slot.{received, sent, topMask, zeroAfter, voiceRefusals, inSlot, voiceBy, voiceOf}
 use Rattle.voice.proofs.FrameLaws.{protect-same, protect-none}
 use Rattle.voice.proofs.CallLaws.{Stands, none, sender, receiver, good-stands, inside}
 use Rattle.voice.proofs.GoodLaws.{voice-good}
@@ -29,17 +29,17 @@ use Rattle.voice.proofs.GoodLaws.{voice-good}
 module _ (call : Call) (mask : ℕ) (frame : List ℕ) (m : mask ≤ topMask) (l : length frame ≡ frameOctets) where
   module _ (c : ℕ) (k : List ℕ) (p : ℕ) (v : List ℕ) where
     pub voice-sent : standing call ≡ sending c k p v → zeroAfter c p v ≡ false
-        → voiceOf call mask frame ≡ (Done, (written (sent c k (p + 1) v), inSlot mask frame c k p v))
-    unfolding voiceOf voiceRefusals
+        → voiceOf call mask frame ≡ (Done, (written (sent c k (p + 1) v), inSlot stream mask frame c k p v))
+    unfolding voiceBy voiceRefusals
     voice-sent s z = rw (s, eq-eqb _ _ l, le-ltb _ _ m, z)
 
     pub voice-heard : standing call ≡ receiving c k p true v
-        → voiceOf call mask frame ≡ (Done, (written (received c k (p + 1) true v), inSlot mask frame c k p v))
-    unfolding voiceOf voiceRefusals
+        → voiceOf call mask frame ≡ (Done, (written (received c k (p + 1) true v), inSlot stream mask frame c k p v))
+    unfolding voiceBy voiceRefusals
     voice-heard s = rw (s, eq-eqb _ _ l, le-ltb _ _ m)
 
     pub voice-held : standing call ≡ receiving c k p false v → voiceOf call mask frame ≡ (Held, (written (received c k (p + 1) false v), frame))
-    unfolding voiceOf voiceRefusals
+    unfolding voiceBy voiceRefusals
     voice-held s = rw (s, eq-eqb _ _ l, le-ltb _ _ m)
 
 -- ---- inside a session
@@ -70,7 +70,7 @@ module _ (c : Call) (known : c .known ≡ true) (early : c .position + 1 < sessi
 module _ (c : Call) (r : Running c) (mask : ℕ) (frame : List ℕ) (m : mask ≤ topMask) (l : length frame ≡ frameOctets)
     (early : c .position + 1 < sessionSlots (c .cipher)) where
   abbrev turned : List ℕ
-  turned = inSlot mask frame (c .cipher) (c .key) (c .position) (c .vector)
+  turned = inSlot stream mask frame (c .cipher) (c .key) (c .position) (c .vector)
 
   -- before a session's last slot the frame is turned and the position moves on, at either end
   pub voice-within : voiceOf c mask frame ≡ (Done, (onward c, turned))
@@ -125,7 +125,7 @@ module _ (c : Call) (r : Running c) (start : c .position ≡ 0) (m n : ℕ) (hm 
   once : voiceOf c m first .1 .0 ≡ onward c
   once = ap (λ (o : Answer × (Call × List ℕ)). o .1 .0) (voice-within c r m first hm l (early (c .position) (omega arith)))
 
-  on-two : two ≡ (Done, (onward (onward c), inSlot 0 second (c .cipher) (c .key) (c .position + 1) (c .vector)))
+  on-two : two ≡ (Done, (onward (onward c), inSlot stream 0 second (c .cipher) (c .key) (c .position + 1) (c .vector)))
   on-two =
       ap (λ (d : Call). voiceOf d 0 second) once
       ∙ voice-within (onward c) runs-one 0 second (omega arith) (f .long) (early (c .position + 1) (omega arith))

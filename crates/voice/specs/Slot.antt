@@ -1,11 +1,13 @@
 -- A voice slot of a call (document 01, "Voice"), arrived or lost.
+use mathlib.Core.Path.{_≡_}
 use mathlib.Core.List.{List, [], _∷_}
 use mathlib.Core.Bool.{Bool, true, false, not}
-use Prim.Native.Nat.{ℕ, _+_, _-_, _^_}
+use Prim.Native.Nat.{ℕ, _+_, _-_, _^_, _<_}
 use lib.Dec.{ltb, leb, eqb}
 use lib.ListN.{length}
 use Rattle.octets.specs.Tests.{pick, every}
 use Rattle.octets.specs.Lists.{allZero}
+use Rattle.octets.specs.Bits.{bit, octetsFrom}
 use Rattle.answers.specs.declared.Answer.{Answer}
 use Rattle.answers.specs.declared.Answer.the-variants.{Done, Held, WrongLength, Bad, NotNow, BadMask, NextZero}
 use Rattle.answers.specs.Outcomes.{Refusals, settled, outcome}
@@ -13,7 +15,7 @@ use Rattle.ciphers.specs.Numbers.{sessionSlots}
 use Rattle.ciphers.specs.Keystream.{stream}
 use Rattle.generator.specs.Generator.{nextVector}
 use Rattle.voice.specs.declared.call.Call.{Call}
-use Rattle.voice.specs.Frame.{words, frameOctets, ofSlot, protect}
+use Rattle.voice.specs.Frame.{words, frameOctets, sessionBits, ofSlot, protect}
 use Rattle.session.specs.Session.{noVector, scrambles}
 use Rattle.voice.specs.Call.{Standing, closed, bad, sending, receiving, standing, written, isBad, stands, receives}
 
@@ -69,10 +71,10 @@ voiceRefusals s mask frame =
     (not (eqb (length frame) frameOctets), WrongLength) ∷ (ltb topMask mask, BadMask) ∷ (isBad s, Bad) ∷ (not (stands s), NotNow)
     ∷ (zeroNext s, NextZero) ∷ []
 
-module _ (mask : ℕ) (frame : List ℕ) where
-  -- protected or opened, the frame is turned by the bits of slot p of the session's keystream
+module _ (st : ℕ → List ℕ → List ℕ → ℕ → ℕ) (mask : ℕ) (frame : List ℕ) where
+  -- protected or opened, the frame is turned by the bits of slot p of the session, which st gives for its cipher, key and vector
   abbrev pub inSlot : ℕ → List ℕ → ℕ → List ℕ → List ℕ
-  inSlot c k p v = protect (ofSlot (stream c k v) p) mask frame
+  inSlot c k p v = protect (ofSlot (st c k v) p) mask frame
 
   -- at either end the frame is turned; where a receiver doesn't know the vector it is held as it came; position moves on
   abbrev pub voiceAfter : Standing → Answer × (Call × List ℕ)
@@ -82,5 +84,44 @@ module _ (mask : ℕ) (frame : List ℕ) where
   voiceAfter (receiving c k p true v) = (Done, (written (received c k (p + 1) true v), inSlot c k p v))
   voiceAfter (receiving c k p false v) = (Held, (written (received c k (p + 1) false v), frame))
 
-unfoldable pub voiceOf : Call → ℕ → List ℕ → Answer × (Call × List ℕ)
-voiceOf c mask frame = settled (c, frame) (voiceRefusals (standing c) mask frame) (voiceAfter mask frame (standing c))
+-- a slot, its session's bits given by st
+unfoldable pub voiceBy : (ℕ → List ℕ → List ℕ → ℕ → ℕ) → Call → ℕ → List ℕ → Answer × (Call × List ℕ)
+voiceBy st c mask frame = settled (c, frame) (voiceRefusals (standing c) mask frame) (voiceAfter st mask frame (standing c))
+
+-- by its session's keystream
+abbrev pub voiceOf : Call → ℕ → List ℕ → Answer × (Call × List ℕ)
+voiceOf = voiceBy stream
+
+-- by lent octets, whatever they hold
+abbrev pub voiceByOctets : List ℕ → Call → ℕ → List ℕ → Answer × (Call × List ℕ)
+voiceByOctets session = voiceBy (λ c k v. bit session)
+
+-- an outcome, the frame aside
+abbrev pub withoutFrame : Answer × (Call × List ℕ) → Answer × Call
+withoutFrame o = (o .0, o .1 .0)
+
+-- ---- a session's keystream, made once
+
+-- a call stands and its vector is known
+abbrev pub knows : Standing → Bool
+knows closed = false
+knows bad = false
+knows (sending c k p v) = true
+knows (receiving c k p known v) = known
+
+-- lent octets of any length, with the session's keystream from bit 0 on; without a session whose vector is known they stay as they are
+module _ (out : List ℕ) where
+  abbrev pub streamInto : Standing → List ℕ
+  streamInto closed = out
+  streamInto bad = out
+  streamInto (sending c k p v) = octetsFrom (length out) (stream c k v)
+  streamInto (receiving c k p true v) = octetsFrom (length out) (stream c k v)
+  streamInto (receiving c k p false v) = out
+
+unfoldable pub sessionStreamOf : Call → List ℕ → List ℕ
+sessionStreamOf c out = streamInto out (standing c)
+
+-- octets that hold the keystream of the session that a call is in, all that its slots can take
+pub record IsSession (call : Call) (session : List ℕ) : Type 0 where
+  pub known : knows (standing call) ≡ true
+  pub bits : (n : ℕ) → n < sessionBits → bit session n ≡ stream (call .cipher) (call .key) (call .vector) n

@@ -1,12 +1,13 @@
 // A voice slot of a call, arrived or lost.
 ghost use mathlib.Core.Path.{_≡_};
-ghost use Prim.Native.Nat.{_+_, _≤_, _<_};
+ghost use Prim.Native.Nat.{_+_, _<_};
 ghost use lib.ListN.{length};
 ghost use mathlib.Core.Bool.{true};
 ghost use Rattle.ciphers.specs.Numbers.{sessionSlots};
+ghost use Rattle.ciphers.specs.Keystream.{stream};
 ghost use Rattle.voice.specs.Frame.{frameOctets};
-ghost use Rattle.voice.specs.Call.{sendingEnd, receivingEnd, goodCall, written};
-ghost use Rattle.voice.specs.Slot.{goingOn, received, sent, lostOf, topMask, zeroAfter, inSlot, voiceOf};
+ghost use Rattle.voice.specs.Call.{closedEnd, goodCall, standing, written};
+ghost use Rattle.voice.specs.Slot.{goingOn, received, sent, slotOn, lostOf, zeroAfter, inSlot, voiceOf, voiceByOctets, withoutFrame, sessionStreamOf};
 use crate::call::CLOSED;
 use crate::call::Call;
 use crate::call::RECEIVING;
@@ -101,6 +102,19 @@ fn sender_on(cipher: u8, key: [u8; KEY_ROOM], position: u8, vector: [u8; VECTOR_
     }
 }
 
+// A standing call after a slot, at either end.
+fn slot_on(call: Call) -> Call
+    requires { ⌜ (goodCall call ≡ true) × (call .end ≡ closedEnd → ⊥) ⌝ }
+    ensures { λ r. ⌜ r ≡ written (slotOn (standing call)) ⌝ }
+{
+    let key = call.key;
+    let vector = call.vector;
+    if call.end == SENDING {
+        return sender_on(call.cipher, key, call.position, vector);
+    }
+    receiver_on(call.cipher, key, call.position, call.known, vector)
+}
+
 // ---- a lost slot
 
 pub fn lost(call: Call) -> Stepped
@@ -118,11 +132,9 @@ pub fn lost(call: Call) -> Stepped
             call,
         };
     }
-    let key = call.key;
-    let vector = call.vector;
     Stepped {
         answer: Answer::Done,
-        call: receiver_on(call.cipher, key, call.position, call.known, vector),
+        call: slot_on(call),
     }
 }
 
@@ -152,49 +164,53 @@ fn turn_slot(
     frame: &mut [u8],
 )
     requires { ⌜ (position < sessionSlots cipher) × (length (now frame) ≡ frameOctets) ⌝ }
-    ensures { λ _. ⌜ now (frame .exit) ≡ inSlot mask (now (frame .entry)) cipher key position vector ⌝ }
+    ensures { λ _. ⌜ now (frame .exit) ≡ inSlot stream mask (now (frame .entry)) cipher key position vector ⌝ }
 {
     let mut slot = [0; SLOT_OCTETS];
     keystream(cipher, key, vector, SLOT_BITS * wide(position), &mut slot);
     turn_frame(frame, mask, &slot, 0);
 }
 
-fn send(call: Call, mask: u8, frame: &mut [u8]) -> Stepped
-    requires { ⌜ (goodCall call ≡ true) × (call .end ≡ sendingEnd) × (mask ≤ topMask) × (length (now frame) ≡ frameOctets) ⌝ }
-    ensures { λ r. ⌜ (r .answer, (r .call, now (frame .exit))) ≡ voiceOf call mask (now (frame .entry)) ⌝ }
+// What a slot is answered. Of the frame only the length counts.
+fn answer_to(call: Call, mask: u8, frame: &[u8]) -> Answer
+    ensures { λ r. ⌜ r ≡ voiceOf call mask (now (frame .entry)) .0 ⌝ }
 {
-    let key = call.key;
-    let vector = call.vector;
-    if is_zero_after(call.cipher, call.position, vector) {
-        return Stepped {
-            answer: Answer::NextZero,
-            call,
-        };
+    if frame.len() != FRAME_OCTETS {
+        return Answer::WrongLength;
     }
-    turn_slot(call.cipher, key, call.position, vector, mask, frame);
-    Stepped {
-        answer: Answer::Done,
-        call: sender_on(call.cipher, key, call.position, vector),
+    if mask > TOP_MASK {
+        return Answer::BadMask;
     }
+    if !good_call(call) {
+        return Answer::Bad;
+    }
+    if call.end == CLOSED {
+        return Answer::NotNow;
+    }
+    if call.end == SENDING {
+        let vector = call.vector;
+        if is_zero_after(call.cipher, call.position, vector) {
+            return Answer::NextZero;
+        }
+        return Answer::Done;
+    }
+    if !call.known {
+        return Answer::Held;
+    }
+    Answer::Done
 }
 
-fn receive(call: Call, mask: u8, frame: &mut [u8]) -> Stepped
-    requires { ⌜ (goodCall call ≡ true) × (call .end ≡ receivingEnd) × (mask ≤ topMask) × (length (now frame) ≡ frameOctets) ⌝ }
-    ensures { λ r. ⌜ (r .answer, (r .call, now (frame .exit))) ≡ voiceOf call mask (now (frame .entry)) ⌝ }
+// What a slot is answered, and the call after it. The frame is to be turned where the answer is 0.
+fn step(call: Call, mask: u8, frame: &[u8]) -> Stepped
+    ensures { λ r. ⌜ (r .answer, r .call) ≡ withoutFrame (voiceOf call mask (now (frame .entry))) ⌝ }
 {
-    let key = call.key;
-    let vector = call.vector;
-    let next = receiver_on(call.cipher, key, call.position, call.known, vector);
-    if !call.known {
-        return Stepped {
-            answer: Answer::Held,
-            call: next,
-        };
+    let answer = answer_to(call, mask, frame);
+    if answer.number() > 1 {
+        return Stepped { answer, call };
     }
-    turn_slot(call.cipher, key, call.position, vector, mask, frame);
     Stepped {
-        answer: Answer::Done,
-        call: next,
+        answer,
+        call: slot_on(call),
     }
 }
 
@@ -202,32 +218,43 @@ fn receive(call: Call, mask: u8, frame: &mut [u8]) -> Stepped
 pub fn voice(call: Call, mask: u8, frame: &mut [u8]) -> Stepped
     ensures { λ r. ⌜ (r .answer, (r .call, now (frame .exit))) ≡ voiceOf call mask (now (frame .entry)) ⌝ }
 {
-    if frame.len() != FRAME_OCTETS {
-        return Stepped {
-            answer: Answer::WrongLength,
-            call,
-        };
+    let stepped = step(call, mask, frame);
+    let answer = stepped.answer;
+    if answer.number() != 0 {
+        return stepped;
     }
-    if mask > TOP_MASK {
-        return Stepped {
-            answer: Answer::BadMask,
-            call,
-        };
+    let key = call.key;
+    let vector = call.vector;
+    turn_slot(call.cipher, key, call.position, vector, mask, frame);
+    stepped
+}
+
+// ---- a session's keystream, made once
+
+// The same slot, turned by lent octets that hold the session's keystream. Where they hold less, what is missing turns nothing.
+pub fn voice_by(call: Call, mask: u8, frame: &mut [u8], session: &[u8]) -> Stepped
+    ensures { λ r. ⌜ (r .answer, (r .call, now (frame .exit))) ≡ voiceByOctets (now (session .entry)) call mask (now (frame .entry)) ⌝ }
+{
+    let stepped = step(call, mask, frame);
+    let answer = stepped.answer;
+    if answer.number() != 0 {
+        return stepped;
     }
+    turn_frame(frame, mask, session, SLOT_BITS * wide(call.position));
+    stepped
+}
+
+// The keystream of the call's session from bit 0 on, into lent octets of any length. Without a known vector they stay as they are.
+pub fn session_stream(call: Call, session: &mut [u8])
+    ensures { λ _. ⌜ now (session .exit) ≡ sessionStreamOf call (now (session .entry)) ⌝ }
+{
     if !good_call(call) {
-        return Stepped {
-            answer: Answer::Bad,
-            call,
-        };
+        return;
     }
-    if call.end == CLOSED {
-        return Stepped {
-            answer: Answer::NotNow,
-            call,
-        };
+    if !call.known {
+        return;
     }
-    if call.end == SENDING {
-        return send(call, mask, frame);
-    }
-    receive(call, mask, frame)
+    let key = call.key;
+    let vector = call.vector;
+    keystream(call.cipher, key, vector, 0, session);
 }

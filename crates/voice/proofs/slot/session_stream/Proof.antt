@@ -1,0 +1,19 @@
+-- `voice::slot::session_stream` meets its contract. Assumes nothing.
+use mathlib.Core.Path.{_∙_}
+use borrow.Author.Tests.{not-true, not-false}
+use Rattle.octets.proofs.TestLaws.{fails, holds}
+use Rattle.voice.proofs.SessionOnce.{knows-not, knows-is, knows-ranged, stream-stays, stream-written}
+use borrow.Author.Needs.{needs}
+use Rattle.voice.proofs.slot.session_stream.Statement.{statement}
+use Rattle.voice.proofs.slot.session_stream.Tie as tie
+
+pub session-stream-spec : {M : Type 1} → statement M
+session-stream-spec =
+    tie.close
+    (tie.spec
+    (λ c κs. search needs)
+    (λ c. stream-stays _ (knows-not _ (fails (c .before .good-call .ensures) (c .if1 .taken))) _)
+    (λ c. stream-stays _ (knows-is _ (holds (c .before .before .before .good-call .ensures) (c .before .before .if1 .left)) ∙ not-true _ (c .if2 .taken)) _)
+    (λ c κs. knows-ranged _ (knows-is _ (holds (c .before .before .before .before .before .before .good-call .ensures) (c .before .before .before .before .before .if1 .left)) ∙ not-false _ (c .before .before .before .if2 .left)))
+    (λ c. search needs)
+    (λ c. stream-written _ (knows-is _ (holds (c .before .before .before .before .before .before .before .before .before .good-call .ensures) (c .before .before .before .before .before .before .before .before .if1 .left)) ∙ not-false _ (c .before .before .before .before .before .before .if2 .left)) _ _ (c .before .before .keystream .ensures)))
