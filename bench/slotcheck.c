@@ -1,0 +1,123 @@
+/* What slotcheck is measured against: the same job in plain C over OpenSSL, for input that is well formed.
+   slotcheck-c < FILE          answers each record
+   slotcheck-c make CIPHER N   prints an input of N voice slots under a cipher */
+#define OPENSSL_API_COMPAT 0x10100000L
+#define OPENSSL_SUPPRESS_DEPRECATED
+#include <openssl/aes.h>
+#include <openssl/des.h>
+#include <stdint.h>
+#include <stdio.h>
+#include <stdlib.h>
+#include <string.h>
+#include <unistd.h>
+
+typedef unsigned char octet;
+enum { SESSION_OCTETS = 196, PIECE = 65536 };
+
+static struct { int cipher, position, known, open; octet key[32], vector[8], stream[SESSION_OCTETS + 8]; } call;
+static octet keys[4][64][32];
+
+static uint64_t following(uint64_t r) {
+    for (int i = 0; i < 64; i++) r = r << 1 | ((r >> 63 ^ r >> 61 ^ r >> 45 ^ r >> 37 ^ r >> 26 ^ r >> 14) & 1);
+    return r;
+}
+
+static void put64(octet *out, uint64_t x) { for (int i = 0; i < 8; i++) out[i] = x >> (56 - 8 * i); }
+static uint64_t get64(const octet *in) { uint64_t x = 0; for (int i = 0; i < 8; i++) x = x << 8 | in[i]; return x; }
+
+static void scramble(const octet *key, octet *out, int octets) {
+    unsigned p = key[0] << 8 | key[1];
+    for (int i = 0; i < octets; i++) {
+        octet x = 0;
+        for (int k = 0; k < 8; k++) { x = x << 1 | (p & 1); p = p >> 1 | ((p ^ p >> 1) & 1) << 14; }
+        out[i] = x;
+    }
+}
+
+/* The keystream of the call's session, made once. */
+static void make_stream(void) {
+    octet block[16];
+    memcpy(block, call.vector, 8);
+    if (call.cipher == 1) { scramble(call.key, call.stream, SESSION_OCTETS / 2); return; }
+    if (call.cipher == 2) {
+        DES_key_schedule ks;
+        DES_set_key_unchecked((const_DES_cblock *)call.key, &ks);
+        for (int at = -8; at < SESSION_OCTETS; at += 8) {
+            DES_ecb_encrypt((const_DES_cblock *)block, (DES_cblock *)block, &ks, DES_ENCRYPT);
+            if (at >= 0) memcpy(call.stream + at, block, at + 8 <= SESSION_OCTETS ? 8 : SESSION_OCTETS - at);
+        }
+        return;
+    }
+    AES_KEY k;
+    AES_set_encrypt_key(call.key, 256, &k);
+    put64(block + 8, following(get64(call.vector)));
+    for (int at = -16; at < SESSION_OCTETS; at += 16) {
+        AES_encrypt(block, block, &k);
+        if (at >= 0) memcpy(call.stream + at, block, at + 16 <= SESSION_OCTETS ? 16 : SESSION_OCTETS - at);
+    }
+}
+
+static void turn(octet *frame, int mask) {
+    for (int w = 0; w < 4; w++) {
+        if (!(mask >> w & 1)) continue;
+        int from = 196 * call.position + 49 * w, s = from % 8;
+        const octet *in = call.stream + from / 8;
+        octet *word = frame + 7 * w;
+        for (int i = 0; i < 6; i++) word[i] ^= (in[i] << 8 | in[i + 1]) >> (8 - s);
+        word[6] ^= (in[6] << s) & 128;
+    }
+}
+
+static int digit(octet c) { return c <= '9' ? c - '0' : c - 'A' + 10; }
+static const octet *number(const octet *p, int *n) { for (*n = 0; *p >= '0' && *p <= '9'; p++) *n = 10 * *n + *p - '0'; return p + 1; }
+static int unhex(const octet *p, const octet *end, octet *out) { int n = 0; for (; p + 1 < end; p += 2) out[n++] = digit(p[0]) << 4 | digit(p[1]); return n; }
+
+/* Answers one record; returns the end of what it wrote. */
+static octet *answer(const octet *p, const octet *end, octet *out) {
+    int a, b, number_of = 0, shown = 0;
+    octet octets[48];
+    switch (*p) {
+    case 'K': p = number(p + 2, &a); p = number(p, &b); unhex(p, end, keys[a & 3][b & 63]); break;
+    case 'O': p = number(p + 2, &a); p = number(p, &b); unhex(p, end, call.vector);
+        call.cipher = a & 3; memcpy(call.key, keys[a & 3][b & 63], 32); call.position = 0; call.known = call.open = 1; make_stream(); break;
+    case 'I': unhex(p + 2, end, call.vector); call.known = 1; make_stream(); break;
+    case 'V': p = number(p + 2, &a); unhex(p, end, octets);
+        if ((shown = call.known)) turn(octets, a); else number_of = 1; /* fall through */
+    case 'L':
+        if (++call.position == (call.cipher == 1 ? 4 : 8)) { call.position = 0; if (call.cipher != 1) call.known = 0; } break;
+    case 'E': call.open = 0; break;
+    }
+    *out++ = '0' + number_of; *out++ = '\t';
+    *out++ = call.open ? '0' + call.position : '-'; *out++ = '\t';
+    if (shown) for (int i = 0; i < 28; i++) { *out++ = "0123456789ABCDEF"[octets[i] >> 4]; *out++ = "0123456789ABCDEF"[octets[i] & 15]; }
+    else *out++ = '-';
+    *out++ = '\n';
+    return out;
+}
+
+static void make(int cipher, long slots) {
+    static const char *key[] = {"", "5A3C", "ABCDEF0123456789", "ABCDEF0123456789CDEF0123456789ABEF0123456789ABCD0123456789ABCDEF"};
+    uint64_t vector = 0xABCDEF1234567890, noise = 1;
+    printf("K\t%d\t0\t%s\nO\t%d\t0\t%016lX\n", cipher, key[cipher], cipher, (unsigned long)vector);
+    for (long n = 0; n < slots; n++) {
+        if (cipher != 1 && n && n % 8 == 0) printf("I\t%016lX\n", (unsigned long)(vector = following(vector)));
+        printf("V\t15\t");
+        for (int i = 0; i < 7; i++) printf("%08lX", (unsigned long)((noise = noise * 6364136223846793005u + 1442695040888963407u) >> 32));
+        printf("\n");
+    }
+    printf("E\n");
+}
+
+int main(int argc, char **argv) {
+    static octet in[2 * PIECE], out[2 * PIECE];
+    size_t held = 0;
+    if (argc == 4) { make(atoi(argv[2]), atol(argv[3])); return 0; }
+    for (ssize_t got; (got = read(0, in + held, PIECE)) > 0;) {
+        octet *end = in + held + got, *from = in, *to = out, *line;
+        while ((line = memchr(from, '\n', end - from))) { to = answer(from, line, to); from = line + 1; }
+        held = end - from;
+        memmove(in, from, held);
+        if (write(1, out, to - out) < 0) return 1;
+    }
+    return 0;
+}
