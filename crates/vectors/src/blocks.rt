@@ -1,6 +1,6 @@
 // The known answers of the block ciphers, one block at a time.
-use crate::text::has_octets;
-use crate::text::octets_of;
+use crate::row::has_octets;
+use crate::row::octets_of;
 ghost use mathlib.Core.Path.{_≡_};
 ghost use Prim.Native.Nat.{_<_};
 ghost use lib.ListN.{length};

@@ -1,8 +1,8 @@
 // The known answers of output feedback as FIPS 81 and SP 800-38A have it: unlike in NXDN TS 1-D, the vector's first encipherment is used.
 use crate::blocks::encipher;
-use crate::text::field;
-use crate::text::has_octets;
-use crate::text::octets_of;
+use crate::row::field;
+use crate::row::has_octets;
+use crate::row::octets_of;
 use check::same;
 use octets::turn;
 ghost use Prim.Native.Nat.{_<_, _≤_};

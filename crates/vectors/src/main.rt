@@ -4,12 +4,13 @@ mod blocks;
 mod feedback;
 mod messages;
 mod nxdn;
+mod row;
 mod slots;
-mod text;
 
 use libc::STDOUT_FILENO;
-use text::is_row;
-use text::until;
+use crate::row::is_row;
+use text::part::LINE_END;
+use text::part::part_end;
 ghost use Rattle.io.specs.Counts.{Counts};
 
 // A file of known answers, named after what its rows try.
@@ -85,7 +86,7 @@ fn try_rows(set: Set, file: &[u8], text: &[u8]) -> Tally {
     let mut lines: u64 = 0;
     let mut at = 0;
     while at < text.len() {
-        let end = until(text, at, b'\n');
+        let end = part_end(text, at, LINE_END);
         let line = &text[at..end];
         lines += 1;
         if is_row(line) {

@@ -1,8 +1,8 @@
 // Data messages of each kind, protected by a packet at a row's count.
-use crate::text::first_octets_of;
-use crate::text::has_octets;
-use crate::text::number;
-use crate::text::octets_of;
+use crate::row::first_octets_of;
+use crate::row::has_octets;
+use crate::row::number;
+use crate::row::octets_of;
 use data::kind::message_octets;
 use data::message::message;
 use data::packet::Packet;

@@ -1,9 +1,9 @@
 // The known answers of NXDN TS 1-D: enciphered user data (7.2.2) and the outputs of the vector generator (7.2.3).
-use crate::text::field;
-use crate::text::first_octets_of;
-use crate::text::has_octets;
-use crate::text::number;
-use crate::text::octets_of;
+use crate::row::field;
+use crate::row::first_octets_of;
+use crate::row::has_octets;
+use crate::row::number;
+use crate::row::octets_of;
 use check::same;
 use ciphers::keystream::keystream;
 use octets::turn;

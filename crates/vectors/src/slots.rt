@@ -1,8 +1,8 @@
 // Voice slots past the first, opened by a receiver that knows its session's vector.
-use crate::text::first_octets_of;
-use crate::text::has_octets;
-use crate::text::number;
-use crate::text::octets_of;
+use crate::row::first_octets_of;
+use crate::row::has_octets;
+use crate::row::number;
+use crate::row::octets_of;
 use voice::call::Call;
 use voice::call::RECEIVING;
 use voice::slot::voice;

@@ -1,9 +1,9 @@
--- `vectors::text::field` is safe and ends. Assumes nothing.
+-- `vectors::row::field` is safe and ends. Assumes nothing.
 use Prim.Native.Nat.{_≤_, _-_}
 use borrow.Author.Needs.{needs}
 use lib.ListN.{length}
-use Rattle.vectors.proofs.text.field.Statement.{statement}
-use Rattle.vectors.proofs.text.field.Tie as tie
+use Rattle.vectors.proofs.row.field.Statement.{statement}
+use Rattle.vectors.proofs.row.field.Tie as tie
 
 abbrev Inv-loop : tie.InvT-loop
 Inv-loop row n at₀ k₀ at k = at ≤ length row

@@ -1,0 +1,219 @@
+-- Octets in hex: what a digit is worth, hex read and written in a loop, and that reading takes back what writing made. Assumes nothing.
+use mathlib.Core.Path.{_≡_, refl, sym, ap, ap₂, _∙_}
+use mathlib.Core.Bool.{Bool, true, false, _&&_, _||_, and-true, true≢false, false≢true}
+use mathlib.Core.List.{List}
+use Prim.Native.Nat.{ℕ, suc, _+_, _-_, _*_, _/_, _%_, _≤_, _<_}
+use native.Mathlib.Nat.{mod-eq-of-lt, div-one}
+use native.Mathlib.Numerals.{add-one}
+use native.Mathlib.Omega.{arith}
+use lib.Dec.{eqb}
+use lib.ListN.{length, getD, set}
+use lib.Seq.{ext-getD}
+use borrow.Author.Tests.{eqb-true, eq-eqb, ne-eqb}
+use Rattle.octets.specs.Tests.{pick, allBelow}
+use Rattle.octets.specs.Bits.{Octets}
+use Rattle.octets.proofs.TestLaws.{and-left, and-right, and-false-r, all-at, all-intro, agree}
+use Rattle.octets.proofs.ListLaws.{length-tab, getD-tab}
+use Rattle.octets.proofs.Front.{Front, front-start, front-more, front-to, front-done}
+use Rattle.text.specs.Decimal.{isDigit}
+use Rattle.text.specs.Hex.{isLetterDigit, isHexDigit, hexValue, hexDigit, isHex, hexOctets, hexText, readHex}
+use Rattle.text.proofs.RangeLaws.{inside, above, least, most}
+use Rattle.text.proofs.PartedLaws.{Lacks}
+
+-- ---- one digit
+
+module _ (x : ℕ) where
+  pub value-lt : hexValue x < 16
+  unfolding hexValue
+  value-lt = go (isDigit x) (isLetterDigit x) refl refl
+    where
+      go : (d l : Bool) → isDigit x ≡ d → isLetterDigit x ≡ l → pick d (x - 48) (pick l (10 + (x - 65)) 0) < 16
+      go true l e f = omega (arith, most 48 57 x e)
+      go false true e f = omega (arith, most 65 70 x f)
+      go false false e f = omega arith
+
+  pub value-none : isHexDigit x ≡ false → hexValue x ≡ 0
+  unfolding hexValue
+  value-none = go (isDigit x) (isLetterDigit x)
+    where
+      go : (d l : Bool) → (d || l) ≡ false → pick d (x - 48) (pick l (10 + (x - 65)) 0) ≡ 0
+      go true l e = absurd (true≢false e)
+      go false true e = absurd (true≢false e)
+      go false false e = refl
+
+  pub digit-least : isHexDigit x ≡ true → 48 ≤ x
+  digit-least = go (isDigit x) (isLetterDigit x) refl refl
+    where
+      go : (d l : Bool) → isDigit x ≡ d → isLetterDigit x ≡ l → (d || l) ≡ true → 48 ≤ x
+      go true l e f t = least 48 57 x e
+      go false true e f t = omega (arith, least 65 70 x f)
+      go false false e f t = absurd (false≢true t)
+
+  pub worth-digit : 48 ≤ x → x ≤ 57 → x - 48 ≡ pick (isHexDigit x) (hexValue x) 16
+  unfolding hexValue
+  worth-digit h l = rw (inside 48 57 x h l)
+
+  pub worth-letter : 65 ≤ x → x ≤ 70 → x - 65 + 10 ≡ pick (isHexDigit x) (hexValue x) 16
+  unfolding hexValue
+  worth-letter h l = rw (above 48 57 x (omega arith), inside 65 70 x h l) (omega arith)
+
+  pub worth-none : isDigit x ≡ false → isLetterDigit x ≡ false → 16 ≡ pick (isHexDigit x) (hexValue x) 16
+  worth-none d l = rw (d, l)
+
+  -- what the code makes of a digit: its worth, and 16 for an octet that is none
+  module _ (v : ℕ) (worth : v ≡ pick (isHexDigit x) (hexValue x) 16) where
+    by-digit : (b : Bool) → isHexDigit x ≡ b → v ≡ pick b (hexValue x) 16
+    by-digit b e = rw e at worth
+
+    pub worth-mod : v % 16 ≡ hexValue x
+    worth-mod = go (isHexDigit x) refl
+      where
+        go : (b : Bool) → isHexDigit x ≡ b → v % 16 ≡ hexValue x
+        go true e = rw (by-digit true e) (mod-eq-of-lt value-lt)
+        go false e = rw (by-digit false e) (sym (value-none e))
+
+    -- a flag that falls where a digit is none
+    pub flag-falls : (was is : Bool) → 15 < v → is ≡ false → is ≡ (was && isHexDigit x)
+    flag-falls was is h e = go (isHexDigit x) refl
+      where
+        go : (b : Bool) → isHexDigit x ≡ b → is ≡ (was && b)
+        go true d = absurd (omega (arith, by-digit true d, value-lt))
+        go false d = e ∙ sym (and-false-r was)
+
+    pub flag-stays : (was is : Bool) → v ≤ 15 → is ≡ was → is ≡ (was && isHexDigit x)
+    flag-stays was is h e = go (isHexDigit x) refl
+      where
+        go : (b : Bool) → isHexDigit x ≡ b → is ≡ (was && b)
+        go true d = e ∙ sym (and-true was)
+        go false d = absurd (omega (arith, by-digit false d))
+
+-- ---- hex read
+
+module _ (field : List ℕ) where
+  abbrev pub digitAt : ℕ → Bool
+  digitAt k = isHexDigit (getD field k 0)
+
+  -- a flag that tells whether the digits so far are digits, two on
+  pub flag-more : (i : ℕ) (b b₁ b₂ : Bool) → b ≡ allBelow digitAt (2 * i) → b₁ ≡ (b && digitAt (2 * i)) → b₂ ≡ (b₁ && digitAt (2 * i + 1)) → b₂ ≡ allBelow digitAt (2 * (i + 1))
+  unfolding allBelow
+  flag-more i b b₁ b₂ e f g =
+      let q : 2 * (i + 1) ≡ suc (suc (2 * i)) = omega arith in
+      rw (q, g, f, e, add-one)
+
+  pub is-hex : (n i : ℕ) (b : Bool) → length field ≡ 2 * n → i ≡ n → b ≡ allBelow digitAt (2 * i) → b ≡ isHex n field
+  unfolding isHex
+  is-hex n i b l q e = rw (eq-eqb (length field) (2 * n) l) (e ∙ ap (λ (k : ℕ). allBelow digitAt (2 * k)) q)
+
+  pub not-hex : (n : ℕ) → (length field ≡ 2 * n → ⊥) → false ≡ isHex n field
+  unfolding isHex
+  not-hex n h = rw (ne-eqb (length field) (2 * n) h)
+
+  pub length-hexOctets : (n : ℕ) → length (hexOctets field n) ≡ n
+  unfolding hexOctets
+  length-hexOctets n = length-tab (λ i. 16 * hexValue (getD field (2 * i) 0) + hexValue (getD field (2 * i + 1) 0)) n
+
+  pub getD-hexOctets : (n i : ℕ) → i < n → getD (hexOctets field n) i 0 ≡ 16 * hexValue (getD field (2 * i) 0) + hexValue (getD field (2 * i + 1) 0)
+  unfolding hexOctets
+  getD-hexOctets n i h = getD-tab (λ i. 16 * hexValue (getD field (2 * i) 0) + hexValue (getD field (2 * i + 1) 0)) n i h
+
+  -- one octet more
+  pub read-more : (n : ℕ) (d₀ d : List ℕ) (i high low : ℕ) → Front (hexOctets field n) d₀ d i → i < n
+      → high ≡ pick (digitAt (2 * i)) (hexValue (getD field (2 * i) 0)) 16
+      → low ≡ pick (digitAt (2 * i + 1)) (hexValue (getD field (2 * i + 1) 0)) 16
+      → Front (hexOctets field n) d₀ (set d i (16 * (high % 16) + low % 16)) (i + 1)
+  read-more n d₀ d i high low f l eh el =
+      front-more (hexOctets field n) d₀ d i (16 * (high % 16) + low % 16) f (omega (arith, length-hexOctets n))
+      (ap₂ (λ (a b : ℕ). 16 * a + b) (worth-mod (getD field (2 * i) 0) high eh) (worth-mod (getD field (2 * i + 1) 0) low el) ∙ sym (getD-hexOctets n i l))
+
+  pub read-start : (d : List ℕ) → Front (hexOctets field (length d)) d d 0
+  read-start d = front-start (hexOctets field (length d)) d (sym (length-hexOctets (length d)))
+
+  pub read-done : (d₀ d : List ℕ) (i : ℕ) → length field ≡ 2 * length d₀ → Front (hexOctets field (length d₀)) d₀ d i → length d₀ ≤ i → d ≡ readHex field d₀
+  unfolding readHex
+  read-done d₀ d i l f h =
+      rw (eq-eqb (length field) (2 * length d₀) l) (front-done (hexOctets field (length d₀)) d₀ d i f (omega (arith, length-hexOctets (length d₀))))
+
+  pub read-not : (d₀ : List ℕ) → (length field ≡ 2 * length d₀ → ⊥) → d₀ ≡ readHex field d₀
+  unfolding readHex
+  read-not d₀ h = rw (ne-eqb (length field) (2 * length d₀) h)
+
+  pub hex-size : (n : ℕ) → isHex n field ≡ true → length field ≡ 2 * n
+  unfolding isHex
+  hex-size n e = eqb-true (length field) (2 * n) (and-left (eqb (length field) (2 * n)) (allBelow digitAt (2 * n)) e)
+
+  pub read-of : (d₀ : List ℕ) → isHex (length d₀) field ≡ true → readHex field d₀ ≡ hexOctets field (length d₀)
+  unfolding readHex
+  read-of d₀ e = rw (eq-eqb (length field) (2 * length d₀) (hex-size (length d₀) e))
+
+  pub hex-lacks : (n sep : ℕ) → sep < 48 → isHex n field ≡ true → Lacks sep field
+  unfolding isHex
+  hex-lacks n sep h e k l =
+      let digit = all-at digitAt (2 * n) k (omega (arith, hex-size n e)) (and-right (eqb (length field) (2 * n)) (allBelow digitAt (2 * n)) e) in
+      ne-eqb (getD field k 0) sep (λ q. omega (arith, digit-least (getD field k 0) digit))
+
+-- ---- hex written
+
+module _ (xs : List ℕ) where
+  abbrev written : ℕ → ℕ
+  written k = hexDigit (getD xs (k / 2) 0 / pick (eqb (k % 2) 0) 16 1 % 16)
+
+  pub length-hexText : length (hexText xs) ≡ 2 * length xs
+  unfolding hexText
+  length-hexText = length-tab written (2 * length xs)
+
+  pub hexText-high : (i : ℕ) → i < length xs → getD xs i 0 < 256 → getD (hexText xs) (2 * i) 0 ≡ hexDigit (getD xs i 0 / 16)
+  unfolding hexText
+  hexText-high i l o =
+      let q : 2 * i / 2 ≡ i = omega arith in
+      let r : 2 * i % 2 ≡ 0 = omega arith in
+      let m : getD xs i 0 / 16 % 16 ≡ getD xs i 0 / 16 = omega arith in
+      getD-tab written (2 * length xs) (2 * i) (omega arith) ∙ rw (q, r, m)
+
+  pub hexText-low : (i : ℕ) → i < length xs → getD (hexText xs) (2 * i + 1) 0 ≡ hexDigit (getD xs i 0 % 16)
+  unfolding hexText
+  hexText-low i l =
+      let q : (2 * i + 1) / 2 ≡ i = omega arith in
+      let r : (2 * i + 1) % 2 ≡ 1 = omega arith in
+      getD-tab written (2 * length xs) (2 * i + 1) (omega arith) ∙ rw (q, r, div-one)
+
+  pub write-start : (d : List ℕ) → length d ≡ 2 * length xs → Front (hexText xs) d d (2 * 0)
+  write-start d e = front-start (hexText xs) d (e ∙ sym length-hexText)
+
+  pub write-more : (d₀ d : List ℕ) (i high low : ℕ) → Front (hexText xs) d₀ d (2 * i) → i < length xs → getD xs i 0 < 256
+      → high ≡ hexDigit (getD xs i 0 / 16) → low ≡ hexDigit (getD xs i 0 % 16)
+      → Front (hexText xs) d₀ (set (set d (2 * i) high) (2 * i + 1) low) (2 * (i + 1))
+  write-more d₀ d i high low f l o eh el =
+      let first = front-more (hexText xs) d₀ d (2 * i) high f (omega (arith, length-hexText)) (eh ∙ sym (hexText-high i l o)) in
+      front-to (hexText xs) d₀ (set (set d (2 * i) high) (2 * i + 1) low) (2 * i + 1 + 1) (2 * (i + 1)) (omega arith)
+      (front-more (hexText xs) d₀ (set d (2 * i) high) (2 * i + 1) low first (omega (arith, length-hexText)) (el ∙ sym (hexText-low i l)))
+
+  pub write-done : (d₀ d : List ℕ) (i : ℕ) → Front (hexText xs) d₀ d (2 * i) → length xs ≤ i → d ≡ hexText xs
+  write-done d₀ d i f h = front-done (hexText xs) d₀ d (2 * i) f (omega (arith, length-hexText))
+
+-- ---- what was written is read
+
+digit-hex : (n : ℕ) → n < 16 → isHexDigit (hexDigit n) ≡ true
+unfolding hexDigit allBelow
+digit-hex n h = all-at (λ n. isHexDigit (hexDigit n)) 16 n h refl
+
+value-digit : (n : ℕ) → n < 16 → hexValue (hexDigit n) ≡ n
+unfolding hexDigit hexValue allBelow
+value-digit n h = agree (λ n. hexValue (hexDigit n)) (λ n. n) 16 refl n h
+
+module _ (xs : List ℕ) where
+  pub hexText-hex : isHex (length xs) (hexText xs) ≡ true
+  unfolding isHex hexText
+  hexText-hex =
+      rw (eq-eqb (length (hexText xs)) (2 * length xs) (length-hexText xs))
+      (all-intro (digitAt (hexText xs)) (2 * length xs) (λ k l. rw (getD-tab (written xs) (2 * length xs) k l) (digit-hex (getD xs (k / 2) 0 / pick (eqb (k % 2) 0) 16 1 % 16) (omega arith))))
+
+  pub hex-round : Octets xs → hexOctets (hexText xs) (length xs) ≡ xs
+  hex-round o =
+      ext-getD 0 (hexOctets (hexText xs) (length xs)) xs (length-hexOctets (hexText xs) (length xs))
+      (λ i l. at i (omega (arith, length-hexOctets (hexText xs) (length xs))))
+    where
+      at : (i : ℕ) → i < length xs → getD (hexOctets (hexText xs) (length xs)) i 0 ≡ getD xs i 0
+      at i l =
+          let high : hexValue (getD (hexText xs) (2 * i) 0) ≡ getD xs i 0 / 16 = rw (hexText-high xs i l (o i)) (value-digit (getD xs i 0 / 16) (omega (arith, o i))) in
+          let low : hexValue (getD (hexText xs) (2 * i + 1) 0) ≡ getD xs i 0 % 16 = rw (hexText-low xs i l) (value-digit (getD xs i 0 % 16) (omega arith)) in
+          omega (arith, getD-hexOctets (hexText xs) (length xs) i l, high, low)

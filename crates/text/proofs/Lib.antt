@@ -1,0 +1,4 @@
+pub mod RangeLaws
+pub mod PartedLaws
+pub mod DecimalLaws
+pub mod HexLaws

@@ -1,0 +1,27 @@
+-- `text::part::part_end` meets its contract. Assumes nothing.
+use Prim.Native.Nat.{_-_}
+use borrow.Author.Needs.{needs}
+use lib.ListN.{length}
+use Rattle.text.proofs.PartedLaws.{Passed, passed-start, passed-more, passed-stop, passed-all}
+use Rattle.text.proofs.part.part_end.Statement.{statement}
+use Rattle.text.proofs.part.part_end.Tie as tie
+
+abbrev Inv-loop : tie.InvT-loop
+Inv-loop text at separator end₀ end = Passed separator text at end
+
+abbrev μ-loop : tie.MeasureT-loop
+μ-loop text at separator end₀ end = length text - end
+
+pub part-end-spec : {M : Type 1} → statement M
+part-end-spec =
+    tie.close
+    (tie.spec
+    Inv-loop
+    μ-loop
+    (λ c. passed-start _ _ _ (search needs))
+    (λ c. search needs)
+    (λ c. (passed-stop _ _ _ (search needs) _ (search needs) (search needs) (search needs), search needs, search needs))
+    (λ c. search needs)
+    (λ c. search needs)
+    (λ c. passed-more _ _ _ (search needs) _ (search needs) (search needs) (search needs))
+    (λ c. (passed-all _ _ _ (search needs) _ (search needs) (search needs), search needs, search needs)))

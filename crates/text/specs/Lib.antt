@@ -1,0 +1,3 @@
+pub mod Parted
+pub mod Decimal
+pub mod Hex
