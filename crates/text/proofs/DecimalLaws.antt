@@ -1,21 +1,22 @@
 -- Decimal numbers: read digit by digit, written, and that reading takes back what writing made. Assumes nothing.
-use mathlib.Core.Path.{_≡_, refl, sym}
-use mathlib.Core.Bool.{Bool, true, false, _||_, or-true, not}
+use mathlib.Core.Path.{_≡_, refl, sym, _∙_}
+use mathlib.Core.Bool.{Bool, true, false, _||_, or-true, not, true≢false}
 use mathlib.Core.List.{List, [], _∷_}
 use Prim.Native.Nat.{ℕ, zero, suc, _+_, _-_, _*_, _/_, _%_, _≤_, _<_}
 use native.Mathlib.Nat.{mod-eq-of-lt}
+use native.Mathlib.Decide.{ℕ-discrete}
 use native.Mathlib.Numerals.{add-one}
 use native.Mathlib.Omega.{arith}
 use lib.Dec.{ltb, leb, eqb}
 use lib.ListN.{length, getD, set}
-use borrow.Author.Tests.{lt-ltb, le-ltb, le-leb, lt-leb, eq-eqb, ne-eqb}
+use borrow.Author.Tests.{lt-ltb, le-ltb, le-leb, lt-leb, leb-true, eq-eqb, ne-eqb}
 use Rattle.octets.specs.Tests.{pick, allBelow}
 use Rattle.octets.specs.Lists.{replaced}
 use Rattle.octets.proofs.TestLaws.{every-fails, every-at, all-none, all-at, all-more, all-fails, agree}
 use Rattle.text.specs.declared.decimal.Number.the-variants.{Of, Not}
 use Rattle.text.specs.Decimal.{isDigit, valueTo, decimalValue, isDecimal, mostNumber, numberIn, decimal}
 use Rattle.text.proofs.PartedLaws.{Lacks}
-use Rattle.text.proofs.RangeLaws.{inside, below, above, least}
+use Rattle.text.proofs.RangeLaws.{inside, below, above, least, most}
 
 -- ---- a number read
 
@@ -182,3 +183,69 @@ decimal-size n = go (ltb n 10) (ltb n 100)
     go true b = (omega arith, omega arith)
     go false true = (omega arith, omega arith)
     go false false = (omega arith, omega arith)
+
+-- ---- and a number has one way to be written
+
+module _ (xs : List ℕ) (is : isDecimal mostNumber xs ≡ true) where
+  is-digit : (k : ℕ) → k < length xs → (48 ≤ getD xs k 0) × (getD xs k 0 ≤ 57)
+  unfolding isDecimal
+  is-digit k l =
+      let d = all-at (digitAt xs) (length xs) k l (every-at (tests xs mostNumber) 1 is) in
+      (least 48 57 (getD xs k 0) d, most 48 57 (getD xs k 0) d)
+
+  some-digit : 1 ≤ length xs
+  unfolding isDecimal
+  some-digit = leb-true 1 (length xs) (every-at (tests xs mostNumber) 0 is)
+
+  no-zero : 1 < length xs → getD xs 0 0 ≡ 48 → ⊥
+  unfolding isDecimal
+  no-zero l e = true≢false (sym (every-at (tests xs mostNumber) 2 is) ∙ rw (ne-eqb (length xs) 1 (λ q. omega arith), eq-eqb (getD xs 0 0) 48 e))
+
+  pub decimal-most : decimalValue xs ≤ 255
+  unfolding isDecimal
+  decimal-most = leb-true (decimalValue xs) 255 (every-at (tests xs mostNumber) 3 is)
+
+first : (a : ℕ) → 48 ≤ a → (a ≡ 48 → ⊥) → 48 < a
+first a h n = go (ℕ-discrete a 48)
+  where
+    go : Dec (a ≡ 48) → 48 < a
+    go (yes e) = absurd (n e)
+    go (no e) = omega arith
+
+two-back : (a b v : ℕ) → 48 < a → a ≤ 57 → 48 ≤ b → b ≤ 57 → v ≡ 10 * (a - 48) + (b - 48) → decimal v ≡ a ∷ b ∷ []
+two-back a b v ha la hb lb e =
+    let p : 48 + v / 10 ≡ a = omega arith in
+    let q : 48 + v % 10 ≡ b = omega arith in
+    decimal-two v (omega arith) (omega arith) ∙ rw (p, q)
+
+three-back : (a b c v : ℕ) → 48 < a → a ≤ 57 → 48 ≤ b → b ≤ 57 → 48 ≤ c → c ≤ 57 → v ≡ 10 * (10 * (a - 48) + (b - 48)) + (c - 48) → decimal v ≡ a ∷ b ∷ c ∷ []
+three-back a b c v ha la hb lb hc lc e =
+    let p : 48 + v / 100 ≡ a = omega arith in
+    let q : 48 + v / 10 % 10 ≡ b = omega arith in
+    let r : 48 + v % 10 ≡ c = omega arith in
+    decimal-three v (omega arith) (omega arith) ∙ rw (p, q, r)
+
+pub decimal-back : (xs : List ℕ) → isDecimal mostNumber xs ≡ true → decimal (decimalValue xs) ≡ xs
+unfolding valueTo
+decimal-back [] e = absurd (omega (arith, some-digit [] e))
+decimal-back (a ∷ []) e =
+    let d = is-digit (a ∷ []) e 0 (omega arith) in
+    let v : 48 + (10 * 0 + (a - 48)) ≡ a = omega arith in
+    decimal-one (10 * 0 + (a - 48)) (omega arith) ∙ rw v
+decimal-back (a ∷ b ∷ []) e =
+    let xs = a ∷ b ∷ [] in
+    let p = is-digit xs e 0 (omega arith) in
+    let q = is-digit xs e 1 (omega arith) in
+    two-back a b (decimalValue xs) (first a (p .0) (no-zero xs e (omega arith))) (p .1) (q .0) (q .1) (omega arith)
+decimal-back (a ∷ b ∷ c ∷ []) e =
+    let xs = a ∷ b ∷ c ∷ [] in
+    let p = is-digit xs e 0 (omega arith) in
+    let q = is-digit xs e 1 (omega arith) in
+    let r = is-digit xs e 2 (omega arith) in
+    three-back a b c (decimalValue xs) (first a (p .0) (no-zero xs e (omega arith))) (p .1) (q .0) (q .1) (r .0) (r .1) (omega arith)
+decimal-back (a ∷ b ∷ c ∷ d ∷ rest) e =
+    let xs = a ∷ b ∷ c ∷ d ∷ rest in
+    let p = first a (is-digit xs e 0 (omega arith) .0) (no-zero xs e (omega arith)) in
+    let size : length rest + 4 ≡ length xs = omega arith in
+    let most : valueTo xs (length rest + 4) ≤ 255 = rw size (decimal-most xs e) in
+    absurd (omega (arith, value-grows xs 4 (length rest)))

@@ -4,16 +4,17 @@ use mathlib.Core.Bool.{Bool, true, false, _&&_, _||_, and-true, true≢false, fa
 use mathlib.Core.List.{List}
 use Prim.Native.Nat.{ℕ, suc, _+_, _-_, _*_, _/_, _%_, _≤_, _<_}
 use native.Mathlib.Nat.{mod-eq-of-lt, div-one}
+use native.Mathlib.Decide.{ℕ-discrete}
 use native.Mathlib.Numerals.{add-one}
 use native.Mathlib.Omega.{arith}
-use lib.Dec.{eqb}
+use lib.Dec.{ltb, eqb}
 use lib.ListN.{length, getD, set}
 use lib.Seq.{ext-getD}
-use borrow.Author.Tests.{eqb-true, eq-eqb, ne-eqb}
+use borrow.Author.Tests.{lt-ltb, le-ltb, eqb-true, eq-eqb, ne-eqb}
 use Rattle.octets.specs.Tests.{pick, allBelow}
 use Rattle.octets.specs.Bits.{Octets}
 use Rattle.octets.proofs.TestLaws.{and-left, and-right, and-false-r, all-at, all-intro, agree}
-use Rattle.octets.proofs.ListLaws.{length-tab, getD-tab}
+use Rattle.octets.proofs.ListLaws.{length-tab, getD-tab, octets-tab}
 use Rattle.octets.proofs.Front.{Front, front-start, front-more, front-to, front-done}
 use Rattle.text.specs.Decimal.{isDigit}
 use Rattle.text.specs.Hex.{isLetterDigit, isHexDigit, hexValue, hexDigit, isHex, hexOctets, hexText, readHex}
@@ -217,3 +218,48 @@ module _ (xs : List ℕ) where
           let high : hexValue (getD (hexText xs) (2 * i) 0) ≡ getD xs i 0 / 16 = rw (hexText-high xs i l (o i)) (value-digit (getD xs i 0 / 16) (omega (arith, o i))) in
           let low : hexValue (getD (hexText xs) (2 * i + 1) 0) ≡ getD xs i 0 % 16 = rw (hexText-low xs i l) (value-digit (getD xs i 0 % 16) (omega arith)) in
           omega (arith, getD-hexOctets (hexText xs) (length xs) i l, high, low)
+
+-- ---- and hex has one way to be written
+
+digit-back : (x : ℕ) → isHexDigit x ≡ true → hexDigit (hexValue x) ≡ x
+unfolding hexDigit hexValue
+digit-back x = go (isDigit x) (isLetterDigit x) refl refl
+  where
+    go : (d l : Bool) → isDigit x ≡ d → isLetterDigit x ≡ l → (d || l) ≡ true
+        → pick (ltb (pick d (x - 48) (pick l (10 + (x - 65)) 0)) 10) (48 + pick d (x - 48) (pick l (10 + (x - 65)) 0)) (65 + (pick d (x - 48) (pick l (10 + (x - 65)) 0) - 10)) ≡ x
+    go true l e f t = rw (lt-ltb (x - 48) 10 (omega (arith, most 48 57 x e))) (omega (arith, least 48 57 x e))
+    go false true e f t = rw (le-ltb (10 + (x - 65)) 10 (omega arith)) (omega (arith, least 65 70 x f))
+    go false false e f t = absurd (false≢true t)
+
+module _ (xs : List ℕ) (n : ℕ) (hex : isHex n xs ≡ true) where
+  pub octets-hexOctets : Octets (hexOctets xs n)
+  unfolding hexOctets
+  octets-hexOctets =
+      octets-tab (λ i. 16 * hexValue (getD xs (2 * i) 0) + hexValue (getD xs (2 * i + 1) 0)) n
+      (λ i l. omega (arith, value-lt (getD xs (2 * i) 0), value-lt (getD xs (2 * i + 1) 0)))
+
+  is-digit : (k : ℕ) → k < 2 * n → isHexDigit (getD xs k 0) ≡ true
+  unfolding isHex
+  is-digit k l = all-at (digitAt xs) (2 * n) k l (and-right (eqb (length xs) (2 * n)) (allBelow (digitAt xs) (2 * n)) hex)
+
+  pub hex-back : hexText (hexOctets xs n) ≡ xs
+  hex-back =
+      ext-getD 0 (hexText ys) xs (length-hexText ys ∙ omega (arith, hex-size xs n hex, length-hexOctets xs n))
+      (λ k l. at k (omega (arith, length-hexText ys, length-hexOctets xs n)) (ℕ-discrete (k % 2) 0))
+    where
+      ys : List ℕ
+      ys = hexOctets xs n
+
+      at : (k : ℕ) → k < 2 * n → Dec (k % 2 ≡ 0) → getD (hexText ys) k 0 ≡ getD xs k 0
+      at k l (yes e) =
+          let q : 2 * (k / 2) ≡ k = omega arith in
+          let y = getD-hexOctets xs n (k / 2) (omega arith) in
+          let v : getD ys (k / 2) 0 / 16 ≡ hexValue (getD xs (2 * (k / 2)) 0) = omega (arith, y, value-lt (getD xs (2 * (k / 2) + 1) 0)) in
+          let h = hexText-high ys (k / 2) (omega (arith, length-hexOctets xs n)) (octets-hexOctets (k / 2)) ∙ ap hexDigit v ∙ digit-back (getD xs (2 * (k / 2)) 0) (is-digit (2 * (k / 2)) (omega arith)) in
+          rw q at h
+      at k l (no e) =
+          let q : 2 * (k / 2) + 1 ≡ k = omega arith in
+          let y = getD-hexOctets xs n (k / 2) (omega arith) in
+          let v : getD ys (k / 2) 0 % 16 ≡ hexValue (getD xs (2 * (k / 2) + 1) 0) = omega (arith, y, value-lt (getD xs (2 * (k / 2) + 1) 0)) in
+          let h = hexText-low ys (k / 2) (omega (arith, length-hexOctets xs n)) ∙ ap hexDigit v ∙ digit-back (getD xs (2 * (k / 2) + 1) 0) (is-digit (2 * (k / 2) + 1) (omega arith)) in
+          rw q at h

@@ -1,0 +1,6 @@
+pub mod FieldLaws
+pub mod RecordLaws
+pub mod LineLaws
+pub mod PrintedLaws
+pub mod CanonicalLaws
+pub mod Examples

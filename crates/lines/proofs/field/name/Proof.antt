@@ -1,0 +1,35 @@
+-- `lines::field::name` meets its contract. Assumes nothing.
+use mathlib.Core.Path.{sym, _∙_}
+use borrow.Author.Needs.{needs}
+use Rattle.lines.proofs.FieldLaws.{name-not-first, name-not-second, named-by}
+use Rattle.lines.proofs.field.name.Statement.{statement}
+use Rattle.lines.proofs.field.name.Tie as tie
+
+returns : tie.Need-returns
+returns c = name-not-first _ _ (sym (c .before .before .before .before .before .next-number .ensures .0) ∙ c .enum-told .given .1)
+
+returns-2 : tie.Need-returns-2
+returns-2 c =
+    let at = c .before .before .before .before .before .before in
+    name-not-second _ _ _ (at .before .before .next-number .ensures .1 .0) (sym (at .next-number2 .ensures .0) ∙ c .enum-told2 .given .1)
+
+returns-3 : tie.Need-returns-3
+returns-3 c =
+    let at = c .before .before .before .before .before .before .before in
+    let first = at .before .before .next-number .ensures in
+    let then = at .next-number2 .ensures in
+    named-by _ _ _ (first .1 .0) _ _ _ (sym (first .0) ∙ c .before .before .before .before .cipher-field .given .1) (sym (then .0) ∙ c .before .id-field .given .1) (then .1 .0) (then .1 .1)
+
+pub name-spec : {M : Type 1} → statement M
+name-spec =
+    tie.close
+    (tie.spec
+    (λ c κs. search needs)
+    (λ c κs. search needs)
+    (λ c. search needs)
+    (λ c. search needs)
+    returns
+    (λ c. search needs)
+    (λ c. search needs)
+    returns-2
+    returns-3)

@@ -1,0 +1,22 @@
+-- `lines::field::next_number` meets its contract. Assumes nothing.
+use mathlib.Core.Path.{ap, _∙_}
+use borrow.Author.Needs.{needs}
+use Rattle.text.specs.Decimal.{numberIn}
+use Rattle.lines.proofs.field.next_number.Statement.{statement}
+use Rattle.lines.proofs.field.next_number.Tie as tie
+
+returns : tie.Need-returns
+returns c =
+    let is = c .before .before .before .next-field .ensures in
+    (c .read-number .ensures ∙ ap numberIn (is .text), (is .others, is .after))
+
+pub next-number-spec : {M : Type 1} → statement M
+next-number-spec =
+    tie.close
+    (tie.spec
+    (λ c κs. search needs)
+    (λ c. search needs)
+    (λ c. search needs)
+    (λ c. search needs)
+    (λ c κs. search needs)
+    returns)

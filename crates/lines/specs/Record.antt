@@ -1,0 +1,157 @@
+-- A line of text as a record (document 01, "The receiver program"). Its first letter decides; fields are parted by one tab.
+use mathlib.Core.List.{List, [], _∷_, _++_}
+use mathlib.Core.Bool.{Bool, _&&_}
+use mathlib.Core.Path.{_≡_}
+use Prim.Native.Nat.{ℕ, _/_, _≤_}
+use lib.Dec.{ltb, leb, eqb}
+use lib.ListN.{length, getD, take, drop}
+use Rattle.octets.specs.Tests.{pick}
+use Rattle.octets.specs.Bits.{Octets}
+use Rattle.text.specs.Parted.{tabOctet, parted}
+use Rattle.text.specs.Decimal.{mostNumber, isDecimal, decimalValue, decimal}
+use Rattle.text.specs.Hex.{isHex, hexOctets, hexText}
+use Rattle.keyentry.specs.Entry.{keyRoom}
+use Rattle.session.specs.Session.{vectorOctets}
+use Rattle.voice.specs.Frame.{frameOctets}
+use Rattle.lines.specs.declared.record.Parsed.{Parsed}
+use Rattle.lines.specs.declared.record.Parsed.the-variants as code
+
+-- the most octets of a line, without its line end
+abbrev pub lineOctets : ℕ
+lineOctets = 96
+
+pub data Record : Type 0 where
+  -- K: cipher, key ID and key
+  Load : ℕ → ℕ → List ℕ → Record
+  -- O: cipher, key ID and vector
+  Open : ℕ → ℕ → List ℕ → Record
+  -- J: cipher and key ID
+  Join : ℕ → ℕ → Record
+  -- V: mask and frame
+  Voice : ℕ → List ℕ → Record
+  -- I: vector
+  Announce : List ℕ → Record
+  -- L, E, and anything else
+  Lost End Malformed : Record
+
+-- ---- read
+
+abbrev pub isNumber : List ℕ → Bool
+isNumber = isDecimal mostNumber
+
+-- the octets that a field of hex stands for
+abbrev pub octetsIn : List ℕ → List ℕ
+octetsIn field = hexOctets field (length field / 2)
+
+-- hex of 1 to 32 octets
+abbrev pub isKey : List ℕ → Bool
+isKey field = isHex (length field / 2) field && (leb 1 (length field / 2) && leb (length field / 2) keyRoom)
+
+-- field n
+unfoldable pub fieldAt : List (List ℕ) → ℕ → List ℕ
+fieldAt fields n = getD fields n []
+
+-- there are n fields
+abbrev pub areFields : ℕ → List (List ℕ) → Bool
+areFields n fields = eqb (length fields) n
+
+-- the first two are a cipher and a key ID
+unfoldable pub isName : List (List ℕ) → Bool
+isName fields = isNumber (fieldAt fields 0) && isNumber (fieldAt fields 1)
+
+abbrev pub load : List (List ℕ) → Record
+load fields =
+    pick (areFields 3 fields && (isName fields && isKey (fieldAt fields 2)))
+    (Load (decimalValue (fieldAt fields 0)) (decimalValue (fieldAt fields 1)) (octetsIn (fieldAt fields 2))) Malformed
+
+abbrev pub opened : List (List ℕ) → Record
+opened fields =
+    pick (areFields 3 fields && (isName fields && isHex vectorOctets (fieldAt fields 2)))
+    (Open (decimalValue (fieldAt fields 0)) (decimalValue (fieldAt fields 1)) (octetsIn (fieldAt fields 2))) Malformed
+
+abbrev pub join : List (List ℕ) → Record
+join fields = pick (areFields 2 fields && isName fields) (Join (decimalValue (fieldAt fields 0)) (decimalValue (fieldAt fields 1))) Malformed
+
+abbrev pub voice : List (List ℕ) → Record
+voice fields =
+    pick (areFields 2 fields && (isNumber (fieldAt fields 0) && isHex frameOctets (fieldAt fields 1)))
+    (Voice (decimalValue (fieldAt fields 0)) (octetsIn (fieldAt fields 1))) Malformed
+
+abbrev pub announce : List (List ℕ) → Record
+announce fields = pick (areFields 1 fields && isHex vectorOctets (fieldAt fields 0)) (Announce (octetsIn (fieldAt fields 0))) Malformed
+
+-- a record without fields
+abbrev pub alone : Record → List (List ℕ) → Record
+alone r fields = pick (areFields 0 fields) r Malformed
+
+-- the seven letters
+abbrev pub byLetter : ℕ → List (List ℕ) → Record
+byLetter letter fields =
+    pick (eqb letter 0x4B) (load fields)
+    (pick (eqb letter 0x4F) (opened fields)
+    (pick (eqb letter 0x4A) (join fields)
+    (pick (eqb letter 0x56) (voice fields)
+    (pick (eqb letter 0x49) (announce fields)
+    (pick (eqb letter 0x4C) (alone Lost fields)
+    (pick (eqb letter 0x45) (alone End fields) Malformed))))))
+
+-- the letter stands alone in the first part
+abbrev pub ofParts : List (List ℕ) → Record
+ofParts parts = pick (eqb (length (fieldAt parts 0)) 1) (byLetter (getD (fieldAt parts 0) 0 0) (drop 1 parts)) Malformed
+
+unfoldable pub lineOf : List ℕ → Record
+lineOf line = pick (ltb lineOctets (length line)) Malformed (ofParts (parted tabOctet line))
+
+-- ---- printed
+
+abbrev pub field : List ℕ → List ℕ
+field xs = tabOctet ∷ xs
+
+-- a record as its line; what is malformed has none
+unfoldable pub printed : Record → List ℕ
+printed (Load c i k) = 0x4B ∷ (field (decimal c) ++ (field (decimal i) ++ field (hexText k)))
+printed (Open c i v) = 0x4F ∷ (field (decimal c) ++ (field (decimal i) ++ field (hexText v)))
+printed (Join c i) = 0x4A ∷ (field (decimal c) ++ field (decimal i))
+printed (Voice m f) = 0x56 ∷ (field (decimal m) ++ field (hexText f))
+printed (Announce v) = 0x49 ∷ field (hexText v)
+printed Lost = 0x4C ∷ []
+printed End = 0x45 ∷ []
+printed Malformed = []
+
+-- a record that a line can stand for
+abbrev pub Fine : Record → Type 0
+Fine (Load c i k) = (c ≤ mostNumber) × (i ≤ mostNumber) × (1 ≤ length k) × (length k ≤ keyRoom) × Octets k
+Fine (Open c i v) = (c ≤ mostNumber) × (i ≤ mostNumber) × (length v ≡ vectorOctets) × Octets v
+Fine (Join c i) = (c ≤ mostNumber) × (i ≤ mostNumber)
+Fine (Voice m f) = (m ≤ mostNumber) × (length f ≡ frameOctets) × Octets f
+Fine (Announce v) = (length v ≡ vectorOctets) × Octets v
+Fine Lost = Unit {0}
+Fine End = Unit {0}
+Fine Malformed = ⊥
+
+-- ---- a record as the code has it: its octets are the first of those that stand beside it
+
+-- the room for a record's octets: a key's
+abbrev pub recordRoom : ℕ
+recordRoom = keyRoom
+
+abbrev pub recordIn : Parsed → List ℕ → Record
+recordIn (code.Load c i n) xs = Load c i (take n xs)
+recordIn (code.Open c i) xs = Open c i (take vectorOctets xs)
+recordIn (code.Join c i) xs = Join c i
+recordIn (code.Voice m) xs = Voice m (take frameOctets xs)
+recordIn code.Announce xs = Announce (take vectorOctets xs)
+recordIn code.Lost xs = Lost
+recordIn code.End xs = End
+recordIn code.Malformed xs = Malformed
+
+-- how many of them are a key's
+abbrev pub countIn : Parsed → ℕ
+countIn (code.Load c i n) = n
+countIn (code.Open c i) = 0
+countIn (code.Join c i) = 0
+countIn (code.Voice m) = 0
+countIn code.Announce = 0
+countIn code.Lost = 0
+countIn code.End = 0
+countIn code.Malformed = 0

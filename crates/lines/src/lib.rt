@@ -1,0 +1,3 @@
+// A line of text as a record, read by its fields.
+mod field;
+pub mod record;

@@ -1,0 +1,153 @@
+// A line of text as a record. Its octets, a key, vector or frame, are read into lent ones.
+ghost use mathlib.Core.Path.{_≡_};
+ghost use mathlib.Core.List.{List};
+ghost use Prim.Native.Nat.{ℕ, _≤_};
+ghost use lib.ListN.{length};
+ghost use Rattle.octets.specs.Tests.{pick};
+ghost use Rattle.lines.specs.Fields.{left};
+ghost use Rattle.lines.specs.Record.{recordRoom, countIn, recordIn, load, opened, join, voice, announce, lineOf};
+use crate::field::Cursor;
+use crate::field::Named;
+use crate::field::last_hex;
+use crate::field::name;
+use crate::field::next_field;
+use crate::field::next_number;
+use keyentry::KEY_ROOM;
+use session::VECTOR_OCTETS;
+use text::decimal::Number;
+use voice::frame::FRAME_OCTETS;
+
+pub const LINE_OCTETS: usize = 96;
+
+// The most octets of a record: a key's.
+pub const RECORD_ROOM: usize = KEY_ROOM;
+
+// A record but for its octets, which stand beside it.
+pub enum Parsed {
+    Load { cipher: u8, id: u8, count: usize },
+    Open { cipher: u8, id: u8 },
+    Join { cipher: u8, id: u8 },
+    Voice { mask: u8 },
+    Announce,
+    Lost,
+    End,
+    Malformed,
+}
+
+// A record where no field is left.
+fn alone(parsed: Parsed, cursor: Cursor) -> Parsed
+    ensures { λ r. ⌜ r ≡ pick (cursor .more) Parsed.Malformed parsed ⌝ }
+{
+    let more = cursor.more;
+    if more {
+        return Parsed::Malformed;
+    }
+    parsed
+}
+
+fn load(line: &[u8], cursor: Cursor, octets: &mut [u8]) -> Parsed
+    requires { ⌜ (cursor .at ≤ length (now line)) × (length (now octets) ≡ recordRoom) ⌝ }
+    ensures { λ r. ⌜ recordIn r (now (octets .exit)) ≡ load (left (now (line .entry)) cursor) ⌝ }
+    ensures { λ r. ⌜ countIn r ≤ recordRoom ⌝ }
+{
+    let named = name(line, cursor);
+    let Named::By { cipher, id, next } = named else {
+        return Parsed::Malformed;
+    };
+    let key = next_field(line, next);
+    let count = (key.end - key.start) / 2;
+    if count == 0 {
+        return Parsed::Malformed;
+    }
+    if count > KEY_ROOM {
+        return Parsed::Malformed;
+    }
+    if last_hex(line, next, &mut octets[..count]) {
+        return Parsed::Load { cipher, id, count };
+    }
+    Parsed::Malformed
+}
+
+fn open(line: &[u8], cursor: Cursor, octets: &mut [u8]) -> Parsed
+    requires { ⌜ (cursor .at ≤ length (now line)) × (length (now octets) ≡ recordRoom) ⌝ }
+    ensures { λ r. ⌜ recordIn r (now (octets .exit)) ≡ opened (left (now (line .entry)) cursor) ⌝ }
+    ensures { λ r. ⌜ countIn r ≤ recordRoom ⌝ }
+{
+    let named = name(line, cursor);
+    let Named::By { cipher, id, next } = named else {
+        return Parsed::Malformed;
+    };
+    if last_hex(line, next, &mut octets[..VECTOR_OCTETS]) {
+        return Parsed::Open { cipher, id };
+    }
+    Parsed::Malformed
+}
+
+fn join(line: &[u8], cursor: Cursor) -> Parsed
+    requires { ⌜ cursor .at ≤ length (now line) ⌝ }
+    ensures { λ r. ⌜ ((xs : List ℕ) → recordIn r xs ≡ join (left (now (line .entry)) cursor)) ⌝ }
+    ensures { λ r. ⌜ countIn r ≤ recordRoom ⌝ }
+{
+    let named = name(line, cursor);
+    let Named::By { cipher, id, next } = named else {
+        return Parsed::Malformed;
+    };
+    alone(Parsed::Join { cipher, id }, next)
+}
+
+fn voice(line: &[u8], cursor: Cursor, octets: &mut [u8]) -> Parsed
+    requires { ⌜ (cursor .at ≤ length (now line)) × (length (now octets) ≡ recordRoom) ⌝ }
+    ensures { λ r. ⌜ recordIn r (now (octets .exit)) ≡ voice (left (now (line .entry)) cursor) ⌝ }
+    ensures { λ r. ⌜ countIn r ≤ recordRoom ⌝ }
+{
+    let first = next_number(line, cursor);
+    let mask_field = first.number;
+    let next = first.next;
+    let Number::Of(mask) = mask_field else {
+        return Parsed::Malformed;
+    };
+    if last_hex(line, next, &mut octets[..FRAME_OCTETS]) {
+        return Parsed::Voice { mask };
+    }
+    Parsed::Malformed
+}
+
+fn announce(line: &[u8], cursor: Cursor, octets: &mut [u8]) -> Parsed
+    requires { ⌜ (cursor .at ≤ length (now line)) × (length (now octets) ≡ recordRoom) ⌝ }
+    ensures { λ r. ⌜ recordIn r (now (octets .exit)) ≡ announce (left (now (line .entry)) cursor) ⌝ }
+    ensures { λ r. ⌜ countIn r ≤ recordRoom ⌝ }
+{
+    if last_hex(line, cursor, &mut octets[..VECTOR_OCTETS]) {
+        return Parsed::Announce;
+    }
+    Parsed::Malformed
+}
+
+// The record of a line; its octets are the first of the lent ones.
+pub fn read(line: &[u8], octets: &mut [u8]) -> Parsed
+    requires { ⌜ length (now octets) ≡ recordRoom ⌝ }
+    ensures { λ r. ⌜ recordIn r (now (octets .exit)) ≡ lineOf (now (line .entry)) ⌝ }
+    ensures { λ _. ⌜ length (now (octets .exit)) ≡ recordRoom ⌝ }
+    ensures { λ r. ⌜ countIn r ≤ recordRoom ⌝ }
+{
+    if line.len() > LINE_OCTETS {
+        return Parsed::Malformed;
+    }
+    let first = next_field(line, Cursor { at: 0, more: true });
+    let start = first.start;
+    let end = first.end;
+    let next = first.next;
+    if end - start != 1 {
+        return Parsed::Malformed;
+    }
+    match line[start] {
+        b'K' => load(line, next, octets),
+        b'O' => open(line, next, octets),
+        b'J' => join(line, next),
+        b'V' => voice(line, next, octets),
+        b'I' => announce(line, next, octets),
+        b'L' => alone(Parsed::Lost, next),
+        b'E' => alone(Parsed::End, next),
+        _ => Parsed::Malformed,
+    }
+}
