@@ -8,3 +8,5 @@ pub mod Samples
 pub mod ThrownOut
 pub mod SenderKeeps
 pub mod Instance
+pub mod Shared
+pub mod Meets2

@@ -2,11 +2,11 @@
 -- stay as they came.
 use mathlib.Core.Path.{_≡_}
 use mathlib.Core.List.{List, _++_}
-use mathlib.Core.Bool.{false}
+use mathlib.Core.Bool.{true, false}
 use mathlib.Core.Logic.{_⊎_}
 use Prim.Native.Nat.{ℕ, _+_, _*_, _/_, _%_, _≤_, _<_}
 use lib.ListN.{length}
-use Rattle.octets.specs.Bits.{bit, flip}
+use Rattle.octets.specs.Bits.{bit, flip, Octets}
 use Rattle.octets.specs.Lists.{iterate}
 use Rattle.scramble.specs.Sequence.{P}
 use Rattle.des.specs.Des.{des}
@@ -15,7 +15,7 @@ use Rattle.generator.specs.Generator.{nextVector}
 use Rattle.ciphers.specs.Keystream.{stream}
 use Rattle.answers.specs.Numbers.{numberOf}
 use Rattle.voice.specs.declared.call.Call.{Call}
-use Rattle.voice.specs.Frame.{has}
+use Rattle.voice.specs.Frame.{IsFrame, has}
 use Rattle.voice.specs.Slot.{voiceOf}
 use Rattle.data.specs.declared.packet.Packet.{Packet}
 use Rattle.data.specs.Kinds.{protectedBits}
@@ -35,11 +35,13 @@ module _ (call : Call) (mask : ℕ) (frame : List ℕ) where
 
   pub record VoiceBits : Type 0 where
     -- done: a speech bit of a word in the mask is turned by keystream bit 196 p + 49 w + j
-    pub turned : numberOf (voiceOf call mask frame .0) ≡ 0 → (w j : ℕ) → w < 4 → j < 49 → (has mask w ≡ false → ⊥)
+    pub turned : numberOf (voiceOf call mask frame .0) ≡ 0 → (w j : ℕ) → w < 4 → j < 49 → has mask w ≡ true
         → bit frameAfter (56 * w + j) ≡ flip (bit frame (56 * w + j)) (stream (call .cipher) (call .key) (call .vector) (196 * call .position + 49 * w + j))
     -- the last seven bits of a word, and words not in the mask, stay as they came
     pub stays : numberOf (voiceOf call mask frame .0) ≡ 0 → (w j : ℕ) → w < 4 → j < 56 → ((49 ≤ j) ⊎ (has mask w ≡ false))
         → bit frameAfter (56 * w + j) ≡ bit frame (56 * w + j)
+    -- it is 28 octets, so that its bits are all of it
+    pub whole : numberOf (voiceOf call mask frame .0) ≡ 0 → IsFrame frameAfter
     -- not done, held or refused: the whole frame
     pub as-it-came : 1 ≤ numberOf (voiceOf call mask frame .0) → frameAfter ≡ frame
 
@@ -55,6 +57,8 @@ module _ (packet : Packet) (message : List ℕ) where
         ≡ flip (bit message (16 + k)) (stream (packet .cipher) (packet .key) (packet .vector) (protectedBits (packet .kind) * packet .count + k))
     -- octets 0 and 1, and what lies past the protected bits, stay as they came
     pub stays : numberOf (messageOf packet message .0) ≡ 0 → (k : ℕ) → ((k < 16) ⊎ (16 + protectedBits (packet .kind) ≤ k)) → bit messageAfter k ≡ bit message k
+    -- it is as many octets as it was, so that its bits are all of it
+    pub whole : numberOf (messageOf packet message .0) ≡ 0 → (length messageAfter ≡ length message) × (Octets message → Octets messageAfter)
     -- not done: the whole message
     pub as-it-came : 1 ≤ numberOf (messageOf packet message .0) → messageAfter ≡ message
 
