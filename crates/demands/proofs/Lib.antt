@@ -10,3 +10,8 @@ pub mod SenderKeeps
 pub mod Instance
 pub mod Shared
 pub mod Meets2
+pub mod DeviceLaws
+pub mod LoadedLaws
+pub mod CallsLoaded
+pub mod PacketsLoaded
+pub mod Meets1

@@ -5,7 +5,6 @@ use mathlib.Core.Logic.{_⊎_, inl, inr}
 use mathlib.Core.List.{List}
 use Prim.Native.Nat.{ℕ, _+_, _*_, _/_, _≤_, _<_}
 use native.Mathlib.Omega.{arith}
-use lib.ListN.{length}
 use Rattle.octets.specs.Bits.{bit, Octets}
 use Rattle.answers.specs.Numbers.{numberOf}
 use Rattle.generator.specs.Generator.{aesVector}
@@ -21,7 +20,7 @@ use Rattle.data.specs.Kinds.{protectedBits}
 use Rattle.data.specs.Message.{messageOf}
 use Rattle.data.proofs.PacketLaws.{open-kind}
 use Rattle.data.proofs.MessageBits as bits
-use Rattle.demands.specs.Demand2.{Keystreams, VoiceBits, DataBits, Demand2}
+use Rattle.demands.specs.Demand2.{Keystreams, Demand2}
 use Rattle.demands.proofs.Shared as shared
 
 keystreams : Keystreams

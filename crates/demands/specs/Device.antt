@@ -1,7 +1,6 @@
 -- Demand 1, its setting: one book and any number of calls and packets, each by its number; every operation of document 01 on them; and the history of
 -- what was asked and answered.
 use mathlib.Core.List.{List, [], _∷_}
-use mathlib.Core.Bool.{Bool, false}
 use Prim.Native.Nat.{ℕ}
 use lib.Dec.{eqb}
 use lib.ListN.{replicate}
