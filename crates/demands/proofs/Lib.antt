@@ -15,3 +15,5 @@ pub mod LoadedLaws
 pub mod CallsLoaded
 pub mod PacketsLoaded
 pub mod Meets1
+pub mod ThrownOut1
+pub mod Instance1
