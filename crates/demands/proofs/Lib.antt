@@ -8,3 +8,12 @@ pub mod Samples
 pub mod ThrownOut
 pub mod SenderKeeps
 pub mod Instance
+pub mod Shared
+pub mod Meets2
+pub mod DeviceLaws
+pub mod LoadedLaws
+pub mod CallsLoaded
+pub mod PacketsLoaded
+pub mod Meets1
+pub mod ThrownOut1
+pub mod Instance1

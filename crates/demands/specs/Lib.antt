@@ -5,3 +5,6 @@ pub mod Arrivals
 pub mod Demand3
 pub mod Others
 pub mod OurSender
+pub mod Device
+pub mod Demand1
+pub mod Demand2

@@ -1,0 +1,103 @@
+-- Every operation on a device answers by the table, and where it refuses leaves book, calls, packets and lent octets as they were. Assumes nothing.
+use mathlib.Core.Path.{_≡_, refl, sym, ap, _∙_}
+use mathlib.Core.Bool.{Bool, true, false}
+use mathlib.Core.List.{List, []}
+use Prim.Native.Nat.{ℕ, _≤_}
+use native.Mathlib.Omega.{arith}
+use lib.Dec.{eqb}
+use borrow.Author.Tests.{eqb-true, eqb-false}
+use Rattle.octets.specs.Tests.{pick}
+use Rattle.answers.specs.declared.Answer.{Answer}
+use Rattle.answers.specs.declared.Answer.the-variants.{Done}
+use Rattle.answers.specs.Numbers.{numberOf}
+use Rattle.answers.proofs.OutcomeLaws.{Refusal}
+use Rattle.ciphers.specs.Keystream.{stream}
+use Rattle.keyentry.specs.Entry.{loadRefusals, completeRefusals, blank, loaded, completed}
+use Rattle.keybook.specs.Book.{bookRefusals}
+use Rattle.keybook.specs.Operations as operations
+use Rattle.keybook.specs.History as book
+use Rattle.session.specs.Ladder.{keyFor, keyRefusals, vectorRefusals}
+use Rattle.voice.specs.declared.call.Call.{Call}
+use Rattle.voice.specs.Call.{sendingEnd, receivingEnd, standing, closed, written, endRefusals, endOf}
+use Rattle.voice.specs.Opening.{joinRefusals, openRefusals, begun, openOf, startOf, joined, joinOf}
+use Rattle.voice.specs.Slot.{slotOn, lostRefusals, lostOf, voiceRefusals, voiceAfter, voiceBy}
+use Rattle.voice.specs.Vector.{told, announceRefusals, announceOf, following, nextRefusals, nextVectorOf}
+use Rattle.voice.proofs.SlotLaws.{voice-under-two}
+use Rattle.data.specs.declared.packet.Packet.{Packet}
+use Rattle.data.specs.Packet as packet
+use Rattle.data.specs.Opening as opening
+use Rattle.data.specs.Message as message
+use Rattle.demands.specs.Device.{withNone, Device, CallOperation, Open, Start, Join, Voice, Lost, End, Announce, NextVector, callStep, lentCall, PacketOperation, OpenPacket, Message, LostMessage, EndPacket, packetStep, lentPacket, Operation, OfBook, OfCall, OfPacket, withNumber, step, lent}
+use Rattle.demands.specs.Demand1.{Same}
+use Rattle.demands.proofs.Shared.{Settles, settles}
+
+-- ---- on the book, a call, a packet
+
+book-settles : (b : List ℕ) (o : book.Operation) → Settles b (book.step o b)
+unfolding book.step operations.beginOf operations.addOf operations.finishOf operations.eraseOf operations.beginRefusals operations.addRefusals
+    operations.finishRefusals operations.eraseRefusals bookRefusals loadRefusals completeRefusals
+book-settles b (book.Begin c i) = settles b (operations.beginRefusals b c i) (Done, operations.beginAfter b c i) refl (omega arith)
+book-settles b (book.Add c i xs) =
+    settles b (operations.addRefusals b c i xs) (Done, operations.withFor b c i (loaded (operations.entryFor b c i) xs)) refl (omega arith)
+book-settles b (book.Finish c i) =
+    settles b (operations.finishRefusals b c i) (Done, operations.withFor b c i (completed (operations.entryFor b c i))) refl (omega arith)
+book-settles b (book.Erase c i) = settles b (operations.eraseRefusals b c i) (Done, operations.withFor b c i blank) refl (omega arith)
+
+-- an operation that writes no lent octets
+none-lent : {S : Type 0} {before : S} {o : Answer × S} → Settles before o → Settles (before, []) (withNone o)
+none-lent {S} s = record { number = s .number; keeps = λ h. ap (λ (x : S). (x, [])) (s .keeps h) }
+
+call-settles : (b : List ℕ) (c : Call) (o : CallOperation) → Settles (c, lentCall o) (callStep b c o)
+unfolding callStep openOf startOf joinOf voiceBy lostOf endOf announceOf nextVectorOf openRefusals joinRefusals vectorRefusals keyRefusals voiceRefusals
+    lostRefusals endRefusals announceRefusals nextRefusals
+call-settles b c (Open n i w) = none-lent (settles c (openRefusals (standing c) n i w b) (Done, begun receivingEnd n w (keyFor b n i)) refl (omega arith))
+call-settles b c (Start n i w) = none-lent (settles c (openRefusals (standing c) n i w b) (Done, begun sendingEnd n w (keyFor b n i)) refl (omega arith))
+call-settles b c (Join n i) = none-lent (settles c (joinRefusals (standing c) n i b) (Done, written (joined n (keyFor b n i))) refl (omega arith))
+call-settles b c (Voice mask frame) =
+    settles (c, frame) (voiceRefusals (standing c) mask frame) (voiceAfter stream mask frame (standing c)) refl (voice-under-two stream c mask frame (standing c))
+call-settles b c Lost = none-lent (settles c (lostRefusals (standing c)) (Done, written (slotOn (standing c))) refl (omega arith))
+call-settles b c End = none-lent (settles c (endRefusals (standing c)) (Done, written closed) refl (omega arith))
+call-settles b c (Announce w) = none-lent (settles c (announceRefusals (standing c) w) (Done, written (told w (standing c))) refl (omega arith))
+call-settles b c (NextVector out) =
+    let s = settles out (nextRefusals (standing c) out) (Done, following (standing c)) refl (omega arith) in
+    record { number = s .number; keeps = λ h. ap (λ (x : List ℕ). (c, x)) (s .keeps h) }
+
+packet-settles : (b : List ℕ) (p : Packet) (o : PacketOperation) → Settles (p, lentPacket o) (packetStep b p o)
+unfolding packetStep opening.openOf message.messageOf message.lostOf packet.endOf opening.openRefusals vectorRefusals keyRefusals message.messageRefusals
+    message.lostRefusals packet.endRefusals
+packet-settles b p (OpenPacket kind c i w) =
+    none-lent (settles p (opening.openRefusals p kind c i w b) (Done, opening.opened kind c w (keyFor b c i)) refl (omega arith))
+packet-settles b p (Message octets) =
+    settles (p, octets) (message.messageRefusals p octets) (Done, (message.counted p, message.messageTurned p octets)) refl (omega arith)
+packet-settles b p LostMessage = none-lent (settles p (message.lostRefusals p) (Done, message.counted p) refl (omega arith))
+packet-settles b p EndPacket = none-lent (settles p (packet.endRefusals p) (Done, packet.noPacket) refl (omega arith))
+
+-- ---- on a device
+
+-- what holds of x for number m, and of f n for every other, holds of them together
+pub by-number : {A : Type 0} (P : A → Type 0) (m : ℕ) (x : A) (f : ℕ → A) (n : ℕ) → (n ≡ m → P x) → ((n ≡ m → ⊥) → P (f n)) → P (withNumber m x f n)
+by-number {A} P m x f n its others = go (eqb n m) refl
+  where
+    go : (t : Bool) → eqb n m ≡ t → P (pick t x (f n))
+    go true e = its (eqb-true n m e)
+    go false e = others (eqb-false n m e)
+
+-- a number's own again
+same-number : {A : Type 0} (m : ℕ) {x : A} (f : ℕ → A) → x ≡ f m → (n : ℕ) → withNumber m x f n ≡ f n
+same-number {A} m {x} f e n = by-number (λ (y : A). y ≡ f n) m x f n (λ q. e ∙ ap f (sym q)) (λ q. refl)
+
+pub answers-by-table : (d : Device) (o : Operation) → numberOf (step d o .0) ≤ 14
+unfolding step
+answers-by-table d (OfBook o) = book-settles (d .book) o .number
+answers-by-table d (OfCall n o) = call-settles (d .book) (d .calls n) o .number
+answers-by-table d (OfPacket n o) = packet-settles (d .book) (d .packets n) o .number
+
+pub refusal-changes-nothing : (d : Device) (o : Operation) → Refusal (step d o .0) → Same (step d o .1 .0) d × (step d o .1 .1 ≡ lent o)
+unfolding step
+refusal-changes-nothing d (OfBook o) h = (record { book = book-settles (d .book) o .keeps h; calls = λ n. refl; packets = λ n. refl }, refl)
+refusal-changes-nothing d (OfCall m o) h =
+    let e = call-settles (d .book) (d .calls m) o .keeps h in
+    (record { book = refl; calls = same-number m (d .calls) (ap (λ (r : Call × List ℕ). r .0) e); packets = λ n. refl }, ap (λ (r : Call × List ℕ). r .1) e)
+refusal-changes-nothing d (OfPacket m o) h =
+    let e = packet-settles (d .book) (d .packets m) o .keeps h in
+    (record { book = refl; calls = λ n. refl; packets = same-number m (d .packets) (ap (λ (r : Packet × List ℕ). r .0) e) }, ap (λ (r : Packet × List ℕ). r .1) e)

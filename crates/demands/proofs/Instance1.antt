@@ -1,0 +1,165 @@
+-- The premises of demand 1 can be met: a DES key that is begun, added in two parts and finished opens a call and a packet, and then a word and a
+-- message are turned, under it and no other. Assumes nothing.
+use mathlib.Core.Path.{_≡_, refl, sym, ap, subst, _∙_}
+use mathlib.Core.Bool.{true}
+use mathlib.Core.List.{List, [], _∷_, _++_}
+use Prim.Native.Nat.{ℕ}
+use native.Mathlib.Omega.{arith}
+use lib.ListN.{replicate}
+use Rattle.octets.specs.Tests.{allBelow, firstBelow}
+use Rattle.octets.specs.Lists.{replaced, allZero}
+use Rattle.ciphers.specs.Keys.{oddOctet, desKey, keyAllowed}
+use Rattle.answers.specs.declared.Answer.{Answer}
+use Rattle.answers.specs.declared.Answer.the-variants.{Done}
+use Rattle.answers.specs.Numbers.{numberOf}
+use Rattle.answers.proofs.OutcomeLaws.{NoneHolds}
+use Rattle.keyentry.specs.Entry as entry
+use Rattle.keybook.specs.Book as rules
+use Rattle.keybook.specs.Operations as operations
+use Rattle.keybook.specs.History as book
+use Rattle.session.specs.Session.{keyRight}
+use Rattle.session.specs.Ladder.{keyRefusals, zeroFor, vectorRefusals}
+use Rattle.voice.specs.declared.call.Call.{Call}
+use Rattle.voice.specs.Call.{vectorRight, closedTests, openTests, isClosed, isOpen, noCall, receiving, standing, written}
+use Rattle.voice.specs.Opening.{openRefusals, openOf}
+use Rattle.voice.specs.Slot.{voiceOf}
+use Rattle.voice.proofs.SlotSteps.{voice-heard}
+use Rattle.data.specs.declared.packet.Packet.{Packet}
+use Rattle.data.specs.Kinds.{isKind}
+use Rattle.data.specs.Packet as packet
+use Rattle.data.specs.Opening as opening
+use Rattle.data.specs.Message.{lostRefusals, messageOf}
+use Rattle.data.proofs.MessageLaws.{message-done}
+use Rattle.demands.specs.Marked.{seed, holding, desABCD}
+use Rattle.demands.specs.Device.{Device, Open, Voice, callStep, OpenPacket, Message, packetStep, Operation, OfBook, OfCall, OfPacket, step, deviceAfter, history}
+use Rattle.demands.specs.Demand1.{WordsTurned, MessageTurned}
+use Rattle.demands.proofs.LoadedLaws.{Held}
+use Rattle.demands.proofs.CallsLoaded.{theCalls, calls-loaded}
+use Rattle.demands.proofs.PacketsLoaded.{thePackets, packets-loaded}
+use Rattle.demands.proofs.Meets1.{ours-meets-1}
+use Rattle.demands.proofs.ThrownOut1.{one-key-call, one-key-packet}
+use Rattle.demands.proofs.Samples.{keyABCD, silence}
+
+-- ---- the key is loaded
+
+-- its first four octets, its last four, and a book that has it ready
+abbrev first : List ℕ
+first = 0xAB ∷ 0xCD ∷ 0xEF ∷ 0x01 ∷ []
+
+abbrev last : List ℕ
+last = 0x23 ∷ 0x45 ∷ 0x67 ∷ 0x89 ∷ []
+
+abbrev ready : List ℕ
+ready = 2 ∷ 0 ∷ 8 ∷ 1 ∷ (keyABCD ++ replicate 564 0)
+
+books : (book.step (book.Begin 2 0) (replicate 576 0) ≡ (Done, holding 2 []))
+    × (book.step (book.Add 2 0 first) (holding 2 []) ≡ (Done, holding 2 first))
+    × (book.step (book.Add 2 0 last) (holding 2 first) ≡ (Done, holding 2 keyABCD))
+    × (book.step (book.Finish 2 0) (holding 2 keyABCD) ≡ (Done, ready))
+unfolding book.step operations.beginOf operations.addOf operations.finishOf operations.beginRefusals operations.beginAfter operations.addRefusals
+    operations.finishRefusals rules.bookRefusals rules.entryOf rules.withEntry rules.apart rules.goodBook rules.findEntry rules.freeEntry entry.named
+    entry.isFor entry.entryRight entry.usedRight entry.readyRight entry.lacks entry.newEntry entry.loadRefusals entry.loaded entry.completeRefusals
+    entry.completed allZero allBelow firstBelow replaced keyAllowed desKey oddOctet
+books = (refl, refl, refl, refl)
+
+-- a device with this book, no call and no packet
+abbrev withBook : List ℕ → Device
+withBook b = record { book = b; calls = λ n. noCall; packets = λ n. packet.noPacket }
+
+loads : (os : List Operation) (o : book.Operation) {b c : List ℕ} → deviceAfter os ≡ withBook b → book.step o b ≡ (Done, c)
+    → deviceAfter (OfBook o ∷ os) ≡ withBook c
+unfolding deviceAfter step
+loads os o d e =
+    ap (λ (x : Device). step x (OfBook o) .1 .0) d ∙ ap (λ (r : Answer × List ℕ). withBook (r .1)) e
+
+abbrev pub loading : List Operation
+loading = OfBook (book.Finish 2 0) ∷ OfBook (book.Add 2 0 last) ∷ OfBook (book.Add 2 0 first) ∷ OfBook (book.Begin 2 0) ∷ []
+
+none-yet : deviceAfter [] ≡ withBook (replicate 576 0)
+unfolding deviceAfter
+none-yet = refl
+
+is-loaded : deviceAfter loading ≡ withBook ready
+is-loaded =
+    loads (OfBook (book.Add 2 0 last) ∷ OfBook (book.Add 2 0 first) ∷ OfBook (book.Begin 2 0) ∷ []) (book.Finish 2 0)
+    (loads (OfBook (book.Add 2 0 first) ∷ OfBook (book.Begin 2 0) ∷ []) (book.Add 2 0 last)
+    (loads (OfBook (book.Begin 2 0) ∷ []) (book.Add 2 0 first) (loads [] (book.Begin 2 0) none-yet (books .0)) (books .1)) (books .2))
+    (books .3)
+
+-- ---- it opens a call
+
+abbrev told : Call
+told = written (receiving 2 desABCD 0 true seed)
+
+opens : openOf noCall 2 0 seed ready ≡ (Done, told)
+unfolding openOf openRefusals vectorRefusals keyRefusals zeroFor standing isClosed closedTests allZero allBelow firstBelow entry.named entry.isFor
+    entry.entryRight entry.usedRight entry.readyRight entry.lacks rules.entryOf rules.findEntry rules.apart rules.goodBook keyAllowed desKey oddOctet
+opens = refl
+
+told-stands : standing told ≡ receiving 2 desABCD 0 true seed
+unfolding standing isClosed closedTests isOpen openTests keyRight vectorRight keyAllowed desKey oddOctet allZero allBelow
+told-stands = refl
+
+abbrev pub opening-call : List Operation
+opening-call = OfCall 0 (Open 2 0 seed) ∷ loading
+
+is-open : deviceAfter opening-call .calls 0 ≡ told
+unfolding deviceAfter step callStep
+is-open = ap (λ (d : Device). step d (OfCall 0 (Open 2 0 seed)) .1 .0 .calls 0) is-loaded ∙ ap (λ (r : Answer × Call). r .1) opens
+
+-- every word of a slot
+pub word-done : numberOf (step (deviceAfter opening-call) (OfCall 0 (Voice 15 silence)) .0) ≡ 0
+unfolding step callStep
+word-done =
+    ap (λ (c : Call). numberOf (voiceOf c 15 silence .0)) is-open
+    ∙ ap (λ (r : Answer × (Call × List ℕ)). numberOf (r .0)) (voice-heard told 15 silence (omega arith) refl 2 desABCD 0 seed told-stands)
+
+pub word-turned : WordsTurned (history opening-call) 0 15 silence (step (deviceAfter opening-call) (OfCall 0 (Voice 15 silence)) .1 .1)
+word-turned = ours-meets-1 .words opening-call 0 15 silence word-done
+
+-- and under no other key
+pub word-key : (frame : List ℕ) (t : WordsTurned (history opening-call) 0 15 silence frame) → (t .cipher ≡ 2) × (t .key ≡ desABCD)
+word-key frame t =
+    one-key-call 0 (history opening-call) (t .cipher) 2 (t .key) desABCD (t .loaded)
+    (subst (Held theCalls 0 (history opening-call)) is-open (calls-loaded opening-call 0) (λ z. omega arith))
+
+-- ---- and a packet
+
+abbrev dcalls : Packet
+dcalls = opening.opened 1 2 seed desABCD
+
+opens-packet : opening.openOf packet.noPacket 1 2 0 seed ready ≡ (Done, dcalls)
+unfolding opening.openOf opening.openRefusals vectorRefusals keyRefusals zeroFor packet.goodPacket packet.isClosed packet.closedTests isKind allZero
+    allBelow firstBelow entry.named entry.isFor entry.entryRight entry.usedRight entry.readyRight entry.lacks rules.entryOf rules.findEntry rules.apart
+    rules.goodBook keyAllowed desKey oddOctet
+opens-packet = refl
+
+dcalls-go : NoneHolds (lostRefusals dcalls)
+unfolding lostRefusals packet.goodPacket packet.isClosed packet.closedTests packet.isOpen packet.openTests isKind keyRight keyAllowed desKey oddOctet
+    allZero allBelow
+dcalls-go = (refl, (refl, tt))
+
+abbrev pub opening-packet : List Operation
+opening-packet = OfPacket 0 (OpenPacket 1 2 0 seed) ∷ loading
+
+is-opened : deviceAfter opening-packet .packets 0 ≡ dcalls
+unfolding deviceAfter step packetStep
+is-opened =
+    ap (λ (d : Device). step d (OfPacket 0 (OpenPacket 1 2 0 seed)) .1 .0 .packets 0) is-loaded ∙ ap (λ (r : Answer × Packet). r .1) opens-packet
+
+abbrev blanks : List ℕ
+blanks = replicate 22 0
+
+pub message-is-done : numberOf (step (deviceAfter opening-packet) (OfPacket 0 (Message blanks)) .0) ≡ 0
+unfolding step packetStep
+message-is-done =
+    ap (λ (p : Packet). numberOf (messageOf p blanks .0)) is-opened
+    ∙ sym (ap (λ (r : Answer × (Packet × List ℕ)). numberOf (r .0)) (message-done dcalls blanks dcalls-go refl))
+
+pub message-turned : MessageTurned (history opening-packet) 0 blanks (step (deviceAfter opening-packet) (OfPacket 0 (Message blanks)) .1 .1)
+message-turned = ours-meets-1 .messages opening-packet 0 blanks message-is-done
+
+pub message-key : (octets : List ℕ) (t : MessageTurned (history opening-packet) 0 blanks octets) → (t .cipher ≡ 2) × (t .key ≡ desABCD)
+message-key octets t =
+    one-key-packet 0 (history opening-packet) (t .cipher) 2 (t .key) desABCD (t .loaded)
+    (subst (Held thePackets 0 (history opening-packet)) is-opened (packets-loaded opening-packet 0) (λ z. omega arith))

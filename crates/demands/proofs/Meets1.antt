@@ -1,0 +1,66 @@
+-- Demand 1 is met. Assumes nothing.
+use mathlib.Core.Path.{_≡_, ap}
+use mathlib.Core.List.{List}
+use Prim.Native.Nat.{ℕ, _≤_}
+use native.Mathlib.Omega.{arith}
+use lib.ListN.{replicate}
+use Rattle.answers.specs.Numbers.{numberOf}
+use Rattle.ciphers.specs.Keystream.{stream}
+use Rattle.keyentry.specs.Entry.{keyRoom}
+use Rattle.keybook.specs.Operations.{noKey, readyKeyOf}
+use Rattle.keybook.proofs.Laws.{refused-ready-no-key}
+use Rattle.voice.specs.declared.call.Call.{Call}
+use Rattle.voice.proofs.SlotLaws.{done-turned, voice-taken, none-open}
+use Rattle.data.specs.declared.packet.Packet.{Packet}
+use Rattle.data.specs.Message.{messageTurned}
+use Rattle.data.proofs.PacketLaws.{open-some}
+use Rattle.data.proofs.MessageBits as bits
+use Rattle.demands.specs.Device.{callStep, Voice, packetStep, Message, Operation, OfCall, OfPacket, step, deviceAfter, history}
+use Rattle.demands.specs.Demand1.{WordsTurned, MessageTurned, Demand1}
+use Rattle.demands.proofs.Shared.{done-open}
+use Rattle.demands.proofs.DeviceLaws.{answers-by-table, refusal-changes-nothing}
+use Rattle.demands.proofs.CallsLoaded.{calls-loaded}
+use Rattle.demands.proofs.PacketsLoaded.{packets-loaded}
+
+no-key : (b : List ℕ) (c i : ℕ) → 1 ≤ numberOf (readyKeyOf b c i .0) → readyKeyOf b c i .1 ≡ replicate keyRoom 0
+unfolding noKey
+no-key b c i l = refused-ready-no-key b c i (λ e. omega (arith, ap numberOf e))
+
+words : (os : List Operation) (n mask : ℕ) (frame : List ℕ) → numberOf (step (deviceAfter os) (OfCall n (Voice mask frame)) .0) ≡ 0
+    → WordsTurned (history os) n mask frame (step (deviceAfter os) (OfCall n (Voice mask frame)) .1 .1)
+unfolding step callStep
+words os n mask frame z =
+    let c : Call = deviceAfter os .calls n in
+    record {
+      cipher = c .cipher;
+      key = c .key;
+      position = c .position;
+      vector = c .vector;
+      turned = done-turned stream c mask frame z;
+      loaded = calls-loaded os n (none-open c mask frame (voice-taken stream c mask frame (omega arith)));
+    }
+
+messages : (os : List Operation) (n : ℕ) (message : List ℕ) → numberOf (step (deviceAfter os) (OfPacket n (Message message)) .0) ≡ 0
+    → MessageTurned (history os) n message (step (deviceAfter os) (OfPacket n (Message message)) .1 .1)
+unfolding step packetStep messageTurned
+messages os n message z =
+    let p : Packet = deviceAfter os .packets n in
+    record {
+      kind = p .kind;
+      cipher = p .cipher;
+      key = p .key;
+      count = p .count;
+      vector = p .vector;
+      turned = ap (λ (r : Packet × List ℕ). r .1) (bits.done-turned p message z);
+      loaded = packets-loaded os n (open-some p (done-open p message z));
+    }
+
+pub ours-meets-1 : Demand1
+ours-meets-1 =
+    record {
+      answers = answers-by-table;
+      changes-nothing = refusal-changes-nothing;
+      no-key = no-key;
+      words = words;
+      messages = messages;
+    }

@@ -1,0 +1,169 @@
+-- What demand 1 throws out: every key but one, histories in which no finish was done (version one began while the key loader was still sending),
+-- and keys that were erased before the opening. Assumes nothing.
+use mathlib.Core.Path.{_≡_, refl, sym, ap, subst, _∙_}
+use mathlib.Core.Bool.{Bool, true, false, _&&_, and-true, true≢false}
+use mathlib.Core.List.{List, [], _∷_, _++_}
+use Prim.Native.Nat.{ℕ}
+use lib.Dec.{eqb}
+use borrow.Author.Tests.{eq-eqb}
+use Rattle.octets.specs.Tests.{pick}
+use Rattle.answers.specs.declared.Answer.{Answer}
+use Rattle.answers.specs.declared.Answer.the-variants.{Done, NotReady}
+use Rattle.answers.specs.Numbers.{numberOf, isDone}
+use Rattle.keybook.specs.History as book
+use Rattle.demands.specs.Device.{CallOperation, Open, Start, Join, Voice, Lost, End, Announce, NextVector, PacketOperation, OpenPacket, Message, LostMessage, EndPacket, Operation, OfBook, OfCall, OfPacket, step, History, deviceAfter, history, keyOperations}
+use Rattle.demands.specs.Demand1.{OpensCall, by-open, by-start, by-join, OpensPacket, by-opening, renewsCall, renewsPacket, NoneDone, Loaded}
+use Rattle.demands.proofs.Meets1.{ours-meets-1}
+
+-- ---- without a finish that was done no key is loaded
+
+abbrev isFinish : book.Operation → Bool
+isFinish (book.Begin c i) = false
+isFinish (book.Add c i xs) = false
+isFinish (book.Finish c i) = true
+isFinish (book.Erase c i) = false
+
+abbrev pub finishing : Operation → Bool
+finishing (OfBook o) = isFinish o
+finishing (OfCall n o) = false
+finishing (OfPacket n o) = false
+
+either-false : (t : Bool) {f g : Bool} → f ≡ false → g ≡ false → pick t f g ≡ false
+either-false true p q = p
+either-false false p q = q
+
+unfinished : (h : History) → NoneDone finishing h → (c i : ℕ) → book.finished (keyOperations h) c i ≡ false
+unfolding keyOperations book.finished
+unfinished [] n c i = refl
+unfinished ((OfBook o, a) ∷ h) n c i = go o (n .0) (unfinished h (n .1) c i)
+  where
+    go : (o : book.Operation) → (isDone a && isFinish o) ≡ false → book.finished (keyOperations h) c i ≡ false
+        → pick (isDone a && book.names c i o) (book.finishes o (book.finished (keyOperations h) c i)) (book.finished (keyOperations h) c i) ≡ false
+    go (book.Begin d j) e f = either-false (isDone a && book.names c i (book.Begin d j)) refl f
+    go (book.Add d j xs) e f = either-false (isDone a && book.names c i (book.Add d j xs)) f f
+    go (book.Finish d j) e f = rw (sym (and-true (isDone a)) ∙ e) f
+    go (book.Erase d j) e f = either-false (isDone a && book.names c i (book.Erase d j)) refl f
+unfinished ((OfCall m o, a) ∷ h) n c i = unfinished h (n .1) c i
+unfinished ((OfPacket m o, a) ∷ h) n c i = unfinished h (n .1) c i
+
+after : (renews : Operation → Bool) (since before : History) → NoneDone renews (since ++ before) → NoneDone renews before
+after renews [] before n = n
+after renews (x ∷ since) before n = after renews since before (n .1)
+
+pub unfinished-loads-none : (opens : ℕ → ℕ → Operation → Type 0) (renews : Operation → Bool) (h : History) (c : ℕ) (k : List ℕ) → NoneDone finishing h
+    → Loaded opens renews h c k → ⊥
+unfinished-loads-none opens renews h c k n l =
+    let m : NoneDone finishing (l .since ++ ((l .opening, Done) ∷ l .before)) = rw (l .is-history) at n in
+    true≢false (sym (l .told .is-finished) ∙ unfinished (l .before) (after finishing (l .since) ((l .opening, Done) ∷ l .before) m .1) c (l .id))
+
+-- so no word and no message is turned
+module _ (os : List Operation) (none : NoneDone finishing (history os)) (n : ℕ) where
+  pub no-word : (mask : ℕ) (frame : List ℕ) → numberOf (step (deviceAfter os) (OfCall n (Voice mask frame)) .0) ≡ 0 → ⊥
+  no-word mask frame z =
+      let t = ours-meets-1 .words os n mask frame z in
+      unfinished-loads-none (OpensCall n) (renewsCall n) (history os) (t .cipher) (t .key) none (t .loaded)
+
+  pub no-message : (message : List ℕ) → numberOf (step (deviceAfter os) (OfPacket n (Message message)) .0) ≡ 0 → ⊥
+  no-message message z =
+      let t = ours-meets-1 .messages os n message z in
+      unfinished-loads-none (OpensPacket n) (renewsPacket n) (history os) (t .cipher) (t .key) none (t .loaded)
+
+-- version one: half a key is added, the finish is refused, and a call is opened all the same
+pub version-one : (c : ℕ) (k half w : List ℕ)
+    → Loaded (OpensCall 0) (renewsCall 0)
+    ((OfCall 0 (Open 2 0 w), Done) ∷ (OfBook (book.Finish 2 0), NotReady) ∷ (OfBook (book.Add 2 0 half), Done) ∷ (OfBook (book.Begin 2 0), Done) ∷ []) c k → ⊥
+version-one c k half w = unfinished-loads-none (OpensCall 0) (renewsCall 0) _ c k (refl, (refl, (refl, (refl, tt))))
+
+-- ---- one opening stands, and so one key is loaded
+
+module _ (opens : ℕ → ℕ → Operation → Type 0) (renews : Operation → Bool) (named : Operation → ℕ × ℕ)
+    (renewing : (c i : ℕ) (o : Operation) → opens c i o → renews o ≡ true) (naming : (c i : ℕ) (o : Operation) → opens c i o → (c, i) ≡ named o) where
+  -- what is done and renews is not among what came since
+  not-since : (x : Operation × Answer) (o : Operation) → renews o ≡ true → (o, Done) ≡ x → (isDone (x .1) && renews (x .0)) ≡ false → ⊥
+  not-since x o r q e = true≢false (sym r ∙ (rw (← q) at e))
+
+  one-opening : (since since′ before before′ : History) (o o′ : Operation) → renews o ≡ true → renews o′ ≡ true → NoneDone renews since
+      → NoneDone renews since′ → since ++ ((o, Done) ∷ before) ≡ since′ ++ ((o′, Done) ∷ before′) → (o ≡ o′) × (before ≡ before′)
+  one-opening [] [] before before′ o o′ r r′ n n′ e =
+      let q : _≡_ {A = Operation × Answer} (o, Done) (o′, Done) = cc in
+      (ap (λ (x : Operation × Answer). x .0) q, (cc))
+  one-opening [] (x ∷ since′) before before′ o o′ r r′ n n′ e = absurd (not-since x o r (cc) (n′ .0))
+  one-opening (x ∷ since) [] before before′ o o′ r r′ n n′ e = absurd (not-since x o′ r′ (cc) (n .0))
+  one-opening (x ∷ since) (y ∷ since′) before before′ o o′ r r′ n n′ e = one-opening since since′ before before′ o o′ r r′ (n .1) (n′ .1) (cc)
+
+  -- the key is the one that was told of when the opening that stands was done
+  module _ (h : History) (c : ℕ) (k : List ℕ) (l : Loaded opens renews h c k) where
+    told-at : (since before : History) (o : Operation) → renews o ≡ true → NoneDone renews since → h ≡ since ++ ((o, Done) ∷ before)
+        → (c ≡ named o .0) × book.Told (keyOperations before) (named o .0) (named o .1) k
+    told-at since before o r n e =
+        let q = one-opening (l .since) since (l .before) before (l .opening) o (renewing c (l .id) (l .opening) (l .opens-it)) r (l .still-stands) n
+        (sym (l .is-history) ∙ e) in
+        let m : (c, l .id) ≡ named o = naming c (l .id) (l .opening) (l .opens-it) ∙ ap named (q .0) in
+        let t : book.Told (keyOperations before) c (l .id) k = rw (q .1) at (l .told) in
+        (ap (λ (p : ℕ × ℕ). p .0) m, subst (λ (p : ℕ × ℕ). book.Told (keyOperations before) (p .0) (p .1) k) m t)
+
+  one-key : (h : History) (c c′ : ℕ) (k k′ : List ℕ) → Loaded opens renews h c k → Loaded opens renews h c′ k′ → (c ≡ c′) × (k ≡ k′)
+  one-key h c c′ k k′ l l′ =
+      let r = renewing c′ (l′ .id) (l′ .opening) (l′ .opens-it) in
+      let a = told-at h c k l (l′ .since) (l′ .before) (l′ .opening) r (l′ .still-stands) (l′ .is-history) in
+      let b = told-at h c′ k′ l′ (l′ .since) (l′ .before) (l′ .opening) r (l′ .still-stands) (l′ .is-history) in
+      (a .0 ∙ sym (b .0), a .1 .is-added ∙ sym (b .1 .is-added))
+
+-- the cipher and key ID that an opening names
+abbrev callNames : CallOperation → ℕ × ℕ
+callNames (Open c i w) = (c, i)
+callNames (Start c i w) = (c, i)
+callNames (Join c i) = (c, i)
+callNames (Voice mask frame) = (0, 0)
+callNames Lost = (0, 0)
+callNames End = (0, 0)
+callNames (Announce w) = (0, 0)
+callNames (NextVector out) = (0, 0)
+
+abbrev packetNames : PacketOperation → ℕ × ℕ
+packetNames (OpenPacket kind c i w) = (c, i)
+packetNames (Message octets) = (0, 0)
+packetNames LostMessage = (0, 0)
+packetNames EndPacket = (0, 0)
+
+abbrev openingNames : Operation → ℕ × ℕ
+openingNames (OfBook o) = (0, 0)
+openingNames (OfCall n o) = callNames o
+openingNames (OfPacket n o) = packetNames o
+
+module _ (n : ℕ) where
+  own : eqb n n ≡ true
+  own = eq-eqb n n refl
+
+  call-renews : (c i : ℕ) (o : Operation) → OpensCall n c i o → renewsCall n o ≡ true
+  call-renews c i _ (by-open w) = rw own
+  call-renews c i _ (by-start w) = rw own
+  call-renews c i _ by-join = rw own
+
+  call-names : (c i : ℕ) (o : Operation) → OpensCall n c i o → (c, i) ≡ openingNames o
+  call-names c i _ (by-open w) = refl
+  call-names c i _ (by-start w) = refl
+  call-names c i _ by-join = refl
+
+  packet-renews : (c i : ℕ) (o : Operation) → OpensPacket n c i o → renewsPacket n o ≡ true
+  packet-renews c i _ (by-opening kind w) = rw own
+
+  packet-names : (c i : ℕ) (o : Operation) → OpensPacket n c i o → (c, i) ≡ openingNames o
+  packet-names c i _ (by-opening kind w) = refl
+
+  pub one-key-call : (h : History) (c c′ : ℕ) (k k′ : List ℕ) → Loaded (OpensCall n) (renewsCall n) h c k → Loaded (OpensCall n) (renewsCall n) h c′ k′
+      → (c ≡ c′) × (k ≡ k′)
+  one-key-call = one-key (OpensCall n) (renewsCall n) openingNames call-renews call-names
+
+  pub one-key-packet : (h : History) (c c′ : ℕ) (k k′ : List ℕ) → Loaded (OpensPacket n) (renewsPacket n) h c k
+      → Loaded (OpensPacket n) (renewsPacket n) h c′ k′ → (c ≡ c′) × (k ≡ k′)
+  one-key-packet = one-key (OpensPacket n) (renewsPacket n) openingNames packet-renews packet-names
+
+-- an opening right after its key was erased, whatever came before
+pub erased : (c i d : ℕ) (k w : List ℕ) (h : History)
+    → Loaded (OpensCall 0) (renewsCall 0) ((OfCall 0 (Open c i w), Done) ∷ (OfBook (book.Erase c i), Done) ∷ h) d k → ⊥
+unfolding keyOperations book.finished
+erased c i d k w h l =
+    let t = told-at (OpensCall 0) (renewsCall 0) openingNames (call-renews 0) (call-names 0) _ d k l [] ((OfBook (book.Erase c i), Done) ∷ h)
+    (OfCall 0 (Open c i w)) refl tt refl in
+    true≢false (sym (t .1 .is-finished) ∙ rw (eq-eqb c c refl, eq-eqb i i refl))

@@ -1,0 +1,142 @@
+-- Demand 1, its setting: one book and any number of calls and packets, each by its number; every operation of document 01 on them; and the history of
+-- what was asked and answered.
+use mathlib.Core.List.{List, [], _∷_}
+use Prim.Native.Nat.{ℕ}
+use lib.Dec.{eqb}
+use lib.ListN.{replicate}
+use Rattle.octets.specs.Tests.{pick}
+use Rattle.answers.specs.declared.Answer.{Answer}
+use Rattle.keybook.specs.Book.{bookOctets}
+use Rattle.keybook.specs.History as book
+use Rattle.voice.specs.declared.call.Call.{Call}
+use Rattle.voice.specs.Call.{noCall, endOf}
+use Rattle.voice.specs.Opening.{openOf, startOf, joinOf}
+use Rattle.voice.specs.Slot.{lostOf, voiceOf}
+use Rattle.voice.specs.Vector.{announceOf, nextVectorOf}
+use Rattle.data.specs.declared.packet.Packet.{Packet}
+use Rattle.data.specs.Packet as packet
+use Rattle.data.specs.Opening as opening
+use Rattle.data.specs.Message as message
+
+module _ {S : Type 0} where
+  -- an outcome of an operation that writes no lent octets
+  abbrev pub withNone : Answer × S → Answer × (S × List ℕ)
+  withNone o = (o .0, (o .1, []))
+
+pub record Device : Type 0 where
+  pub book : List ℕ
+  pub calls : ℕ → Call
+  pub packets : ℕ → Packet
+
+-- an all-zero book, no call and no packet
+abbrev pub atFirst : Device
+atFirst = record { book = replicate bookOctets 0; calls = λ n. noCall; packets = λ n. packet.noPacket }
+
+-- ---- every operation, with all that it is given; what it answers and leaves, and the octets that it may write
+
+-- on a call
+pub data CallOperation : Type 0 where
+  -- cipher, key ID and vector
+  Open Start : ℕ → ℕ → List ℕ → CallOperation
+  -- cipher and key ID
+  Join : ℕ → ℕ → CallOperation
+  -- mask and frame
+  Voice : ℕ → List ℕ → CallOperation
+  Lost End : CallOperation
+  -- vector
+  Announce : List ℕ → CallOperation
+  -- the octets that take the next vector
+  NextVector : List ℕ → CallOperation
+
+module _ (b : List ℕ) (c : Call) where
+  unfoldable pub callStep : CallOperation → Answer × (Call × List ℕ)
+  callStep (Open cipher i w) = withNone (openOf c cipher i w b)
+  callStep (Start cipher i w) = withNone (startOf c cipher i w b)
+  callStep (Join cipher i) = withNone (joinOf c cipher i b)
+  callStep (Voice mask frame) = voiceOf c mask frame
+  callStep Lost = withNone (lostOf c)
+  callStep End = withNone (endOf c)
+  callStep (Announce w) = withNone (announceOf c w)
+  callStep (NextVector out) = let o = nextVectorOf c out in (o .0, (c, o .1))
+
+abbrev pub lentCall : CallOperation → List ℕ
+lentCall (Open c i w) = []
+lentCall (Start c i w) = []
+lentCall (Join c i) = []
+lentCall (Voice mask frame) = frame
+lentCall Lost = []
+lentCall End = []
+lentCall (Announce w) = []
+lentCall (NextVector out) = out
+
+-- on a packet
+pub data PacketOperation : Type 0 where
+  -- kind, cipher, key ID and vector
+  OpenPacket : ℕ → ℕ → ℕ → List ℕ → PacketOperation
+  -- message
+  Message : List ℕ → PacketOperation
+  LostMessage EndPacket : PacketOperation
+
+module _ (b : List ℕ) (p : Packet) where
+  unfoldable pub packetStep : PacketOperation → Answer × (Packet × List ℕ)
+  packetStep (OpenPacket kind c i w) = withNone (opening.openOf p kind c i w b)
+  packetStep (Message octets) = message.messageOf p octets
+  packetStep LostMessage = withNone (message.lostOf p)
+  packetStep EndPacket = withNone (packet.endOf p)
+
+abbrev pub lentPacket : PacketOperation → List ℕ
+lentPacket (OpenPacket kind c i w) = []
+lentPacket (Message octets) = octets
+lentPacket LostMessage = []
+lentPacket EndPacket = []
+
+-- on a device: begin, add, finish and erase; or on the call, or packet, of a number
+pub data Operation : Type 0 where
+  OfBook : book.Operation → Operation
+  OfCall : ℕ → CallOperation → Operation
+  OfPacket : ℕ → PacketOperation → Operation
+
+module _ {A : Type 0} where
+  -- x in the place of number n
+  abbrev pub withNumber : ℕ → A → (ℕ → A) → ℕ → A
+  withNumber n x f m = pick (eqb m n) x (f m)
+
+unfoldable pub step : Device → Operation → Answer × (Device × List ℕ)
+step d (OfBook o) = let r = book.step o (d .book) in (r .0, (record { book = r .1; calls = d .calls; packets = d .packets }, []))
+step d (OfCall n o) =
+    let r = callStep (d .book) (d .calls n) o in
+    (r .0, (record { book = d .book; calls = withNumber n (r .1 .0) (d .calls); packets = d .packets }, r .1 .1))
+step d (OfPacket n o) =
+    let r = packetStep (d .book) (d .packets n) o in
+    (r .0, (record { book = d .book; calls = d .calls; packets = withNumber n (r .1 .0) (d .packets) }, r .1 .1))
+
+abbrev pub lent : Operation → List ℕ
+lent (OfBook o) = []
+lent (OfCall n o) = lentCall o
+lent (OfPacket n o) = lentPacket o
+
+-- ---- histories, the latest first
+
+-- operations with what they answered
+abbrev pub History : Type 0
+History = List (Operation × Answer)
+
+-- the device after operations from the first on
+unfoldable pub deviceAfter : List Operation → Device
+deviceAfter [] = atFirst
+deviceAfter (o ∷ os) = step (deviceAfter os) o .1 .0
+
+-- and what they answered
+unfoldable pub history : List Operation → History
+history [] = []
+history (o ∷ os) = (o, step (deviceAfter os) o .0) ∷ history os
+
+-- the key operations of a history
+abbrev pub ontoKeys : Operation → Answer → book.History → book.History
+ontoKeys (OfBook o) a h = (o, a) ∷ h
+ontoKeys (OfCall n o) a h = h
+ontoKeys (OfPacket n o) a h = h
+
+unfoldable pub keyOperations : History → book.History
+keyOperations [] = []
+keyOperations (x ∷ h) = ontoKeys (x .0) (x .1) (keyOperations h)
