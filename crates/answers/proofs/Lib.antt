@@ -1,2 +1,3 @@
 pub mod NumberLaws
 pub mod OutcomeLaws
+pub mod TableLaws

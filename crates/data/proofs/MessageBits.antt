@@ -11,11 +11,13 @@ use Rattle.octets.specs.Bits.{bit, flip, Octets}
 use Rattle.octets.specs.Turn.{turned, turnedIn}
 use Rattle.octets.proofs.Turning.{length-turned, within-in}
 use Rattle.octets.proofs.Parts.{replaced-before, replaced-after, length-turnedIn, octets-turnedIn, bit-inside, bit-outside}
+use Rattle.answers.specs.declared.Answer.the-variants.{Done}
 use Rattle.answers.specs.Numbers.{numberOf}
-use Rattle.answers.proofs.OutcomeLaws.{NoneHolds, neverDone, none-left, none-right, none-settles, done-none}
+use Rattle.answers.proofs.OutcomeLaws.{NoneHolds, neverDone, refusal-keeps, none-left, none-right, none-settles, done-none}
 use Rattle.ciphers.specs.Keystream.{stream}
 use Rattle.data.specs.declared.packet.Packet.{Packet}
 use Rattle.data.specs.Kinds.{isKind, messageOctets, headOctets, protectedOctets, protectedBits}
+use Rattle.data.specs.Packet.{isOpen}
 use Rattle.data.specs.Message.{counted, lostRefusals, messageRefusals, ofMessage, messageTurned, messageOf}
 use Rattle.data.proofs.KindLaws.{kind-fits}
 use Rattle.data.proofs.PacketLaws.{open-kind}
@@ -76,9 +78,13 @@ module _ (p : Packet) (message : List ℕ) (done : numberOf (messageOf p message
   unfolding messageOf
   none = done-none (messageRefusals p message) (p, message) (counted p, messageTurned p message) never (eq-eqb _ _ done)
 
-  is : isKind (p .kind) ≡ true
+  -- it is one of an open packet
+  pub done-open : isOpen p ≡ true
   unfolding messageRefusals
-  is = open-kind p (none-open p (none-left (lostRefusals p) _ none))
+  done-open = none-open p (none-left (lostRefusals p) _ none)
+
+  is : isKind (p .kind) ≡ true
+  is = open-kind p done-open
 
   pub done-long : length message ≡ messageOctets (p .kind)
   unfolding messageRefusals
@@ -112,3 +118,10 @@ module _ (p : Packet) (message : List ℕ) (done : numberOf (messageOf p message
 
   pub tail-octets-stay : (i : ℕ) → headOctets + protectedOctets (p .kind) ≤ i → getD after i 0 ≡ getD message i 0
   tail-octets-stay i h = ap (λ (xs : List ℕ). getD xs i 0) turned-is ∙ turned-after p message is done-long i h
+
+-- a message that is not done stays as it came
+pub undone-stays : (p : Packet) (message : List ℕ) → 1 ≤ numberOf (messageOf p message .0) → messageOf p message .1 .1 ≡ message
+unfolding messageOf
+undone-stays p message l =
+    ap (λ (r : Packet × List ℕ). r .1)
+    (refusal-keeps (p, message) (messageRefusals p message) (Done, (counted p, messageTurned p message)) (λ e. omega (arith, ap numberOf e)))

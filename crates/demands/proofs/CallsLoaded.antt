@@ -25,7 +25,7 @@ use Rattle.voice.proofs.SlotLaws.{voice-moves}
 use Rattle.demands.specs.Device.{Device, CallOperation, Open, Start, Join, Voice, Lost, End, Announce, NextVector, callStep, packetStep, Operation, OfBook, OfCall, OfPacket, step, deviceAfter, history}
 use Rattle.demands.specs.Demand1.{OpensCall, by-open, by-start, by-join, renewsCall}
 use Rattle.demands.proofs.LoadedLaws.{Holder, KeepsKey, begins, Left, Held, always-loaded, as-it-was, renewing, keeping, of-number}
-use Rattle.demands.proofs.Shared.{none-ready, none-ready-vector}
+use Rattle.session.proofs.ReadyLaws.{none-ready, none-ready-vector}
 
 -- ---- a call
 

@@ -29,7 +29,7 @@ use Rattle.data.specs.Opening as opening
 use Rattle.data.specs.Message as message
 use Rattle.demands.specs.Device.{withNone, Device, CallOperation, Open, Start, Join, Voice, Lost, End, Announce, NextVector, callStep, lentCall, PacketOperation, OpenPacket, Message, LostMessage, EndPacket, packetStep, lentPacket, Operation, OfBook, OfCall, OfPacket, withNumber, step, lent}
 use Rattle.demands.specs.Demand1.{Same}
-use Rattle.demands.proofs.Shared.{Settles, settles}
+use Rattle.answers.proofs.TableLaws.{Settles, settles}
 
 -- ---- on the book, a call, a packet
 

@@ -8,7 +8,6 @@ pub mod Samples
 pub mod ThrownOut
 pub mod SenderKeeps
 pub mod Instance
-pub mod Shared
 pub mod Meets2
 pub mod DeviceLaws
 pub mod LoadedLaws

@@ -17,7 +17,7 @@ use Rattle.data.proofs.PacketLaws.{open-some}
 use Rattle.data.proofs.MessageBits as bits
 use Rattle.demands.specs.Device.{callStep, Voice, packetStep, Message, Operation, OfCall, OfPacket, step, deviceAfter, history}
 use Rattle.demands.specs.Demand1.{WordsTurned, MessageTurned, Demand1}
-use Rattle.demands.proofs.Shared.{done-open}
+use Rattle.data.proofs.MessageBits.{done-open}
 use Rattle.demands.proofs.DeviceLaws.{answers-by-table, refusal-changes-nothing}
 use Rattle.demands.proofs.CallsLoaded.{calls-loaded}
 use Rattle.demands.proofs.PacketsLoaded.{packets-loaded}

@@ -21,7 +21,6 @@ use Rattle.data.specs.Message.{messageOf}
 use Rattle.data.proofs.PacketLaws.{open-kind}
 use Rattle.data.proofs.MessageBits as bits
 use Rattle.demands.specs.Demand2.{Keystreams, Demand2}
-use Rattle.demands.proofs.Shared as shared
 
 keystreams : Keystreams
 unfolding stream feedback usedBlock aesVector
@@ -48,7 +47,7 @@ module _ (packet : Packet) (message : List ℕ) (z : numberOf (messageOf packet 
   octets : Octets message → Octets (messageOf packet message .1 .1)
   octets o =
       subst Octets (sym (ap (λ (r : Packet × List ℕ). r .1) (bits.done-turned packet message z)))
-      (bits.turned-octets packet message (open-kind packet (shared.done-open packet message z)) (bits.done-long packet message z) o)
+      (bits.turned-octets packet message (open-kind packet (bits.done-open packet message z)) (bits.done-long packet message z) o)
 
 pub ours-meets-2 : Demand2
 ours-meets-2 =
@@ -66,6 +65,6 @@ ours-meets-2 =
             turned = bits.message-turned packet message;
             stays = outside-stays packet message;
             whole = λ z. (bits.length-stays packet message z, octets packet message z);
-            as-it-came = shared.undone-stays packet message;
+            as-it-came = bits.undone-stays packet message;
           };
     }

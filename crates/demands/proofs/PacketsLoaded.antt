@@ -17,7 +17,7 @@ use Rattle.data.specs.Message as message
 use Rattle.demands.specs.Device.{Device, callStep, PacketOperation, OpenPacket, Message, LostMessage, EndPacket, packetStep, Operation, OfBook, OfCall, OfPacket, step, deviceAfter, history}
 use Rattle.demands.specs.Demand1.{OpensPacket, by-opening, renewsPacket}
 use Rattle.demands.proofs.LoadedLaws.{Holder, begins, Left, Held, always-loaded, as-it-was, renewing, keeping, of-number}
-use Rattle.demands.proofs.Shared.{none-ready-vector}
+use Rattle.session.proofs.ReadyLaws.{none-ready-vector}
 
 -- ---- a packet
 

@@ -11,14 +11,16 @@ use Rattle.octets.specs.Lists.{allZero}
 use Rattle.octets.proofs.TestLaws.{and-left, and-right, all-intro}
 use Rattle.ciphers.specs.Numbers.{keyOctets}
 use Rattle.ciphers.specs.Keys.{keyAllowed}
-use Rattle.answers.proofs.OutcomeLaws.{NoneHolds}
+use Rattle.answers.specs.declared.Answer.the-variants.{Done}
+use Rattle.answers.proofs.OutcomeLaws.{NoneHolds, none-left, none-settles}
 use Rattle.keyentry.specs.Entry.{cipherIn, countIn, readyIn, isReady, keyIn, keyRest, named, lacks, readyRight}
 use Rattle.keyentry.proofs.RightLaws.{zero-at, Used, used-of, for-name}
 use Rattle.keybook.specs.Book.{entries, findEntry, goodBook}
-use Rattle.keybook.specs.Operations.{has, entryFor}
+use Rattle.keybook.specs.Operations.{has, entryFor, noKey, readyKeyOf}
 use Rattle.keybook.proofs.GoodLaws.{good-entry, found-for}
 use Rattle.session.specs.Session.{keyRight}
-use Rattle.session.specs.Ladder.{keyFor, keyRefusals}
+use Rattle.session.specs.Ladder.{keyFor, keyRefusals, keyOf, vectorRefusals}
+use Rattle.session.proofs.LadderLaws.{key-ready}
 
 named-some : (c i : ℕ) → named c i ≡ true → (1 ≤ c) × (c ≤ 3)
 unfolding named
@@ -72,3 +74,15 @@ module _ (bad busy : Bool) (c i : ℕ) (b : List ℕ) (n : NoneHolds (keyRefusal
   pub none-key : keyRight c (keyFor b c i) ≡ true
   unfolding keyRefusals
   none-key = key-right b c i (not-false _ (n .1 .1 .1 .1 .0)) (not-false _ (n .1 .0)) (not-false _ (n .1 .1 .1 .1 .1 .0)) (not-false _ (n .1 .1 .1 .1 .1 .1 .0))
+
+-- where nothing refuses the key, the book hands it out
+module _ (bad busy : Bool) (c i : ℕ) (b : List ℕ) where
+  pub none-ready : NoneHolds (keyRefusals bad busy c i b) → readyKeyOf b c i ≡ (Done, keyFor b c i)
+  unfolding keyRefusals keyOf
+  none-ready n =
+      key-ready bad busy c i b (eqb-true _ _ (not-false _ (n .0))) (not-false _ (n .1 .0)) (n .1 .1 .0) (n .1 .1 .1 .0)
+      ∙ none-settles (keyRefusals bad busy c i b) noKey (Done, keyFor b c i) n
+
+  pub none-ready-vector : (w : List ℕ) → NoneHolds (vectorRefusals bad busy c i w b) → readyKeyOf b c i ≡ (Done, keyFor b c i)
+  unfolding vectorRefusals
+  none-ready-vector w n = none-ready (none-left (keyRefusals bad busy c i b) _ (n .1))
