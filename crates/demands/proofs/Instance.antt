@@ -4,7 +4,7 @@ use mathlib.Core.Path.{_≡_, refl}
 use mathlib.Core.Bool.{Bool, true, false}
 use mathlib.Core.List.{List, [], _∷_}
 use native.Mathlib.Omega.{arith}
-use Rattle.demands.specs.Marked.{seed}
+use Rattle.session.specs.Samples.{seed}
 use Rattle.demands.specs.History.{Talk, opening, joining, Each, Kept}
 use Rattle.demands.specs.Log.{talkLog}
 use Rattle.demands.specs.Demand3.{ours}

@@ -30,7 +30,8 @@ use Rattle.data.specs.Packet as packet
 use Rattle.data.specs.Opening as opening
 use Rattle.data.specs.Message.{lostRefusals, messageOf}
 use Rattle.data.proofs.MessageLaws.{message-done}
-use Rattle.demands.specs.Marked.{seed, holding, desABCD}
+use Rattle.session.specs.Samples.{seed, desABCD}
+use Rattle.demands.specs.Marked.{holding}
 use Rattle.demands.specs.Device.{Device, Open, Voice, callStep, OpenPacket, Message, packetStep, Operation, OfBook, OfCall, OfPacket, step, deviceAfter, history}
 use Rattle.demands.specs.Demand1.{WordsTurned, MessageTurned}
 use Rattle.demands.proofs.LoadedLaws.{Held}

@@ -1,4 +1,6 @@
 pub mod Zeros
+pub mod MarkedVoice
+pub mod MarkedData
 pub mod MarkedHold
 pub mod AirLaws
 pub mod Standing

@@ -10,16 +10,16 @@ use Rattle.ciphers.specs.Keystream.{feedback, stream}
 use Rattle.keyentry.specs.Entry.{named, lacks, readyRight, usedRight, entryRight, isFor, completeRefusals}
 use Rattle.keybook.specs.Book.{entryOf, apart, goodBook, findEntry, bookRefusals}
 use Rattle.keybook.specs.Operations.{finishRefusals, finishOf}
-use Rattle.voice.proofs.Examples.{example-2-voice, example-11, example-12}
-use Rattle.data.proofs.Examples.{example-3, example-10}
 use Rattle.demands.specs.Marked.{Marked, finishNumber}
+use Rattle.demands.proofs.MarkedVoice.{example-2, example-11, example-12}
+use Rattle.demands.proofs.MarkedData.{example-3, example-10}
 
 pub marked : Marked
 unfolding stream feedback finishNumber allBelow firstBelow oddOctet scrambleKey desKey keyAllowed allZero named lacks readyRight usedRight entryRight isFor completeRefusals entryOf apart goodBook findEntry bookRefusals finishRefusals finishOf
 marked =
     record {
       example-1 = key-one;
-      example-2 = example-2-voice;
+      example-2 = example-2;
       example-3 = example-3;
       example-4 = example-second;
       example-5 = ap nextVector example-second ∙ example-third;
@@ -27,7 +27,7 @@ marked =
       example-7 = λ key vector. (refl, refl);
       example-8 = refl;
       example-9 = refl;
-      example-10 = example-10 .place;
-      example-11 = (example-11 .join, example-11 .slots, example-11 .after-four, example-11 .after-three);
+      example-10 = example-10;
+      example-11 = example-11;
       example-12 = example-12;
     }

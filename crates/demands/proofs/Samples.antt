@@ -14,7 +14,8 @@ use Rattle.keyentry.specs.Entry as entry
 use Rattle.keybook.specs.Book as book
 use Rattle.voice.specs.Frame.{IsFrame}
 use Rattle.voice.proofs.FrameLaws.{protect-frame}
-use Rattle.demands.specs.Marked.{key0001, seed}
+use Rattle.session.specs.Samples.{seed}
+use Rattle.demands.specs.Marked.{key0001}
 use Rattle.demands.specs.History.{Slot, SlotKept, SlotsKept, VectorKept, HasKey}
 use Rattle.demands.specs.Others.{Sending, turning}
 use Rattle.demands.proofs.AirLaws.{protected-air}

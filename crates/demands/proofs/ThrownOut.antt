@@ -22,7 +22,8 @@ use Rattle.voice.specs.Opening.{openOf}
 use Rattle.voice.specs.Slot.{lostOf, voiceOf}
 use Rattle.voice.proofs.FrameLaws.{protect-frame}
 use Rattle.voice.proofs.SlotSteps.{voice-heard}
-use Rattle.demands.specs.Marked.{key0001, seed}
+use Rattle.session.specs.Samples.{seed}
+use Rattle.demands.specs.Marked.{key0001}
 use Rattle.demands.specs.History.{Slot, Session, Talk, opening, joining, SlotKept, VectorKept, SessionKept, Each, Full, Kept}
 use Rattle.demands.specs.Log.{Receiver, counts, sessionsLog, talkLog}
 use Rattle.demands.specs.Demand3.{Right, Meets3}

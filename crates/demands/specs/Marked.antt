@@ -19,6 +19,7 @@ use Rattle.keybook.specs.Operations.{finishOf}
 use Rattle.voice.specs.declared.call.Call.{Call}
 use Rattle.voice.specs.Frame.{frameOctets}
 use Rattle.session.specs.Session.{vectorOctets, noVector}
+use Rattle.session.specs.Samples.{scramble0001, desABCD, seed}
 use Rattle.voice.specs.Call.{noCall, receiving, written}
 use Rattle.voice.specs.Opening.{openOf, joinOf}
 use Rattle.voice.specs.Slot.{topMask, voiceOf}
@@ -31,10 +32,6 @@ use Rattle.data.specs.Message.{counted, ofMessage, messageOf}
 abbrev pub key0001 : List ℕ
 key0001 = 0x00 ∷ 0x01 ∷ []
 
--- ABCDEF1234567890
-abbrev pub seed : List ℕ
-seed = 0xAB ∷ 0xCD ∷ 0xEF ∷ 0x12 ∷ 0x34 ∷ 0x56 ∷ 0x78 ∷ 0x90 ∷ []
-
 -- a book whose first entry has the octets k loaded, for cipher type c and key ID 0, and that is else all zero
 abbrev pub holding : ℕ → List ℕ → List ℕ
 holding c k = c ∷ 0 ∷ length k ∷ 0 ∷ (k ++ replicate (bookOctets - keyPlace - length k) 0)
@@ -43,13 +40,7 @@ holding c k = c ∷ 0 ∷ length k ∷ 0 ∷ (k ++ replicate (bookOctets - keyPl
 unfoldable pub finishNumber : ℕ → List ℕ → ℕ
 finishNumber c k = numberOf (finishOf (holding c k) c 0 .0)
 
--- key 0001 and DES key ABCDEF0123456789 as a book and a call keep them, and a book that has both ready, as key ID 0
-abbrev pub scramble0001 : List ℕ
-scramble0001 = key0001 ++ replicate 30 0
-
-abbrev pub desABCD : List ℕ
-desABCD = 0xAB ∷ 0xCD ∷ 0xEF ∷ 0x01 ∷ 0x23 ∷ 0x45 ∷ 0x67 ∷ 0x89 ∷ replicate 24 0
-
+-- a book that has key 0001 and DES key ABCDEF0123456789 ready, as key ID 0
 abbrev pub bookOfTwo : List ℕ
 bookOfTwo = (1 ∷ 0 ∷ 2 ∷ 1 ∷ scramble0001) ++ ((2 ∷ 0 ∷ 8 ∷ 1 ∷ desABCD) ++ replicate (14 * entryOctets) 0)
 

@@ -1,2 +1,3 @@
 pub mod Session
 pub mod Ladder
+pub mod Samples

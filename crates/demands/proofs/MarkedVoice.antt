@@ -1,0 +1,77 @@
+-- The marked examples of voice: 2, 11 and 12. Assumes nothing.
+use mathlib.Core.Path.{_≡_, refl, ap, _∙_}
+use mathlib.Core.Bool.{true, false}
+use mathlib.Core.List.{List}
+use Prim.Native.Nat.{ℕ, _+_, _≤_, _<_}
+use native.Mathlib.Omega.{arith}
+use lib.ListN.{length, replicate}
+use borrow.Author.Tests.{eq-eqb, lt-ltb}
+use Rattle.octets.specs.Tests.{allBelow, firstBelow}
+use Rattle.octets.specs.Lists.{allZero, iterate}
+use Rattle.octets.specs.Bits.{octet, octetsFrom}
+use Rattle.scramble.specs.Sequence.{keyNumber, stepped, P}
+use Rattle.ciphers.specs.Keys.{oddOctet, scrambleKey, desKey, keyAllowed}
+use Rattle.ciphers.specs.Keystream.{stream}
+use Rattle.answers.specs.declared.Answer.the-variants.{Done, Held, NotNow, ZeroVector}
+use Rattle.keyentry.specs.Entry as entry
+use Rattle.keybook.specs.Book as book
+use Rattle.session.specs.Session.{vectorOctets, noVector, keyRight}
+use Rattle.session.specs.Ladder.{keyRefusals, zeroFor, vectorRefusals}
+use Rattle.session.specs.Samples.{scramble0001, desABCD}
+use Rattle.voice.specs.Frame.{frameOctets, keyBit, ofSlot, protect}
+use Rattle.voice.specs.Call.{vectorRight, closedTests, openTests, isClosed, isOpen, noCall, receiving, standing, written}
+use Rattle.voice.specs.Opening.{joinRefusals, openRefusals, openOf, joinOf}
+use Rattle.voice.specs.Slot.{received, topMask, voiceOf}
+use Rattle.voice.specs.Vector.{announceRefusals, announceOf}
+use Rattle.voice.proofs.SlotSteps.{voice-heard, voice-held}
+use Rattle.demands.specs.Marked.{bookOfTwo, scrambling, waiting, frame8001}
+
+-- three openings over that book, without a call
+openings : (openOf noCall 2 0 noVector bookOfTwo ≡ (ZeroVector, noCall))
+    × (openOf noCall 1 0 noVector bookOfTwo ≡ (Done, scrambling 0))
+    × (joinOf noCall 2 0 bookOfTwo ≡ (Done, waiting 4))
+unfolding openOf joinOf openRefusals joinRefusals vectorRefusals keyRefusals zeroFor standing isClosed closedTests allZero allBelow firstBelow
+    entry.named entry.isFor entry.entryRight entry.usedRight entry.readyRight entry.lacks book.entryOf book.findEntry book.apart book.goodBook
+    keyAllowed scrambleKey desKey oddOctet
+openings = (refl, refl, refl)
+
+frame-turned : protect (ofSlot (stream 1 scramble0001 noVector) 0) 3 (replicate frameOctets 0) ≡ frame8001
+unfolding protect keyBit octetsFrom octet stream P iterate stepped keyNumber
+frame-turned = refl
+
+scrambling-stands : standing (scrambling 0) ≡ receiving 1 scramble0001 0 true noVector
+unfolding standing isClosed closedTests isOpen openTests keyRight vectorRight keyAllowed scrambleKey allZero allBelow
+scrambling-stands = refl
+
+pub example-2 : voiceOf (scrambling 0) 3 (replicate frameOctets 0) ≡ (Done, (scrambling 1, frame8001))
+unfolding received
+example-2 =
+    voice-heard (scrambling 0) 3 (replicate frameOctets 0) (omega arith) refl 1 scramble0001 0 noVector scrambling-stands
+    ∙ ap (λ (f : List ℕ). (Done, (scrambling 1, f))) frame-turned
+
+pub example-12 : (openOf noCall 2 0 noVector bookOfTwo ≡ (ZeroVector, noCall)) × (openOf noCall 1 0 noVector bookOfTwo ≡ (Done, scrambling 0))
+example-12 = (openings .0, openings .1)
+
+waiting-stands : (p : ℕ) → p < 8 → standing (waiting p) ≡ receiving 2 desABCD p false noVector
+unfolding standing isClosed closedTests isOpen openTests keyRight vectorRight keyAllowed desKey oddOctet allZero allBelow
+waiting-stands p h = rw (lt-ltb _ _ h)
+
+held-on : (p : ℕ) → p < 8 → (mask : ℕ) (frame : List ℕ) → mask ≤ topMask → length frame ≡ frameOctets
+    → voiceOf (waiting p) mask frame ≡ (Held, (written (received 2 desABCD (p + 1) false noVector), frame))
+held-on p h mask frame m l = voice-held (waiting p) mask frame m l 2 desABCD p noVector (waiting-stands p h)
+
+pub example-11 : (joinOf noCall 2 0 bookOfTwo ≡ (Done, waiting 4))
+    × ((mask : ℕ) (frame : List ℕ) → mask ≤ topMask → length frame ≡ frameOctets
+    → (voiceOf (waiting 4) mask frame ≡ (Held, (waiting 5, frame)))
+    × (voiceOf (waiting 5) mask frame ≡ (Held, (waiting 6, frame)))
+    × (voiceOf (waiting 6) mask frame ≡ (Held, (waiting 7, frame)))
+    × (voiceOf (waiting 7) mask frame ≡ (Held, (waiting 0, frame))))
+    × ((w : List ℕ) → length w ≡ vectorOctets → allZero w ≡ false → announceOf (waiting 0) w ≡ (Done, written (receiving 2 desABCD 0 true w)))
+    × ((w : List ℕ) → length w ≡ vectorOctets → announceOf (waiting 7) w ≡ (NotNow, waiting 7))
+unfolding received announceOf announceRefusals
+example-11 =
+    (openings .2,
+    λ mask frame m l.
+    (held-on 4 (omega arith) mask frame m l, held-on 5 (omega arith) mask frame m l, held-on 6 (omega arith) mask frame m l, held-on 7 (omega arith) mask frame m l),
+    λ w l z. rw (waiting-stands 0 (omega arith), eq-eqb _ _ l, z),
+    λ w l. rw (waiting-stands 7 (omega arith), eq-eqb _ _ l))
