@@ -1,25 +1,25 @@
 -- The fields of a line, walked by a cursor. Assumes nothing.
 use mathlib.Core.Path.{_≡_, refl, sym, ap, _∙_}
-use mathlib.Core.Bool.{true, false}
+use mathlib.Core.Bool.{Bool, true, false, _&&_, true≢false}
 use mathlib.Core.List.{List, [], _∷_}
 use Prim.Native.Nat.{ℕ, _+_, _-_, _≤_, _<_}
 use native.Mathlib.Nat.{sub-self}
 use native.Mathlib.Omega.{arith}
-use lib.ListN.{length, drop}
-use lib.Seq.{getD-drop, drop-drop}
-use borrow.Author.Tests.{lt-ltb, le-ltb, ne-eqb}
-use Rattle.octets.proofs.TestLaws.{and-false-r}
+use lib.ListN.{length, getD, drop, length-drop}
+use lib.Seq.{take-all, getD-drop, drop-drop}
+use borrow.Author.Tests.{lt-ltb, le-ltb, eqb-true}
+use Rattle.octets.specs.Tests.{pick}
+use Rattle.octets.proofs.TestLaws.{and-false-r, not-so}
 use Rattle.text.specs.declared.decimal.Number.the-variants.{Of, Not}
-use Rattle.text.specs.Parted.{tabOctet, partEnd}
+use Rattle.text.specs.Parted.{tabOctet, parted, partEnd}
 use Rattle.text.specs.Decimal.{numberIn}
 use Rattle.text.specs.Hex.{isHex, hexOctets, readHex}
-use Rattle.text.proofs.PartedLaws.{parted-step, parted-some, end-from, end-within}
+use Rattle.text.proofs.PartedLaws.{parted-none, parted-one, parted-step, parted-some, end-from, end-within}
 use Rattle.text.proofs.DecimalLaws.{number-of, number-not}
-use Rattle.text.proofs.HexLaws.{not-hex, read-of}
+use Rattle.text.proofs.HexLaws.{read-of, hex-lacks}
 use Rattle.lines.specs.declared.field.Cursor.{Cursor}
-use Rattle.lines.specs.declared.field.Field.{Field}
 use Rattle.lines.specs.declared.field.Named.the-variants as Named
-use Rattle.lines.specs.Record.{fieldAt, isName}
+use Rattle.lines.specs.Record.{fieldAt, areFields, isName}
 use Rattle.lines.specs.Fields.{left, partOf, IsField, IsNamed, lastHex}
 
 -- ---- one field
@@ -70,30 +70,49 @@ pub left-some : (line : List ℕ) (cursor : Cursor) → cursor .more ≡ true �
 unfolding left
 left-some line cursor m e = parted-some tabOctet (drop (cursor .at) line) (rw m at e)
 
--- a field that is no last one
-module _ (line : List ℕ) (fields : List (List ℕ)) (f : Field) (is : IsField line fields f) where
-  pub no-last : (n : ℕ) → f .next .more ≡ true → false ≡ lastHex n fields
+-- ---- the last field
+
+module _ (line : List ℕ) (cursor : Cursor) where
+  abbrev rest : List ℕ
+  rest = drop (cursor .at) line
+
+  -- as the code lends it
+  abbrev lent : List ℕ
+  lent = partOf line (cursor .at) (length line)
+
+  lent-rest : lent ≡ rest
+  lent-rest = take-all (length line - cursor .at) rest (omega (arith, length-drop (cursor .at) line))
+
+  -- where one field is left it is the rest of the line
+  pub lone-rest : length (left line cursor) ≡ 1 → fieldAt (left line cursor) 0 ≡ rest
+  unfolding left fieldAt
+  lone-rest = go (cursor .more)
+    where
+      go : (more : Bool) → length (pick more (parted tabOctet rest) []) ≡ 1 → getD (pick more (parted tabOctet rest) []) 0 [] ≡ rest
+      go true e = parted-one tabOctet rest e
+      go false e = absurd (omega arith)
+
+  pub no-last : (n : ℕ) → cursor .more ≡ false → false ≡ lastHex n (left line cursor)
   unfolding lastHex
-  no-last n m = rw (ne-eqb (length fields) 1 (λ e. left-some line (f .next) m (is .others ∙ drop-all fields e)))
-    where
-      drop-all : (fs : List (List ℕ)) → length fs ≡ 1 → drop 1 fs ≡ []
-      drop-all [] e = refl
-      drop-all (x ∷ []) e = refl
-      drop-all (x ∷ y ∷ fs) e = absurd (omega arith)
+  no-last n e = rw (left-none line cursor e)
 
-  -- and the last one
-  pub is-last : (n : ℕ) → 1 ≤ n → f .next .more ≡ false → isHex n (partOf line (f .start) (f .end)) ≡ lastHex n fields
-  unfolding lastHex fieldAt
-  is-last n l m = ap (isHex n) (is .text) ∙ go fields (sym (is .others) ∙ left-none line (f .next) m)
-    where
-      go : (fs : List (List ℕ)) → drop 1 fs ≡ [] → isHex n (fieldAt fs 0) ≡ lastHex n fs
-      go [] e = sym (not-hex [] n (λ q. omega arith))
-      go (x ∷ []) e = refl
-      go (x ∷ y ∷ fs) e = absurd (let z : _≡_ {A = ℕ} 0 1 = cc in omega arith)
+  module _ (more : cursor .more ≡ true) (n : ℕ) where
+    -- hex has no tab
+    hex-rest : isHex n rest ≡ true → left line cursor ≡ rest ∷ []
+    unfolding left
+    hex-rest h = rw more (parted-none tabOctet rest (hex-lacks rest n tabOctet (omega arith) h))
 
-  pub last-read : (octets : List ℕ) → isHex (length octets) (partOf line (f .start) (f .end)) ≡ true
-      → readHex (partOf line (f .start) (f .end)) octets ≡ hexOctets (fieldAt fields 0) (length octets)
-  last-read octets h = read-of (partOf line (f .start) (f .end)) octets h ∙ ap (λ (t : List ℕ). hexOctets t (length octets)) (is .text)
+    pub is-last : isHex n lent ≡ lastHex n (left line cursor)
+    unfolding lastHex
+    is-last = ap (isHex n) lent-rest ∙ go (areFields 1 (left line cursor)) refl
+      where
+        go : (one : Bool) → areFields 1 (left line cursor) ≡ one → isHex n rest ≡ (one && isHex n (fieldAt (left line cursor) 0))
+        go true e = ap (isHex n) (sym (lone-rest (eqb-true (length (left line cursor)) 1 e)))
+        go false e = not-so (isHex n rest) (λ h. true≢false (rw (hex-rest h) at e))
+
+  pub last-read : cursor .more ≡ true → (octets : List ℕ) → isHex (length octets) lent ≡ true → readHex lent octets ≡ hexOctets (fieldAt (left line cursor) 0) (length octets)
+  unfolding fieldAt
+  last-read more octets h = let r = rw lent-rest at h in rw (lent-rest, hex-rest more (length octets) r) (read-of rest octets r)
 
 -- ---- two numbers
 

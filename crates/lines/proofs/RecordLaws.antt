@@ -8,7 +8,7 @@ use native.Mathlib.Omega.{arith}
 use lib.Dec.{eqb}
 use lib.ListN.{length, take, drop, length-drop, drop-of-length-le}
 use lib.Seq.{getD-drop, length-take-le, take-at}
-use borrow.Author.Tests.{le-leb, lt-leb, eq-eqb, ne-eqb}
+use borrow.Author.Tests.{le-leb, lt-leb, eqb-true, eq-eqb, ne-eqb}
 use Rattle.octets.specs.Tests.{pick}
 use Rattle.octets.proofs.TestLaws.{and-left, and-right, and-false-r}
 use Rattle.text.specs.declared.decimal.Number.the-variants as Number
@@ -20,14 +20,13 @@ use Rattle.keyentry.specs.Entry.{keyRoom}
 use Rattle.session.specs.Session.{vectorOctets}
 use Rattle.voice.specs.Frame.{frameOctets}
 use Rattle.lines.specs.declared.field.Cursor.{Cursor}
-use Rattle.lines.specs.declared.field.Field.{Field}
 use Rattle.lines.specs.declared.field.Named.{Named}
 use Rattle.lines.specs.declared.field.Named.the-variants as named
 use Rattle.lines.specs.declared.record.Parsed.{Parsed}
 use Rattle.lines.specs.declared.record.Parsed.the-variants as code
 use Rattle.lines.specs.Record.{Load, Open, Voice, Announce, Malformed, fieldAt, areFields, isName, isNumber, isKey, octetsIn, load, opened, join, voice, announce, alone, recordRoom, recordIn, countIn}
-use Rattle.lines.specs.Fields.{left, IsField, IsNamed, lastHex}
-use Rattle.lines.proofs.FieldLaws.{left-none, left-some}
+use Rattle.lines.specs.Fields.{left, IsNamed, lastHex}
+use Rattle.lines.proofs.FieldLaws.{left-none, left-some, lone-rest}
 
 and-mid-false : (a b c : Bool) → (a && c) ≡ false → (a && (b && c)) ≡ false
 and-mid-false true true c e = e
@@ -177,48 +176,44 @@ module _ (line : List ℕ) (cursor : Cursor) (r : Named) (is : IsNamed line (lef
           rw (and-mid-false (areFields 3 (left line cursor)) (isName (left line cursor)) (isHex vectorOctets (fieldAt (left line cursor) 2))
           (last-not line (left line cursor) next 2 (name .3) vectorOctets b m last e))
 
-    -- a key of as many octets as half its field is long
-    module _ (key : Field) (field : IsField line (left line next) key) (count : ℕ) (half : count ≡ (key .end - key .start) / 2) where
+    -- a key of as many octets as half the rest of the line is long
+    module _ (count : ℕ) (half : count ≡ (length line - next .at) / 2) where
       abbrev hex : List ℕ
       hex = fieldAt (left line cursor) 2
 
-      at-two : fieldAt (left line next) 0 ≡ hex
+      size : areFields 3 (left line cursor) ≡ true → length hex / 2 ≡ count
       unfolding fieldAt
-      at-two = rw (name .3) (getD-drop 2 (left line cursor) 0 [])
+      size t =
+          let three = eqb-true (length (left line cursor)) 3 t in
+          let one : length (left line next) ≡ 1 = ap length (name .3) ∙ omega (arith, length-drop 2 (left line cursor)) in
+          let is : hex ≡ drop (next .at) line = sym (rw (name .3) (getD-drop 2 (left line cursor) 0 [])) ∙ lone-rest line next one in
+          omega (arith, ap length is, length-drop (next .at) line)
 
-      size : length hex / 2 ≡ count
-      size =
-          let same : length hex ≡ key .end - key .start =
-          ap length (sym (field .text ∙ at-two))
-          ∙ length-take-le (key .end - key .start) (drop (key .start) line) (omega (arith, length-drop (key .start) line, field .to)) in
-          omega arith
-
-      no-key : isKey hex ≡ false → Malformed ≡ load (left line cursor)
-      no-key e = rw (e, and-false-r, and-false-r)
+      no-key : (areFields 3 (left line cursor) ≡ true → isKey hex ≡ false) → Malformed ≡ load (left line cursor)
+      no-key h = go (areFields 3 (left line cursor)) refl
+        where
+          go : (b : Bool) → areFields 3 (left line cursor) ≡ b → Malformed ≡ load (left line cursor)
+          go true t = rw (h t, and-false-r, and-false-r)
+          go false t = rw t
 
       pub load-none : count ≡ 0 → Malformed ≡ load (left line cursor)
-      load-none e = no-key (rw (size, e, and-false-r))
+      load-none e = no-key (λ t. rw (size t, e, and-false-r))
 
       pub load-long : keyRoom < count → Malformed ≡ load (left line cursor)
-      load-long l = no-key (rw (size, lt-leb count keyRoom l, and-false-r, and-false-r))
+      load-long l = no-key (λ t. rw (size t, lt-leb count keyRoom l, and-false-r, and-false-r))
 
       module _ (some : 1 ≤ count) (fits : count ≤ keyRoom) (b : Bool) (m : List ℕ) (last : Last line next count b m) where
-        is-key : isKey hex ≡ isHex count hex
-        is-key = rw (size, le-leb 1 count some, le-leb count keyRoom fits, and-true)
+        is-key : areFields 3 (left line cursor) ≡ true → isKey hex ≡ isHex count hex
+        is-key t = rw (size t, le-leb 1 count some, le-leb count keyRoom fits, and-true)
 
         pub load-done : b ≡ true → (tail : List ℕ) → Load c i (take count (m ++ tail)) ≡ load (left line cursor)
         load-done e tail =
-            let h = last-hex line (left line cursor) next 2 (name .3) count b m last e in
-            rw (last-fields line (left line cursor) next 2 (name .3) count b m last e, name .0, is-key, h, ← name .1, ← name .2)
+            let t = last-fields line (left line cursor) next 2 (name .3) count b m last e in
+            rw (t, name .0, is-key t, last-hex line (left line cursor) next 2 (name .3) count b m last e, ← name .1, ← name .2)
             (ap (Load c i) (last-kept line (left line cursor) next 2 (name .3) count b m last e tail))
 
         pub load-not : b ≡ false → Malformed ≡ load (left line cursor)
-        load-not e =
-            rw (
-              is-key,
-              and-mid-false (areFields 3 (left line cursor)) (isName (left line cursor)) (isHex count hex)
-                  (last-not line (left line cursor) next 2 (name .3) count b m last e),
-            )
+        load-not e = no-key (λ t. is-key t ∙ rw t at (last-not line (left line cursor) next 2 (name .3) count b m last e))
 
     -- no more than the name
     pub join-is : (q : Parsed) → q ≡ pick (next .more) code.Malformed (code.Join c i) → (xs : List ℕ) → recordIn q xs ≡ join (left line cursor)

@@ -104,19 +104,17 @@ pub fn name(line: &[u8], cursor: Cursor) -> Named
     Named::By { cipher, id, next }
 }
 
-// Reads the last field into lent octets, and answers whether it is the hex of as many. A field that others follow is none.
+// Reads the last field into lent octets, and answers whether it is the hex of as many. It is the rest of the line, which is no hex where
+// other fields follow: a tab is no digit.
 pub fn last_hex(line: &[u8], cursor: Cursor, octets: &mut [u8]) -> bool
     requires { ⌜ (cursor .at ≤ length (now line)) × (1 ≤ length (now octets)) ⌝ }
     ensures { λ r. ⌜ r ≡ lastHex (length (now (octets .entry))) (left (now (line .entry)) cursor) ⌝ }
     ensures { λ r. ⌜ (r ≡ true → now (octets .exit) ≡ hexOctets (fieldAt (left (now (line .entry)) cursor) 0) (length (now (octets .entry)))) ⌝ }
 {
-    let field = next_field(line, cursor);
-    let start = field.start;
-    let end = field.end;
-    let next = field.next;
-    let more = next.more;
-    if more {
+    let start = cursor.at;
+    let more = cursor.more;
+    if !more {
         return false;
     }
-    read_hex(&line[start..end], octets)
+    read_hex(&line[start..], octets)
 }

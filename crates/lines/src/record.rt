@@ -54,8 +54,9 @@ fn load(line: &[u8], cursor: Cursor, octets: &mut [u8]) -> Parsed
     let Named::By { cipher, id, next } = named else {
         return Parsed::Malformed;
     };
-    let key = next_field(line, next);
-    let count = (key.end - key.start) / 2;
+    // The key is the rest of the line, two digits an octet.
+    let start = next.at;
+    let count = (line.len() - start) / 2;
     if count == 0 {
         return Parsed::Malformed;
     }

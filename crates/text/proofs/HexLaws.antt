@@ -1,8 +1,8 @@
 -- Octets in hex: what a digit is worth, hex read and written in a loop, and that reading takes back what writing made. Assumes nothing.
 use mathlib.Core.Path.{_≡_, refl, sym, ap, ap₂, _∙_}
-use mathlib.Core.Bool.{Bool, true, false, _&&_, _||_, and-true, true≢false, false≢true}
+use mathlib.Core.Bool.{Bool, true, false, _&&_, _||_, and-assoc, true≢false, false≢true}
 use mathlib.Core.List.{List}
-use Prim.Native.Nat.{ℕ, suc, _+_, _-_, _*_, _/_, _%_, _≤_, _<_}
+use Prim.Native.Nat.{ℕ, suc, _+_, _-_, _*_, _/_, _%_, _≤_, _<_, max}
 use native.Mathlib.Nat.{mod-eq-of-lt, div-one}
 use native.Mathlib.Decide.{ℕ-discrete}
 use native.Mathlib.Numerals.{add-one}
@@ -10,10 +10,10 @@ use native.Mathlib.Omega.{arith}
 use lib.Dec.{ltb, eqb}
 use lib.ListN.{length, getD, set}
 use lib.Seq.{ext-getD}
-use borrow.Author.Tests.{lt-ltb, le-ltb, eqb-true, eq-eqb, ne-eqb}
+use borrow.Author.Tests.{ltb-true, ltb-false, lt-ltb, le-ltb, eqb-true, eq-eqb, ne-eqb}
 use Rattle.octets.specs.Tests.{pick, allBelow}
 use Rattle.octets.specs.Bits.{Octets}
-use Rattle.octets.proofs.TestLaws.{and-left, and-right, and-false-r, all-at, all-intro, agree}
+use Rattle.octets.proofs.TestLaws.{and-left, and-right, all-at, all-intro, agree}
 use Rattle.octets.proofs.ListLaws.{length-tab, getD-tab, octets-tab}
 use Rattle.octets.proofs.Front.{Front, front-start, front-more, front-to, front-done}
 use Rattle.text.specs.Decimal.{isDigit}
@@ -73,33 +73,37 @@ module _ (x : ℕ) where
         go true e = rw (by-digit true e) (mod-eq-of-lt value-lt)
         go false e = rw (by-digit false e) (sym (value-none e))
 
-    -- a flag that falls where a digit is none
-    pub flag-falls : (was is : Bool) → 15 < v → is ≡ false → is ≡ (was && isHexDigit x)
-    flag-falls was is h e = go (isHexDigit x) refl
+    pub worth-lt : ltb v 16 ≡ isHexDigit x
+    worth-lt = go (isHexDigit x) refl
       where
-        go : (b : Bool) → isHexDigit x ≡ b → is ≡ (was && b)
-        go true d = absurd (omega (arith, by-digit true d, value-lt))
-        go false d = e ∙ sym (and-false-r was)
-
-    pub flag-stays : (was is : Bool) → v ≤ 15 → is ≡ was → is ≡ (was && isHexDigit x)
-    flag-stays was is h e = go (isHexDigit x) refl
-      where
-        go : (b : Bool) → isHexDigit x ≡ b → is ≡ (was && b)
-        go true d = e ∙ sym (and-true was)
-        go false d = absurd (omega (arith, by-digit false d))
+        go : (b : Bool) → isHexDigit x ≡ b → ltb v 16 ≡ b
+        go true e = lt-ltb v 16 (omega (arith, by-digit true e, value-lt))
+        go false e = le-ltb v 16 (omega (arith, by-digit false e))
 
 -- ---- hex read
+
+-- the greater of two is below n where both are
+max-lt : (n a b : ℕ) → ltb (max a b) n ≡ (ltb a n && ltb b n)
+max-lt n a b = go (ltb a n) (ltb b n) refl refl
+  where
+    go : (s t : Bool) → ltb a n ≡ s → ltb b n ≡ t → ltb (max a b) n ≡ (s && t)
+    go true true e f = lt-ltb (max a b) n (omega (arith, ltb-true a n e, ltb-true b n f))
+    go true false e f = le-ltb (max a b) n (omega (arith, ltb-false b n f))
+    go false t e f = le-ltb (max a b) n (omega (arith, ltb-false a n e))
 
 module _ (field : List ℕ) where
   abbrev pub digitAt : ℕ → Bool
   digitAt k = isHexDigit (getD field k 0)
 
-  -- a flag that tells whether the digits so far are digits, two on
-  pub flag-more : (i : ℕ) (b b₁ b₂ : Bool) → b ≡ allBelow digitAt (2 * i) → b₁ ≡ (b && digitAt (2 * i)) → b₂ ≡ (b₁ && digitAt (2 * i + 1)) → b₂ ≡ allBelow digitAt (2 * (i + 1))
+  -- the worst digit so far is one exactly where all are, two on
+  pub worst-more : (i worst high low both all : ℕ) → ltb worst 16 ≡ allBelow digitAt (2 * i)
+      → high ≡ pick (digitAt (2 * i)) (hexValue (getD field (2 * i) 0)) 16
+      → low ≡ pick (digitAt (2 * i + 1)) (hexValue (getD field (2 * i + 1) 0)) 16
+      → both ≡ max high low → all ≡ max worst both → ltb all 16 ≡ allBelow digitAt (2 * (i + 1))
   unfolding allBelow
-  flag-more i b b₁ b₂ e f g =
+  worst-more i worst high low both all e eh el eb ea =
       let q : 2 * (i + 1) ≡ suc (suc (2 * i)) = omega arith in
-      rw (q, g, f, e, add-one)
+      rw (q, ea, max-lt 16 worst both, eb, max-lt 16 high low, e, worth-lt (getD field (2 * i) 0) high eh, worth-lt (getD field (2 * i + 1) 0) low el, add-one, and-assoc)
 
   pub is-hex : (n i : ℕ) (b : Bool) → length field ≡ 2 * n → i ≡ n → b ≡ allBelow digitAt (2 * i) → b ≡ isHex n field
   unfolding isHex

@@ -77,6 +77,15 @@ joined-parted sep (x ∷ xs) = go (eqb x sep) refl (parted sep xs) (parted-some 
     go false e (p ∷ []) n h = ap (λ (r : List ℕ). x ∷ r) h
     go false e (p ∷ q ∷ ps) n h = ap (λ (r : List ℕ). x ∷ r) h
 
+-- a text of one part is that part
+pub parted-one : (sep : ℕ) (xs : List ℕ) → length (parted sep xs) ≡ 1 → getD (parted sep xs) 0 [] ≡ xs
+parted-one sep xs = go (parted sep xs) (joined-parted sep xs)
+  where
+    go : (ps : List (List ℕ)) → joined sep ps ≡ xs → length ps ≡ 1 → getD ps 0 [] ≡ xs
+    go [] e l = absurd (omega arith)
+    go (p ∷ []) e l = e
+    go (p ∷ q ∷ ps) e l = absurd (omega arith)
+
 -- ---- where a part ends
 
 -- a loop over a text from a place on that has passed no separator up to e

@@ -1,6 +1,6 @@
 // Octets in upper-case hex.
 ghost use mathlib.Core.Path.{_≡_};
-ghost use Prim.Native.Nat.{_*_, _<_};
+ghost use Prim.Native.Nat.{_*_, _<_, max};
 ghost use lib.ListN.{length};
 ghost use Rattle.octets.specs.Tests.{pick};
 ghost use Rattle.text.specs.Hex.{isHexDigit, hexValue, hexDigit, isHex, readHex, hexText};
@@ -16,6 +16,15 @@ fn hex_value(digit: u8) -> u8
     }
 }
 
+fn greater(a: u8, b: u8) -> u8
+    ensures { λ r. ⌜ r ≡ max a b ⌝ }
+{
+    if a < b {
+        return b;
+    }
+    a
+}
+
 // Reads a field into lent octets, and answers whether it is the hex of as many octets. Where its length is wrong they stay as they are;
 // a digit that is none counts as 0.
 pub fn read_hex(field: &[u8], out: &mut [u8]) -> bool
@@ -28,21 +37,17 @@ pub fn read_hex(field: &[u8], out: &mut [u8]) -> bool
     if field.len() / 2 != out.len() {
         return false;
     }
-    let mut is_hex = true;
+    // The worst digit so far: 16 where one was none.
+    let mut worst: u8 = 0;
     let mut i = 0;
     while i < out.len() {
         let high = hex_value(field[2 * i]);
         let low = hex_value(field[2 * i + 1]);
-        if high > 15 {
-            is_hex = false;
-        }
-        if low > 15 {
-            is_hex = false;
-        }
+        worst = greater(worst, greater(high, low));
         out[i] = 16 * (high % 16) + low % 16;
         i += 1;
     }
-    is_hex
+    worst < 16
 }
 
 fn hex_digit(n: u8) -> u8

@@ -1,43 +1,35 @@
 -- `text::hex::read_hex` meets its contract. Assumes nothing.
 use mathlib.Core.Path.{_≡_, sym}
-use mathlib.Core.Bool.{_&&_}
-use mathlib.Core.Logic.{⊎-elim}
-use Prim.Native.Nat.{_+_, _-_, _*_, _≤_}
+use Prim.Native.Nat.{_-_, _*_, _≤_}
 use native.Mathlib.Omega.{arith}
 use borrow.Author.Needs.{needs}
-use lib.ListN.{length, getD, length-set}
+use lib.Dec.{ltb}
+use lib.ListN.{length, length-set}
 use Rattle.octets.specs.Tests.{allBelow}
 use Rattle.octets.proofs.TestLaws.{all-none}
 use Rattle.octets.proofs.Front.{Front}
 use Rattle.text.specs.Hex.{hexOctets}
-use Rattle.text.proofs.HexLaws.{digitAt, flag-falls, flag-stays, flag-more, is-hex, not-hex, read-start, read-more, read-done, read-not}
+use Rattle.text.proofs.HexLaws.{digitAt, worst-more, is-hex, not-hex, read-start, read-more, read-done, read-not}
 use Rattle.text.proofs.hex.read_hex.Statement.{statement}
 use Rattle.text.proofs.hex.read_hex.Tie as tie
 
 abbrev Inv-loop : tie.InvT-loop
-Inv-loop field out₀ is-hex₀ i₀ out is-hex i =
-    (i ≤ length out₀) × (length out ≡ length out₀) × (is-hex ≡ allBelow (digitAt field) (2 * i)) × Front (hexOctets field (length out₀)) out₀ out i
+Inv-loop field out₀ worst₀ i₀ out worst i =
+    (i ≤ length out₀) × (length out ≡ length out₀) × (ltb worst 16 ≡ allBelow (digitAt field) (2 * i)) × Front (hexOctets field (length out₀)) out₀ out i
 
 abbrev μ-loop : tie.MeasureT-loop
-μ-loop field out₀ is-hex₀ i₀ out is-hex i = length out₀ - i
+μ-loop field out₀ worst₀ i₀ out worst i = length out₀ - i
 
 again : tie.Need-loop-again Inv-loop μ-loop
 again c =
     let low = c .before .before in
     let high = low .before .before in
     let at = high .before .before .before in
-    let field = at .before .before .before .before .before .args .field .now in
-    let i = at .loop .i in
-    let first : c .before .if3 .is-hex ≡ (at .loop .is-hex && digitAt field (2 * i)) =
-    ⊎-elim (λ w. flag-falls (getD field (2 * i) 0) _ (high .hex-value .ensures) (at .loop .is-hex) _ (w .0 .taken) (w .1))
-    (λ w. flag-stays (getD field (2 * i) 0) _ (high .hex-value .ensures) (at .loop .is-hex) _ (w .0 .left) (w .1)) (c .before .if3 .came) in
-    let second : c .if4 .is-hex ≡ (c .before .if3 .is-hex && digitAt field (2 * i + 1)) =
-    ⊎-elim (λ w. flag-falls (getD field (2 * i + 1) 0) _ (low .hex-value2 .ensures) (c .before .if3 .is-hex) _ (w .0 .taken) (w .1))
-    (λ w. flag-stays (getD field (2 * i + 1) 0) _ (low .hex-value2 .ensures) (c .before .if3 .is-hex) _ (w .0 .left) (w .1)) (c .if4 .came) in (
+    let field = at .before .before .before .before .before .args .field .now in (
       search needs,
       simp length-set (at .loop .inv .1),
-      flag-more field i _ _ _ (at .loop .inv .2) first second,
-      read-more field _ _ _ i _ _ (at .loop .inv .3) (search needs) (high .hex-value .ensures) (low .hex-value2 .ensures),
+      worst-more field (at .loop .i) _ _ _ _ _ (at .loop .inv .2) (high .hex-value .ensures) (low .hex-value2 .ensures) (c .before .greater .ensures) (c .greater2 .ensures),
+      read-more field _ _ _ _ _ _ (at .loop .inv .3) (search needs) (high .hex-value .ensures) (low .hex-value2 .ensures),
     )
 
 pub read-hex-spec : {M : Type 1} → statement M
@@ -55,6 +47,8 @@ read-hex-spec =
     (λ c. search needs)
     (λ c. search needs)
     (λ c. search needs)
+    (λ c κs. search needs)
+    (λ c κs. search needs)
     (λ c κs. search needs)
     (λ c. search needs)
     (λ c. search needs)
