@@ -1,13 +1,14 @@
 -- Text parted by one octet: where a part ends, and what parts come of a text. Assumes nothing.
-use mathlib.Core.Path.{_≡_, refl, ap, _∙_}
+use mathlib.Core.Path.{_≡_, refl, sym, ap, _∙_}
 use mathlib.Core.Bool.{Bool, true, false}
 use mathlib.Core.List.{List, [], _∷_, _++_}
 use Prim.Native.Nat.{ℕ, zero, suc, _+_, _-_, _≤_, _<_}
 use native.Mathlib.Decide.{decLt}
+use native.Mathlib.Numerals.{add-one}
 use native.Mathlib.Omega.{arith}
 use lib.Dec.{ltb, eqb}
-use lib.ListN.{length, getD, take, drop, length-drop}
-use lib.Seq.{take-all, getD-drop, drop-drop}
+use lib.ListN.{length, getD, take, drop, length-drop, take-append-drop}
+use lib.Seq.{take-all, getD-drop, getD-take, drop-drop, drop-cons, length-take-le}
 use borrow.Author.Tests.{lt-ltb, le-ltb, eq-eqb, ne-eqb, eqb-true}
 use Rattle.octets.specs.Tests.{pick, firstBelow}
 use Rattle.octets.proofs.TestLaws.{first-is, first-none, first-le, first-holds, first-before}
@@ -94,6 +95,10 @@ pub record Passed (sep : ℕ) (xs : List ℕ) (at e : ℕ) : Type 0 where
   pub to : e ≤ length xs
   pub none : (k : ℕ) → at ≤ k → k < e → eqb (getD xs k 0) sep ≡ false
 
+-- the part that begins at a place
+abbrev pub partAt : ℕ → List ℕ → ℕ → List ℕ
+partAt sep xs at = take (partEnd sep xs at - at) (drop at xs)
+
 module _ (sep : ℕ) (xs : List ℕ) (at : ℕ) (within : at ≤ length xs) where
   abbrev stops : ℕ → Bool
   stops k = eqb (getD xs (at + k) 0) sep
@@ -140,11 +145,11 @@ module _ (sep : ℕ) (xs : List ℕ) (at : ℕ) (within : at ≤ length xs) wher
 
   -- the parts from a place on: the part that begins there, and those after its separator, if there is one
   pub parted-step : parted sep (drop at xs)
-      ≡ take (partEnd sep xs at - at) (drop at xs) ∷ pick (ltb (partEnd sep xs at) (length xs)) (parted sep (drop (partEnd sep xs at + 1) xs)) []
+      ≡ partAt sep xs at ∷ pick (ltb (partEnd sep xs at) (length xs)) (parted sep (drop (partEnd sep xs at + 1) xs)) []
   parted-step = go (decLt (partEnd sep xs at) (length xs))
     where
       go : Dec (partEnd sep xs at < length xs)
-          → parted sep (drop at xs) ≡ take (partEnd sep xs at - at) (drop at xs) ∷ pick (ltb (partEnd sep xs at) (length xs)) (parted sep (drop (partEnd sep xs at + 1) xs)) []
+          → parted sep (drop at xs) ≡ partAt sep xs at ∷ pick (ltb (partEnd sep xs at) (length xs)) (parted sep (drop (partEnd sep xs at + 1) xs)) []
       go (yes l) =
           let q : at + suc (partEnd sep xs at - at) ≡ partEnd sep xs at + 1 = omega (arith, end-from) in
           rw (lt-ltb _ _ l)
@@ -155,3 +160,23 @@ module _ (sep : ℕ) (xs : List ℕ) (at : ℕ) (within : at ≤ length xs) wher
           let q : take (partEnd sep xs at - at) (drop at xs) ≡ drop at xs = take-all (partEnd sep xs at - at) (drop at xs) (omega (arith, length-drop at xs)) in
           rw (le-ltb (partEnd sep xs at) (length xs) (omega arith), q)
           (parted-none sep (drop at xs) (λ k m. before k (omega (arith, length-drop at xs))))
+
+  pub part-long : length (partAt sep xs at) ≡ partEnd sep xs at - at
+  part-long = length-take-le (partEnd sep xs at - at) (drop at xs) (omega (arith, end-within, length-drop at xs))
+
+  -- it has no separator
+  pub part-lacks : Lacks sep (partAt sep xs at)
+  part-lacks k l =
+      let m : k < partEnd sep xs at - at = omega (arith, part-long) in
+      rw (getD-take (partEnd sep xs at - at) (drop at xs) k 0 m) (before k m)
+
+  -- and where the text goes on, one after it
+  pub part-ends : partEnd sep xs at < length xs → drop at xs ≡ partAt sep xs at ++ (sep ∷ drop (partEnd sep xs at + 1) xs)
+  unfolding partEnd
+  part-ends l =
+      let n = partEnd sep xs at - at in
+      let h = first-holds stops (length xs - at) (omega arith) in
+      let q : at + n ≡ partEnd sep xs at = omega arith in
+      sym (take-append-drop n (drop at xs))
+      ∙ ap (λ (r : List ℕ). partAt sep xs at ++ r)
+      (drop-drop n at xs ∙ rw q (drop-cons xs (partEnd sep xs at) 0 l ∙ rw (add-one (partEnd sep xs at), eqb-true (getD xs (partEnd sep xs at) 0) sep h)))

@@ -1,6 +1,6 @@
 -- A session's keystream, made once: a slot turned by it is the slot of the session, and it holds from slot to slot. Assumes nothing.
 use mathlib.Core.Path.{_≡_, refl, sym, ap, _∙_}
-use mathlib.Core.Bool.{Bool, true, false, true≢false}
+use mathlib.Core.Bool.{Bool, true, false, not, true≢false, false≢true}
 use mathlib.Core.List.{List}
 use Prim.Native.Nat.{ℕ, _+_, _*_, _≤_, _<_}
 use native.Mathlib.Nat.{zero-add}
@@ -18,12 +18,13 @@ use Rattle.ciphers.specs.Keystream.{stream}
 use Rattle.ciphers.proofs.NumberLaws.{slots-at-most, slot-ranged}
 use Rattle.ciphers.proofs.KeystreamLaws.{bits-stream}
 use Rattle.answers.specs.declared.Answer.the-variants.{Done}
+use Rattle.answers.specs.Numbers.{isDone}
 use Rattle.answers.specs.Outcomes.{settled}
-use Rattle.answers.proofs.OutcomeLaws.{by-refusals}
+use Rattle.answers.proofs.OutcomeLaws.{neverDone, among-not-done, by-refusals}
 use Rattle.session.specs.Session.{noVector, scrambles}
 use Rattle.voice.specs.declared.call.Call.{Call}
 use Rattle.voice.specs.Frame.{slotBits, sessionBits, ofSlot}
-use Rattle.voice.specs.Call.{closedTests, isClosed, goodCall, Standing, closed, bad, sending, receiving, standing, written, isBad}
+use Rattle.voice.specs.Call.{closedTests, isClosed, goodCall, Standing, closed, bad, sending, receiving, standing, written, isBad, stands}
 use Rattle.voice.specs.Slot.{goingOn, received, sent, slotOn, lostRefusals, lostOf, zeroNext, voiceRefusals, inSlot, voiceAfter, voiceBy, voiceOf, voiceByOctets, knows, streamInto, sessionStreamOf, IsSession}
 use Rattle.voice.proofs.FrameLaws.{protect-same}
 use Rattle.voice.proofs.CallLaws.{open-place, open-vector, Stands, none, sender, receiver, good-stands, stands-bad}
@@ -207,3 +208,36 @@ module _ (c : Call) (session : List ℕ) (i : IsSession c session) where
       by-refusals (λ o. (o .1 .0 .position ≡ 0 → scrambles (c .cipher) ≡ true) → IsSession (o .1 .0) session)
       (c, frame) (voiceRefusals (standing c) mask frame) (voiceAfter st mask frame (standing c)) (λ a m h. i)
       (λ n. rw (voice-moves st c mask frame (standing c)) (on-kept (n .1 .1 .1 .1 .0)))
+
+-- a slot of a call that doesn't know its vector is turned by nothing
+module _ (st su : ℕ → List ℕ → List ℕ → ℕ → ℕ) (mask : ℕ) (frame : List ℕ) where
+  after-unknown : (s : Standing) → knows s ≡ false → voiceAfter st mask frame s ≡ voiceAfter su mask frame s
+  after-unknown closed k = refl
+  after-unknown bad k = refl
+  after-unknown (sending n key p v) k = absurd (true≢false k)
+  after-unknown (receiving n key p true v) k = absurd (true≢false k)
+  after-unknown (receiving n key p false v) k = refl
+
+  pub voice-unknown : (c : Call) → knows (standing c) ≡ false → voiceBy st c mask frame ≡ voiceBy su c mask frame
+  unfolding voiceBy
+  voice-unknown c k = ap (settled (c, frame) (voiceRefusals (standing c) mask frame)) (after-unknown (standing c) k)
+
+-- and is not done
+module _ (st : ℕ → List ℕ → List ℕ → ℕ → ℕ) (mask : ℕ) (frame : List ℕ) where
+  after-done : (s : Standing) → not (stands s) ≡ false → isDone (voiceAfter st mask frame s .0) ≡ true → knows s ≡ true
+  after-done closed n d = absurd (true≢false n)
+  after-done bad n d = absurd (true≢false n)
+  after-done (sending c key p v) n d = refl
+  after-done (receiving c key p true v) n d = refl
+  after-done (receiving c key p false v) n d = absurd (false≢true d)
+
+  never-done : (s : Standing) → neverDone (voiceRefusals s mask frame) ≡ true
+  unfolding voiceRefusals
+  never-done s = refl
+
+  pub voice-done-knows : (c : Call) → isDone (voiceBy st c mask frame .0) ≡ true → knows (standing c) ≡ true
+  unfolding voiceBy voiceRefusals
+  voice-done-knows c =
+      by-refusals (λ o. isDone (o .0) ≡ true → knows (standing c) ≡ true) (c, frame) (voiceRefusals (standing c) mask frame) (voiceAfter st mask frame (standing c))
+      (λ a m d. absurd (true≢false (sym d ∙ among-not-done a (voiceRefusals (standing c) mask frame) (never-done (standing c)) m)))
+      (λ n. after-done (standing c) (n .1 .1 .1 .0))

@@ -1,0 +1,35 @@
+-- What a caller that lends slices needs of take and finish: how much they used and wrote. Assumes nothing.
+use mathlib.Core.Path.{_≡_, sym, ap, _∙_}
+use mathlib.Core.List.{List, _++_}
+use Prim.Native.Nat.{ℕ, _+_, _-_, _≤_}
+use native.Mathlib.Omega.{arith}
+use lib.ListN.{length, take, drop, length-append, length-drop}
+use Rattle.records.specs.declared.reader.Carry.{Carry}
+use Rattle.records.specs.Answered.{overlaid}
+use Rattle.records.specs.Reader.{Reading, usable, fed, takeFrom, lastly, finishFrom}
+use Rattle.records.proofs.RoomLaws.{usable-within}
+
+-- output that is laid over lent octets, which stay as many as they were, is no longer than they
+overlaid-fits : (out xs after : List ℕ) → after ≡ overlaid out xs → length after ≡ length out → length xs ≤ length after
+overlaid-fits out xs after e l = omega (arith, ap length e, length-append xs (drop (length xs) out), length-drop (length xs) out)
+
+abbrev Left : Type 0
+Left = ℕ × (Carry × (List ℕ × List ℕ))
+
+module _ (s : Reading) (piece out : List ℕ) {used wrote : ℕ} {after : Carry} {book' out' : List ℕ}
+    (e : (used, (wrote, (after, (book', out')))) ≡ takeFrom s piece out) where
+  pub take-used : used ≤ length piece
+  unfolding takeFrom
+  take-used = rw (ap (λ (t : ℕ × Left). t .0) e) (usable-within piece (length out) s)
+
+  pub take-wrote : length out' ≡ length out → wrote ≤ length out'
+  unfolding takeFrom
+  take-wrote l =
+      rw (ap (λ (t : ℕ × Left). t .1 .0) e)
+      (overlaid-fits out (fed s (take (usable (length out) s piece) piece) .output) out' (ap (λ (t : ℕ × Left). t .1 .1 .1 .1) e) l)
+
+pub finish-wrote : (s : Reading) (out : List ℕ) {wrote : ℕ} {after : Carry} {book' out' : List ℕ}
+    → (wrote, (after, (book', out'))) ≡ finishFrom s out → length out' ≡ length out → wrote ≤ length out'
+unfolding finishFrom
+finish-wrote s out {wrote} {after} {book'} {out'} e l =
+    rw (ap (λ (t : Left). t .0) e) (overlaid-fits out (lastly (length out) s .output) out' (ap (λ (t : Left). t .1 .1 .1) e) l)

@@ -1,0 +1,11 @@
+pub mod LoadLaws
+pub mod OutputLaws
+pub mod StepLaws
+pub mod AnsweredLaws
+pub mod ReaderLaws
+pub mod RoomLaws
+pub mod CarryLaws
+pub mod TakeLaws
+pub mod Settled
+pub mod RunLaws
+pub mod BoundLaws

@@ -1,0 +1,136 @@
+-- The ways through a record, and the session's octets that are kept from record to record. Assumes nothing.
+use mathlib.Core.Path.{_≡_, refl, sym, ap, _∙_}
+use mathlib.Core.Bool.{Bool, true, false, false≢true}
+use mathlib.Core.List.{List, [], _++_}
+use Prim.Native.Nat.{ℕ, _≤_}
+use native.Mathlib.Omega.{arith}
+use lib.ListN.{length, take}
+use lib.Seq.{take-at}
+use Rattle.octets.specs.Tests.{pick}
+use Rattle.octets.specs.Bits.{bit}
+use Rattle.answers.specs.declared.Answer.{Answer}
+use Rattle.answers.specs.declared.Answer.the-variants as answer
+use Rattle.answers.specs.Numbers.{isDone}
+use Rattle.session.specs.Session.{vectorOctets, scrambles}
+use Rattle.voice.specs.declared.call.Call.{Call}
+use Rattle.voice.specs.Call.{standing, endOf}
+use Rattle.voice.specs.Frame.{frameOctets}
+use Rattle.voice.specs.Opening.{openOf, joinOf}
+use Rattle.voice.specs.Slot.{lostOf, voiceOf, voiceByOctets, knows, sessionStreamOf, IsSession}
+use Rattle.voice.specs.Vector.{announceOf}
+use Rattle.voice.proofs.SessionOnce.{voice-by-is-voice, session-made, session-kept, session-kept-lost, voice-unknown, voice-done-knows}
+use Rattle.lines.specs.declared.record.Parsed.{Parsed}
+use Rattle.lines.specs.declared.record.Parsed.the-variants as code
+use Rattle.lines.specs.Record.{recordRoom, recordIn, countIn}
+use Rattle.records.specs.declared.step.Outcome.{Outcome}
+use Rattle.records.specs.Load.{loadOf}
+use Rattle.records.specs.Step.{Stepped, ofBook, ofCall, ofSlot, stepOf, sessionOctets, Cached, asStepped}
+
+-- ---- the session's octets
+
+-- they hold the call's session, if it has one whose vector is known
+abbrev pub Holds : Call → List ℕ → Type 0
+Holds c session = knows (standing c) ≡ true → IsSession c session
+
+pub made-holds : (c : Call) (session after : List ℕ) → length session ≡ sessionOctets → after ≡ sessionStreamOf c session → Holds c after
+made-holds c session after l e k = rw e (session-made c k session (omega arith))
+
+-- nothing holds what is not made
+pub unmade : (c : Call) (session : List ℕ) → length session ≡ sessionOctets → Cached false c session
+unmade c session l = record { long = l; holds = λ e. absurd (false≢true e) }
+
+module _ (c : Call) (session : List ℕ) (h : Holds c session) (mask : ℕ) (frame : List ℕ) where
+  -- a slot turned by them is the slot of the call
+  pub voice-held : voiceByOctets session c mask frame ≡ voiceOf c mask frame
+  voice-held = go (knows (standing c)) refl
+    where
+      go : (b : Bool) → knows (standing c) ≡ b → voiceByOctets session c mask frame ≡ voiceOf c mask frame
+      go true k = voice-by-is-voice c session (h k) mask frame
+      go false k = voice-unknown (λ n k v. bit session) _ mask frame c k
+
+  -- after a slot that is done, the call is in their session if it goes on
+  pub voice-cached : {a : Answer} {after : Call} {f : List ℕ} {goes : Bool} → (a, (after, f)) ≡ voiceByOctets session c mask frame → length session ≡ sessionOctets
+      → isDone a ≡ true → (goes ≡ true → after .position ≡ 0 → scrambles (c .cipher) ≡ true) → Cached goes after session
+  voice-cached {a} {after} {f} q l d g =
+      let e : after ≡ voiceByOctets session c mask frame .1 .0 = ap (λ (o : Answer × (Call × List ℕ)). o .1 .0) q in
+      let done : isDone (voiceByOctets session c mask frame .0) ≡ true = sym (ap (λ (o : Answer × (Call × List ℕ)). isDone (o .0)) q) ∙ d in
+      record {
+        long = l;
+        holds = λ t.
+            rw e
+            (session-kept c session (h (voice-done-knows (λ n k v. bit session) mask frame c done)) (λ n k v. bit session) mask frame
+            (λ p. g t (ap (λ (x : Call). x .position) e ∙ p)));
+      }
+
+-- and so it is after a lost one
+pub lost-cached : (c : Call) (session : List ℕ) {made goes : Bool} {a : Answer} {after : Call} → Cached made c session → (a, after) ≡ lostOf c
+    → (goes ≡ true → (made ≡ true) × (after .position ≡ 0 → scrambles (c .cipher) ≡ true)) → Cached goes after session
+lost-cached c session {made} {goes} {a} {after} h q g =
+    let e : after ≡ lostOf c .1 = ap (λ (o : Answer × Call). o .1) q in
+    record {
+      long = h .long;
+      holds = λ t. rw e (session-kept-lost c session (h .holds (g t .0)) (λ p. g t .1 (ap (λ (x : Call). x .position) e ∙ p)));
+    }
+
+-- ---- what each record is
+
+module _ (p : Parsed) (octets book : List ℕ) (call : Call) where
+  pub load-is : {c i n : ℕ} → p ≡ code.Load c i n → stepOf (recordIn p octets) book call ≡ ofBook call (loadOf book c i (take n octets))
+  unfolding stepOf
+  load-is e = rw e
+
+  pub open-is : {c i : ℕ} → p ≡ code.Open c i → stepOf (recordIn p octets) book call ≡ ofCall book (openOf call c i (take vectorOctets octets) book)
+  unfolding stepOf
+  open-is e = rw e
+
+  pub join-is : {c i : ℕ} → p ≡ code.Join c i → stepOf (recordIn p octets) book call ≡ ofCall book (joinOf call c i book)
+  unfolding stepOf
+  join-is e = rw e
+
+  pub voice-is : {mask : ℕ} → p ≡ code.Voice mask → stepOf (recordIn p octets) book call ≡ ofSlot book (voiceOf call mask (take frameOctets octets))
+  unfolding stepOf
+  voice-is e = rw e
+
+  pub announce-is : p ≡ code.Announce → stepOf (recordIn p octets) book call ≡ ofCall book (announceOf call (take vectorOctets octets))
+  unfolding stepOf
+  announce-is e = rw e
+
+  pub lost-is : p ≡ code.Lost → stepOf (recordIn p octets) book call ≡ ofCall book (lostOf call)
+  unfolding stepOf
+  lost-is e = rw e
+
+  pub end-is : p ≡ code.End → stepOf (recordIn p octets) book call ≡ ofCall book (endOf call)
+  unfolding stepOf
+  end-is e = rw e
+
+  pub malformed-is : p ≡ code.Malformed → stepOf (recordIn p octets) book call ≡ ofCall book (answer.Malformed, call)
+  unfolding stepOf
+  malformed-is e = rw e
+
+-- the octets of a key are among those lent
+pub count-fits : (p : Parsed) {c i n : ℕ} → p ≡ code.Load c i n → countIn p ≤ recordRoom → n ≤ recordRoom
+count-fits p e h = rw e at h
+
+-- ---- what the code hands back is that
+
+-- no frame is shown
+pub comes : (r : Outcome) (octets after : List ℕ) {a : Answer} {call : Call} {s : Stepped} → r .answer ≡ a → r .call ≡ call → r .shown ≡ 0
+    → s ≡ asStepped a after call [] → asStepped (r .answer) after (r .call) (take (r .shown) octets) ≡ s
+comes r octets after p q z e = rw (p, q, z) (sym e)
+
+-- the frame is shown where the slot is done
+pub slot-comes : (r : Outcome) (book frame rest : List ℕ) {o : Answer × (Call × List ℕ)} {s : Stepped} → length frame ≡ frameOctets
+    → (r .answer, (r .call, frame)) ≡ o → r .shown ≡ pick (isDone (r .answer)) frameOctets 0
+    → s ≡ ofSlot book o → asStepped (r .answer) book (r .call) (take (r .shown) (frame ++ rest)) ≡ s
+slot-comes r book frame rest l q z e = rw (e, ← q, z, go (isDone (r .answer)))
+  where
+    go : (b : Bool) → take (pick b frameOctets 0) (frame ++ rest) ≡ pick b frame []
+    go true = take-at frame rest frameOctets l
+    go false = refl
+
+pub shown-fits : (a : Answer) {n : ℕ} → n ≡ pick (isDone a) frameOctets 0 → n ≤ frameOctets
+shown-fits a = go (isDone a)
+  where
+    go : (b : Bool) {n : ℕ} → n ≡ pick b frameOctets 0 → n ≤ frameOctets
+    go true e = omega arith
+    go false e = omega arith

@@ -1,0 +1,4 @@
+pub mod Load
+pub mod Step
+pub mod Answered
+pub mod Reader

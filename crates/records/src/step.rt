@@ -1,0 +1,175 @@
+// What a record does to the book and the call.
+ghost use mathlib.Core.Path.{_≡_};
+ghost use mathlib.Core.Bool.{true, false};
+ghost use Prim.Native.Nat.{_≤_};
+ghost use lib.ListN.{length, take};
+ghost use Rattle.octets.specs.Tests.{pick};
+ghost use Rattle.answers.specs.Numbers.{isDone};
+ghost use Rattle.session.specs.Session.{scrambles};
+ghost use Rattle.voice.specs.Call.{standing};
+ghost use Rattle.voice.specs.Frame.{frameOctets};
+ghost use Rattle.voice.specs.Slot.{lostOf, voiceOf, knows, IsSession};
+ghost use Rattle.lines.specs.Record.{recordRoom, recordIn, countIn};
+ghost use Rattle.records.specs.Step.{sessionOctets, Cached, asStepped, stepOf};
+use crate::load::load;
+use answers::Answer;
+use ciphers::cipher::Scramble;
+use lines::record::Parsed;
+use session::VECTOR_OCTETS;
+use voice::call::Call;
+use voice::call::end;
+use voice::frame::FRAME_OCTETS;
+use voice::opening::join;
+use voice::opening::open;
+use voice::slot::lost;
+use voice::slot::session_stream;
+use voice::slot::voice_by;
+use voice::vector::announce;
+
+// The octets that hold a session's keystream: 8 slots of 196 bits.
+pub const SESSION_OCTETS: usize = 196;
+
+// The answer, the call after it, how many octets of the frame are shown, and whether the lent session is the call's.
+pub struct Outcome {
+    pub answer: Answer,
+    pub call: Call,
+    pub shown: usize,
+    pub made: bool,
+}
+
+// ---- the session's keystream, made once
+
+// Where the call has a session whose vector is known, the lent octets hold it afterwards.
+fn hold_session(call: Call, session: &mut [u8], made: bool)
+    requires { ⌜ Cached made call (now session) ⌝ }
+    ensures { λ _. ⌜ (knows (standing call) ≡ true → IsSession call (now (session .exit))) ⌝ }
+    ensures { λ _. ⌜ length (now (session .exit)) ≡ sessionOctets ⌝ }
+{
+    if made {
+        return;
+    }
+    session_stream(call, session);
+}
+
+// Whether a call of this cipher at this position is in the session that it was in a slot ago. Every session of scramble is the same.
+fn goes_on(cipher: u8, position: u8) -> bool
+    ensures { λ r. ⌜ (r ≡ true → position ≡ 0 → scrambles cipher ≡ true) ⌝ }
+{
+    if cipher == Scramble::TYPE {
+        return true;
+    }
+    position != 0
+}
+
+// ---- the kinds of records
+
+fn voice_slot(call: Call, mask: u8, frame: &mut [u8], session: &mut [u8], made: bool) -> Outcome
+    requires { ⌜ Cached made call (now session) ⌝ }
+    ensures { λ r. ⌜ (r .answer, (r .call, now (frame .exit))) ≡ voiceOf call mask (now (frame .entry)) ⌝ }
+    ensures { λ r. ⌜ r .shown ≡ pick (isDone (r .answer)) frameOctets 0 ⌝ }
+    ensures { λ r. ⌜ Cached (r .made) (r .call) (now (session .exit)) ⌝ }
+{
+    hold_session(call, session, made);
+    let stepped = voice_by(call, mask, frame, session);
+    let answer = stepped.answer;
+    let after = stepped.call;
+    if answer.number() != 0 {
+        return Outcome {
+            answer,
+            call: after,
+            shown: 0,
+            made: false,
+        };
+    }
+    Outcome {
+        answer,
+        call: after,
+        shown: FRAME_OCTETS,
+        made: goes_on(call.cipher, after.position),
+    }
+}
+
+fn lost_slot(call: Call, made: bool) -> Outcome
+    ensures { λ r. ⌜ (r .answer, r .call) ≡ lostOf call ⌝ }
+    ensures { λ r. ⌜ r .shown ≡ 0 ⌝ }
+    ensures { λ r. ⌜ (r .made ≡ true → (made ≡ true) × (r .call .position ≡ 0 → scrambles (call .cipher) ≡ true)) ⌝ }
+{
+    let stepped = lost(call);
+    let answer = stepped.answer;
+    let after = stepped.call;
+    if made {
+        return Outcome {
+            answer,
+            call: after,
+            shown: 0,
+            made: goes_on(call.cipher, after.position),
+        };
+    }
+    Outcome {
+        answer,
+        call: after,
+        shown: 0,
+        made,
+    }
+}
+
+// A record that leaves the call and its session as they were.
+fn kept(answer: Answer, call: Call, made: bool) -> Outcome
+    ensures { λ r. ⌜ (r .answer ≡ answer) × (r .call ≡ call) × (r .shown ≡ 0) × (r .made ≡ made) ⌝ }
+{
+    Outcome {
+        answer,
+        call,
+        shown: 0,
+        made,
+    }
+}
+
+// One that may begin a call or a session, or end it.
+fn anew(stepped: voice::call::Stepped) -> Outcome
+    ensures { λ r. ⌜ (r .answer ≡ stepped .answer) × (r .call ≡ stepped .call) × (r .shown ≡ 0) × (r .made ≡ false) ⌝ }
+{
+    let answer = stepped.answer;
+    let call = stepped.call;
+    Outcome {
+        answer,
+        call,
+        shown: 0,
+        made: false,
+    }
+}
+
+// A record whose octets stand beside it: the frame of a voice slot is turned there.
+pub fn step(
+    parsed: Parsed,
+    octets: &mut [u8],
+    book: &mut [u8],
+    call: Call,
+    session: &mut [u8],
+    made: bool,
+) -> Outcome
+    requires { ⌜ (length (now octets) ≡ recordRoom) × (countIn parsed ≤ recordRoom) × Cached made call (now session) ⌝ }
+    ensures { λ r. ⌜ asStepped (r .answer) (now (book .exit)) (r .call) (take (r .shown) (now (octets .exit))) ≡ stepOf (recordIn parsed (now (octets .entry))) (now (book .entry)) call ⌝ }
+    ensures { λ r. ⌜ (r .shown ≤ frameOctets) × Cached (r .made) (r .call) (now (session .exit)) ⌝ }
+{
+    match parsed {
+        Parsed::Load { cipher, id, count } => kept(
+            load(book, cipher, id, &octets[..count]),
+            call,
+            made,
+        ),
+        Parsed::Open { cipher, id } => anew(open(call, cipher, id, &octets[..VECTOR_OCTETS], book)),
+        Parsed::Join { cipher, id } => anew(join(call, cipher, id, book)),
+        Parsed::Voice { mask } => voice_slot(
+            call,
+            mask,
+            &mut octets[..FRAME_OCTETS],
+            session,
+            made,
+        ),
+        Parsed::Announce => anew(announce(call, &octets[..VECTOR_OCTETS])),
+        Parsed::Lost => lost_slot(call, made),
+        Parsed::End => anew(end(call)),
+        Parsed::Malformed => kept(Answer::Malformed, call, made),
+    }
+}
