@@ -1,5 +1,6 @@
 -- The marked examples hold. Assumes nothing.
 use mathlib.Core.Path.{refl, ap, _∙_}
+use native.Mathlib.Omega.{arith}
 use Rattle.generator.specs.Generator.{nextVector}
 use Rattle.generator.proofs.Examples.{example-second, example-third, example-aes}
 use Rattle.scramble.proofs.Examples.{key-one}
@@ -10,12 +11,13 @@ use Rattle.ciphers.specs.Keystream.{feedback, stream}
 use Rattle.keyentry.specs.Entry.{named, lacks, readyRight, usedRight, entryRight, isFor, completeRefusals}
 use Rattle.keybook.specs.Book.{entryOf, apart, goodBook, findEntry, bookRefusals}
 use Rattle.keybook.specs.Operations.{finishRefusals, finishOf}
+use Rattle.voice.specs.Slot.{received}
 use Rattle.demands.specs.Marked.{Marked, finishNumber}
-use Rattle.demands.proofs.MarkedVoice.{example-2, example-11, example-12}
+use Rattle.demands.proofs.MarkedVoice.{openings, example-2, held-on, after-four, after-three}
 use Rattle.demands.proofs.MarkedData.{example-3, example-10}
 
 pub marked : Marked
-unfolding stream feedback finishNumber allBelow firstBelow oddOctet scrambleKey desKey keyAllowed allZero named lacks readyRight usedRight entryRight isFor completeRefusals entryOf apart goodBook findEntry bookRefusals finishRefusals finishOf
+unfolding stream feedback received finishNumber allBelow firstBelow oddOctet scrambleKey desKey keyAllowed allZero named lacks readyRight usedRight entryRight isFor completeRefusals entryOf apart goodBook findEntry bookRefusals finishRefusals finishOf
 marked =
     record {
       example-1 = key-one;
@@ -28,6 +30,11 @@ marked =
       example-8 = refl;
       example-9 = refl;
       example-10 = example-10;
-      example-11 = example-11;
-      example-12 = example-12;
+      example-11 = (
+        openings .2,
+        λ mask frame m l. (held-on 4 (omega arith) mask frame m l, held-on 5 (omega arith) mask frame m l, held-on 6 (omega arith) mask frame m l, held-on 7 (omega arith) mask frame m l),
+        after-four,
+        after-three,
+      );
+      example-12 = (openings .0, openings .1);
     }

@@ -27,7 +27,7 @@ use Rattle.voice.proofs.SlotSteps.{voice-heard, voice-held}
 use Rattle.demands.specs.Marked.{bookOfTwo, scrambling, waiting, frame8001}
 
 -- three openings over that book, without a call
-openings : (openOf noCall 2 0 noVector bookOfTwo ≡ (ZeroVector, noCall))
+pub openings : (openOf noCall 2 0 noVector bookOfTwo ≡ (ZeroVector, noCall))
     × (openOf noCall 1 0 noVector bookOfTwo ≡ (Done, scrambling 0))
     × (joinOf noCall 2 0 bookOfTwo ≡ (Done, waiting 4))
 unfolding openOf joinOf openRefusals joinRefusals vectorRefusals keyRefusals zeroFor standing isClosed closedTests allZero allBelow firstBelow
@@ -49,29 +49,18 @@ example-2 =
     voice-heard (scrambling 0) 3 (replicate frameOctets 0) (omega arith) refl 1 scramble0001 0 noVector scrambling-stands
     ∙ ap (λ (f : List ℕ). (Done, (scrambling 1, f))) frame-turned
 
-pub example-12 : (openOf noCall 2 0 noVector bookOfTwo ≡ (ZeroVector, noCall)) × (openOf noCall 1 0 noVector bookOfTwo ≡ (Done, scrambling 0))
-example-12 = (openings .0, openings .1)
-
 waiting-stands : (p : ℕ) → p < 8 → standing (waiting p) ≡ receiving 2 desABCD p false noVector
 unfolding standing isClosed closedTests isOpen openTests keyRight vectorRight keyAllowed desKey oddOctet allZero allBelow
 waiting-stands p h = rw (lt-ltb _ _ h)
 
-held-on : (p : ℕ) → p < 8 → (mask : ℕ) (frame : List ℕ) → mask ≤ topMask → length frame ≡ frameOctets
+pub held-on : (p : ℕ) → p < 8 → (mask : ℕ) (frame : List ℕ) → mask ≤ topMask → length frame ≡ frameOctets
     → voiceOf (waiting p) mask frame ≡ (Held, (written (received 2 desABCD (p + 1) false noVector), frame))
 held-on p h mask frame m l = voice-held (waiting p) mask frame m l 2 desABCD p noVector (waiting-stands p h)
 
-pub example-11 : (joinOf noCall 2 0 bookOfTwo ≡ (Done, waiting 4))
-    × ((mask : ℕ) (frame : List ℕ) → mask ≤ topMask → length frame ≡ frameOctets
-    → (voiceOf (waiting 4) mask frame ≡ (Held, (waiting 5, frame)))
-    × (voiceOf (waiting 5) mask frame ≡ (Held, (waiting 6, frame)))
-    × (voiceOf (waiting 6) mask frame ≡ (Held, (waiting 7, frame)))
-    × (voiceOf (waiting 7) mask frame ≡ (Held, (waiting 0, frame))))
-    × ((w : List ℕ) → length w ≡ vectorOctets → allZero w ≡ false → announceOf (waiting 0) w ≡ (Done, written (receiving 2 desABCD 0 true w)))
-    × ((w : List ℕ) → length w ≡ vectorOctets → announceOf (waiting 7) w ≡ (NotNow, waiting 7))
-unfolding received announceOf announceRefusals
-example-11 =
-    (openings .2,
-    λ mask frame m l.
-    (held-on 4 (omega arith) mask frame m l, held-on 5 (omega arith) mask frame m l, held-on 6 (omega arith) mask frame m l, held-on 7 (omega arith) mask frame m l),
-    λ w l z. rw (waiting-stands 0 (omega arith), eq-eqb _ _ l, z),
-    λ w l. rw (waiting-stands 7 (omega arith), eq-eqb _ _ l))
+pub after-four : (w : List ℕ) → length w ≡ vectorOctets → allZero w ≡ false → announceOf (waiting 0) w ≡ (Done, written (receiving 2 desABCD 0 true w))
+unfolding announceOf announceRefusals
+after-four w l z = rw (waiting-stands 0 (omega arith), eq-eqb _ _ l, z)
+
+pub after-three : (w : List ℕ) → length w ≡ vectorOctets → announceOf (waiting 7) w ≡ (NotNow, waiting 7)
+unfolding announceOf announceRefusals
+after-three w l = rw (waiting-stands 7 (omega arith), eq-eqb _ _ l)

@@ -10,14 +10,12 @@ use crate::answered::ANSWER_ROOM;
 use crate::respond::Response;
 use crate::respond::respond;
 use crate::step::SESSION_OCTETS;
-use keyentry::KEY_ROOM;
 use lines::record::LINE_OCTETS;
 use octets::copy;
-use session::VECTOR_OCTETS;
 use text::part::LINE_END;
 use text::part::part_end;
-use voice::call::CLOSED;
 use voice::call::Call;
+use voice::call::no_call;
 
 // The most octets of a line that are kept: one more than a line may have, which shows that it is too long.
 pub const KEPT_OCTETS: usize = LINE_OCTETS + 1;
@@ -51,14 +49,7 @@ pub fn start() -> Carry
     Carry {
         line: [0; KEPT_OCTETS],
         count: 0,
-        call: Call {
-            end: CLOSED,
-            cipher: 0,
-            key: [0; KEY_ROOM],
-            position: 0,
-            vector: [0; VECTOR_OCTETS],
-            known: false,
-        },
+        call: no_call(),
     }
 }
 

@@ -7,8 +7,8 @@ mod nxdn;
 mod row;
 mod slots;
 
-use libc::STDOUT_FILENO;
 use crate::row::is_row;
+use libc::STDOUT_FILENO;
 use text::part::LINE_END;
 use text::part::part_end;
 ghost use Rattle.io.specs.Counts.{Counts};

@@ -110,7 +110,7 @@ pub fn good_call(call: Call) -> bool
 
 // ---- its end
 
-fn no_call() -> Call
+pub fn no_call() -> Call
     ensures { λ r. ⌜ r ≡ noCall ⌝ }
 {
     Call {

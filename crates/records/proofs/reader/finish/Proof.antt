@@ -7,9 +7,10 @@ use Rattle.records.proofs.reader.finish.Statement.{statement}
 use Rattle.records.proofs.reader.finish.Tie as tie
 
 returns : tie.Need-returns
-returns c =
-    (c .before .before .before .before .finish-from .ensures ∙ rw (reading-is (c .before .before .before .before .before .before .before .before .before .before .before .before .args .carry .line) _ _ _ _ (search needs) (c .before .before .before .before .before .before .before .least .ensures .2)),
-    finish-wrote _ _ (c .before .before .before .before .finish-from .ensures) (search needs))
+returns c = (
+  c .before .before .before .before .finish-from .ensures ∙ rw (reading-is (c .before .before .before .before .before .before .before .before .before .before .before .before .args .carry .line) _ _ _ _ (search needs) (c .before .before .before .before .before .before .before .least .ensures .2)),
+  finish-wrote _ _ (c .before .before .before .before .finish-from .ensures) (search needs),
+)
 
 pub finish-spec : {M : Type 1} → statement M
 finish-spec =

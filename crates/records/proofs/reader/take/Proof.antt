@@ -7,9 +7,10 @@ use Rattle.records.proofs.reader.take.Statement.{statement}
 use Rattle.records.proofs.reader.take.Tie as tie
 
 returns : tie.Need-returns
-returns c =
-    (c .before .before .before .before .take-from .ensures ∙ rw (reading-is (c .before .before .before .before .before .before .before .before .before .before .before .before .before .args .carry .line) _ _ _ _ (search needs) (c .before .before .before .before .before .before .before .least .ensures .2)),
-    (take-used _ _ _ (c .before .before .before .before .take-from .ensures), take-wrote _ _ _ (c .before .before .before .before .take-from .ensures) (search needs)))
+returns c = (
+  c .before .before .before .before .take-from .ensures ∙ rw (reading-is (c .before .before .before .before .before .before .before .before .before .before .before .before .before .args .carry .line) _ _ _ _ (search needs) (c .before .before .before .before .before .before .before .least .ensures .2)),
+  (take-used _ _ _ (c .before .before .before .before .take-from .ensures), take-wrote _ _ _ (c .before .before .before .before .take-from .ensures) (search needs)),
+)
 
 pub take-spec : {M : Type 1} → statement M
 take-spec =
