@@ -1,5 +1,5 @@
 -- Demand 1 is met. Assumes nothing.
-use mathlib.Core.Path.{_≡_, ap}
+use mathlib.Core.Path.{_≡_, refl, ap}
 use mathlib.Core.List.{List}
 use Prim.Native.Nat.{ℕ, _≤_}
 use native.Mathlib.Omega.{arith}
@@ -56,11 +56,13 @@ messages os n message z =
     }
 
 pub ours-meets-1 : Demand1
+unfolding step
 ours-meets-1 =
     record {
       answers = answers-by-table;
       changes-nothing = refusal-changes-nothing;
       no-key = no-key;
+      keys-apart = λ d o n. (refl, refl);
       words = words;
       messages = messages;
     }

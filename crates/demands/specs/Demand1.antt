@@ -12,6 +12,7 @@ use Rattle.answers.specs.Numbers.{numberOf, isDone}
 use Rattle.ciphers.specs.Keystream.{stream}
 use Rattle.keyentry.specs.Entry.{keyRoom}
 use Rattle.keybook.specs.Operations.{readyKeyOf}
+use Rattle.keybook.specs.History as book
 use Rattle.keybook.specs.History.{Told}
 use Rattle.voice.specs.Frame.{ofSlot, protect}
 use Rattle.data.specs.Kinds.{headOctets, protectedOctets, protectedBits}
@@ -110,6 +111,8 @@ pub record Demand1 : Type 0 where
   pub changes-nothing : (d : Device) (o : Operation) → 2 ≤ numberOf (step d o .0) → Same (step d o .1 .0) d × (step d o .1 .1 ≡ lent o)
   -- a refused ready key is zeros
   pub no-key : (b : List ℕ) (c i : ℕ) → 1 ≤ numberOf (readyKeyOf b c i .0) → readyKeyOf b c i .1 ≡ replicate keyRoom 0
+  -- a key operation, erase too, reaches no call and no packet
+  pub keys-apart : (d : Device) (o : book.Operation) (n : ℕ) → (step d (OfBook o) .1 .0 .calls n ≡ d .calls n) × (step d (OfBook o) .1 .0 .packets n ≡ d .packets n)
   -- over every list of operations from an all-zero book with no call and no packet: whenever words are turned, and whenever a message is
   pub words : (os : List Operation) (n mask : ℕ) (frame : List ℕ) → numberOf (step (deviceAfter os) (OfCall n (Voice mask frame)) .0) ≡ 0
       → WordsTurned (history os) n mask frame (step (deviceAfter os) (OfCall n (Voice mask frame)) .1 .1)
