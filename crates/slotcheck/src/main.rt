@@ -7,13 +7,13 @@ use records::reader::finish;
 use records::reader::start;
 use records::reader::take;
 
-// What is carried on, and whether all went well.
+// What is carried on, and whether to go on.
 struct Pass {
     carry: Carry,
-    went_well: bool,
+    goes_on: bool,
 }
 
-// Answers the lines of a piece, as often as the room for output has to be written out.
+// Answers the lines of a piece, and writes out as often as the room for output is used up. An error ends it.
 fn answer(carry: Carry, piece: &[u8], book: &mut [u8], out: &mut [u8]) -> Pass {
     let mut now = carry;
     let mut at = 0;
@@ -25,30 +25,30 @@ fn answer(carry: Carry, piece: &[u8], book: &mut [u8], out: &mut [u8]) -> Pass {
         if used == 0 {
             return Pass {
                 carry: now,
-                went_well: false,
+                goes_on: false,
             };
         }
         if !io::write_all(STDOUT_FILENO, &out[..wrote]) {
             return Pass {
                 carry: now,
-                went_well: false,
+                goes_on: false,
             };
         }
         at += used;
     }
     Pass {
         carry: now,
-        went_well: true,
+        goes_on: true,
     }
 }
 
-// Reads a piece and answers its lines; whether to go on. The end of the input ends the last line; an error does not.
+// Reads a piece and answers its lines. The end of the input ends the last line; an error does not.
 fn pump(carry: Carry, piece: &mut [u8], book: &mut [u8], out: &mut [u8]) -> Pass {
     let got = libc::read(STDIN_FILENO, piece);
     if got < 0 {
         return Pass {
             carry,
-            went_well: false,
+            goes_on: false,
         };
     }
     let n = io::count(got, piece);
@@ -59,7 +59,7 @@ fn pump(carry: Carry, piece: &mut [u8], book: &mut [u8], out: &mut [u8]) -> Pass
         io::write_all(STDOUT_FILENO, &out[..wrote]);
         return Pass {
             carry: after,
-            went_well: false,
+            goes_on: false,
         };
     }
     answer(carry, &piece[..n], book, out)
@@ -71,7 +71,7 @@ fn run(book: &mut [u8], piece: &mut [u8], out: &mut [u8]) {
     let mut turns = u64::MAX;
     while turns > 0 {
         let pass = pump(carry, piece, book, out);
-        if !pass.went_well {
+        if !pass.goes_on {
             return;
         }
         carry = pass.carry;
