@@ -1,4 +1,4 @@
--- What an operation answers and leaves: its refusals in order, and what it comes to where none holds.
+-- What an operation answers and leaves (document 01, "Answer numbers"): its refusals in order, and what it comes to where none holds.
 use mathlib.Core.Bool.{Bool}
 use mathlib.Core.List.{List, [], _∷_}
 use Rattle.octets.specs.Tests.{pick}

@@ -1,4 +1,4 @@
--- What enciphers a block of output feedback: tables that were made once, and a key's schedule.
+-- What enciphers a block of output feedback: tables that were made once, and a key's schedule. Only the contracts of this crate's own functions cite it.
 use mathlib.Core.Path.{_≡_}
 use mathlib.Core.List.{List}
 use Prim.Native.Nat.{ℕ, _/_, _%_}

@@ -1,4 +1,4 @@
--- Which keys are allowed. A key's octets come first in the list.
+-- Which keys are allowed (document 01, "Ciphers and keys"). A key's octets come first in the list.
 use Prim.Native.Nat.{ℕ, _+_, _/_, _%_}
 use mathlib.Core.Bool.{Bool, true, false, _&&_, not}
 use mathlib.Core.List.{List}

@@ -1,4 +1,4 @@
--- The keystreams: for each cipher the bits of a session, counted from 0. Voice and data, sending and receiving, are turned by these.
+-- The keystreams (document 01, "Keystreams"): for each cipher the bits of a session, counted from 0. Voice and data, sending and receiving, are turned by these.
 use mathlib.Core.List.{List}
 use Prim.Native.Nat.{ℕ, _+_, _/_, _%_}
 use Rattle.octets.specs.Lists.{iterate}

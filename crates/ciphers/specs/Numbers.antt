@@ -1,4 +1,4 @@
--- The cipher types, 1 scramble, 2 DES and 3 AES, and the numbers that belong to each.
+-- The cipher types, 1 scramble, 2 DES and 3 AES, and the numbers that belong to each (document 01, "Ciphers and keys").
 use Prim.Native.Nat.{ℕ}
 use lib.Dec.{eqb}
 use Rattle.octets.specs.Tests.{pick}

@@ -1,4 +1,4 @@
--- A history of key operations, told by the operations and their answers alone: which octets were added for a cipher type
+-- A history of key operations (document 01, "The key book"; demand 1), told by the operations and their answers alone: which octets were added for a cipher type
 -- and key ID since the begin that took it, and whether they were finished. What was refused does not count.
 use Prim.Native.Nat.{ℕ, _-_}
 use mathlib.Core.Path.{_≡_}

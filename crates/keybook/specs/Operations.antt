@@ -1,4 +1,4 @@
--- What each operation on a key book answers and leaves, for every book, cipher type, key ID and key octets. Its refusals
+-- What each operation on a key book (document 01, "The key book") answers and leaves, for every book, cipher type, key ID and key octets. Its refusals
 -- are one list, in the order in which they count.
 use Prim.Native.Nat.{ℕ}
 use mathlib.Core.Bool.{Bool, not}

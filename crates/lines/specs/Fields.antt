@@ -1,4 +1,4 @@
--- The fields of a line from a place on, as the code walks them.
+-- The fields of a line from a place on, as the code walks them. Only the contracts of this crate's own functions cite it.
 use mathlib.Core.Path.{_≡_}
 use mathlib.Core.Bool.{Bool, true, false, _&&_}
 use mathlib.Core.List.{List, []}
