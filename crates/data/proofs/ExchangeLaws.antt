@@ -23,7 +23,8 @@ use Rattle.data.specs.Kinds.{messageOctets, headOctets, protectedOctets,
 use Rattle.data.specs.Packet.{mostMessages, isOpen, noPacket}
 use Rattle.data.specs.Opening.{opened, openOf}
 use Rattle.data.specs.Message.{counted, lostRefusals, lostOf, ofMessage, messageTurned, messageOf}
-use Rattle.data.specs.Exchange.{Message, onAir, handedOut, after, arrived, Each, Fit}
+use Rattle.octets.specs.Lists.{Each}
+use Rattle.data.specs.Exchange.{Message, onAir, handedOut, after, arrived, Fit}
 use Rattle.data.proofs.PacketLaws.{open-kind, open-some, open-is-good}
 use Rattle.data.proofs.MessageLaws.{now-is, lost-done, message-done}
 use Rattle.data.proofs.GoodLaws.{atCount, at-open, counted-open, open-leaves}

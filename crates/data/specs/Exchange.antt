@@ -5,6 +5,7 @@ use mathlib.Core.Path.{_≡_}
 use Prim.Native.Nat.{ℕ, _≤_}
 use lib.ListN.{length}
 use Rattle.octets.specs.Tests.{pick}
+use Rattle.octets.specs.Lists.{Each}
 use Rattle.octets.specs.Bits.{Octets}
 use Rattle.answers.specs.declared.Answer.{Answer}
 use Rattle.answers.specs.declared.Answer.the-variants.{Done}
@@ -43,10 +44,6 @@ arrived [] = []
 arrived (m ∷ ms) = pick (m .arrives) ((Done, m .octets) ∷ arrived ms) (arrived ms)
 
 -- messages of a kind, no more than a packet has
-abbrev pub Each : (Message → Type 0) → List Message → Type 0
-Each P [] = Unit {0}
-Each P (m ∷ ms) = P m × Each P ms
-
 pub record Fit (kind : ℕ) (ms : List Message) : Type 0 where
   pub few : length ms ≤ mostMessages
   pub long : Each (λ m. length (m .octets) ≡ messageOctets kind) ms

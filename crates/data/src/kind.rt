@@ -2,7 +2,6 @@
 ghost use mathlib.Core.Path.{_≡_};
 ghost use Rattle.data.specs.Kinds.{isKind, messageOctets, protectedOctets};
 
-// Among the kinds, what is protected in a message is longest in this one.
 pub const DCALL: u8 = 1;
 
 pub const SDCALL_INBOUND: u8 = 2;

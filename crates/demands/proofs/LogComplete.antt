@@ -8,7 +8,8 @@ use Rattle.octets.specs.Tests.{pick}
 use Rattle.answers.specs.Numbers.{numberOf}
 use Rattle.session.specs.Session.{scrambles}
 use Rattle.voice.specs.Opening.{superframeSlots}
-use Rattle.demands.specs.History.{Slot, Session, Talk, Entry, opening, joining, Each, Kept, HasKey}
+use Rattle.octets.specs.Lists.{Each}
+use Rattle.demands.specs.History.{Slot, Session, Talk, Entry, opening, joining, Kept, HasKey}
 use Rattle.demands.specs.Log.{Receiver, Report, counts, reports, next, slotsLog, slotsEnd, started, sessionsLog, firstLog, firstVector, talkLog}
 use Rattle.demands.specs.Arrivals.{Arrival, shown, arrival, arrivals, later, first, heardOf}
 use Rattle.demands.specs.Demand3.{Right, Meets3}

@@ -15,7 +15,8 @@ use Rattle.ciphers.specs.Keystream.{stream}
 use Rattle.voice.specs.declared.call.Call.{Call}
 use Rattle.voice.specs.Frame.{word}
 use Rattle.voice.specs.Opening.{superframeSlots}
-use Rattle.demands.specs.History.{Slot, Session, Entry, opening, joining, SlotKept, SlotsKept, VectorKept, SessionKept, Each, Full, HasKey}
+use Rattle.octets.specs.Lists.{Each}
+use Rattle.demands.specs.History.{Slot, Session, Entry, opening, joining, SlotKept, SlotsKept, VectorKept, SessionKept, Full, HasKey}
 use Rattle.demands.specs.Log.{Report, counts, reports, next, slotsLog, slotsEnd, sessionsLog, firstLog, firstVector, talkLog}
 use Rattle.demands.specs.Demand3.{Right, Meets3, ours}
 use Rattle.demands.proofs.Standing.{key-ranged, slots-some, place, fresh, place-end, place-lost, place-heard, place-held, place-opened, place-joined, place-started}

@@ -11,7 +11,7 @@ use borrow.Author.Tests.{eq-eqb, le-ltb, lt-ltb}
 use Rattle.demands.proofs.Zeros.{zeros-octets, next-not-zero}
 use Rattle.octets.specs.Tests.{pick}
 use Rattle.octets.specs.Bits.{Octets}
-use Rattle.octets.specs.Lists.{allZero}
+use Rattle.octets.specs.Lists.{allZero, Each}
 use Rattle.octets.proofs.TestLaws.{and-false-r}
 use Rattle.generator.specs.Generator.{nextVector}
 use Rattle.generator.proofs.VectorLaws.{length-nextVector, octets-nextVector}
@@ -32,7 +32,7 @@ use Rattle.voice.proofs.FrameLaws.{protect-same, protect-frame}
 use Rattle.session.proofs.SessionLaws.{no-vector-zero}
 use Rattle.voice.proofs.GoodLaws.{good-open, read-written}
 use Rattle.voice.proofs.SlotSteps.{voice-sent}
-use Rattle.demands.specs.History.{Slot, SlotKept, SlotsKept, VectorKept, SessionKept, Each, Full, Kept, HasKey, Entry}
+use Rattle.demands.specs.History.{Slot, SlotKept, SlotsKept, VectorKept, SessionKept, Full, Kept, HasKey, Entry}
 use Rattle.demands.specs.Log.{talkLog}
 use Rattle.demands.specs.Demand3.{Right, ours}
 use Rattle.demands.specs.OurSender.{Said, Saying, slotsMade, afterwards, sessionsMade, talkMade, SaidKept, Starts, AllSaid}

@@ -6,7 +6,7 @@ use Prim.Native.Nat.{ℕ, zero, suc, _+_, _*_, _≤_, _<_}
 use native.Mathlib.Omega.{arith}
 use borrow.Author.Tests.{le-ltb}
 use lib.ListN.{length, getD}
-use Rattle.octets.specs.Lists.{iterate}
+use Rattle.octets.specs.Lists.{iterate, Each}
 use Rattle.octets.specs.Bits.{octet, octetsFrom}
 use Rattle.scramble.specs.Sequence.{keyNumber, stepped, P}
 use Rattle.ciphers.specs.Numbers.{sessionSlots}
@@ -24,7 +24,7 @@ use Rattle.voice.proofs.FrameLaws.{protect-frame}
 use Rattle.voice.proofs.SlotSteps.{voice-heard}
 use Rattle.session.specs.Samples.{seed}
 use Rattle.demands.specs.Marked.{key0001}
-use Rattle.demands.specs.History.{Slot, Session, Talk, opening, joining, SlotKept, VectorKept, SessionKept, Each, Full, Kept}
+use Rattle.demands.specs.History.{Slot, Session, Talk, opening, joining, SlotKept, VectorKept, SessionKept, Full, Kept}
 use Rattle.demands.specs.Log.{Receiver, counts, sessionsLog, talkLog}
 use Rattle.demands.specs.Demand3.{Right, Meets3}
 use Rattle.demands.specs.Others.{refusesAll, holdsAll, fixed, leavesAll, upTo, upToSlots, upToSession, fourOn, atOnce, Sending, turning, identity, restarting}

@@ -10,7 +10,8 @@ use Rattle.voice.specs.Call.{noCall}
 use Rattle.voice.specs.Opening.{openOf, joinOf}
 use Rattle.voice.specs.Slot.{lostOf, voiceOf}
 use Rattle.voice.specs.Vector.{announceOf}
-use Rattle.demands.specs.History.{Talk, Entry, Each, Kept, HasKey}
+use Rattle.octets.specs.Lists.{Each}
+use Rattle.demands.specs.History.{Talk, Entry, Kept, HasKey}
 use Rattle.demands.specs.Log.{Receiver, Report, talkLog}
 
 pub record Right (r : Report) : Type 0 where

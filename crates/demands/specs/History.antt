@@ -5,7 +5,7 @@ use mathlib.Core.Bool.{Bool, true, false}
 use Prim.Native.Nat.{ℕ, suc, _+_, _-_, _*_, _≤_, _<_}
 use lib.ListN.{length, replicate}
 use Rattle.octets.specs.Bits.{bit, flip}
-use Rattle.octets.specs.Lists.{allZero}
+use Rattle.octets.specs.Lists.{allZero, Each}
 use Rattle.ciphers.specs.Numbers.{keyOctets, sessionSlots}
 use Rattle.ciphers.specs.Keystream.{stream}
 use Rattle.keyentry.specs.Entry.{keyRoom, isReady}
@@ -69,11 +69,6 @@ pub record VectorKept (c : ℕ) (v : List ℕ) : Type 0 where
 pub record SessionKept (c : ℕ) (key : List ℕ) (x : Session) : Type 0 where
   pub vector : VectorKept c (x .vector)
   pub slots : SlotsKept (stream c key (x .vector)) 0 (x .slots)
-
--- what holds of each element of a list
-abbrev pub Each : {A : Type 0} → (A → Type 0) → List A → Type 0
-Each P [] = Unit {0}
-Each P (x ∷ xs) = P x × Each P xs
 
 -- every session has all its slots; the last may have fewer
 abbrev pub Full : ℕ → List Session → Type 0

@@ -5,14 +5,14 @@ use mathlib.Core.Bool.{Bool, false}
 use Prim.Native.Nat.{ℕ, _≤_}
 use lib.ListN.{length}
 use Rattle.octets.specs.Bits.{Octets}
-use Rattle.octets.specs.Lists.{allZero}
+use Rattle.octets.specs.Lists.{allZero, Each}
 use Rattle.voice.specs.declared.call.Call.{Call}
 use Rattle.voice.specs.Frame.{IsFrame}
 use Rattle.session.specs.Session.{vectorOctets, scrambles}
 use Rattle.voice.specs.Call.{noCall}
 use Rattle.voice.specs.Opening.{startOf}
 use Rattle.voice.specs.Slot.{voiceOf}
-use Rattle.demands.specs.History.{Slot, Session, Talk, Each}
+use Rattle.demands.specs.History.{Slot, Session, Talk}
 
 -- what is said in a slot, and whether the slot will arrive
 pub record Said : Type 0 where

@@ -1,4 +1,4 @@
--- A list given by a function of the place, a part of a list replaced, a list of zeros, and a step taken again and again.
+-- A list given by a function of the place, a part of a list replaced, a list of zeros, what holds of each element, and a step taken again and again.
 use Prim.Native.Nat.{ℕ, zero, suc, _+_}
 use mathlib.Core.Bool.{Bool}
 use mathlib.Core.List.{List, [], _∷_, _++_}
@@ -24,3 +24,8 @@ module _ {ℓ} {A : Type ℓ} where
   unfoldable pub iterate : (A → A) → ℕ → A → A
   iterate step zero x = x
   iterate step (suc n) x = step (iterate step n x)
+
+-- P holds of each element
+abbrev pub Each : {A : Type 0} → (A → Type 0) → List A → Type 0
+Each P [] = Unit {0}
+Each P (x ∷ xs) = P x × Each P xs

@@ -9,7 +9,7 @@ use borrow.Author.Tests.{le-ltb}
 use Rattle.voice.specs.Call.{noCall}
 use Rattle.records.specs.declared.reader.Carry.{Carry}
 use Rattle.records.specs.Answered.{answerRoom, Answered, overlaid}
-use Rattle.records.specs.Reader.{linesOf, allAnswered, Reading, afresh, Fed, fed, finished, closing, readingOf, carried, started, leaves, takeFrom, lastly, finishFrom, finishOf, Run, none, some}
+use Rattle.records.specs.Reader.{linesOf, allAnswered, Reading, afresh, Fed, fed, finished, closing, readingOf, carried, started, leaves, takeFrom, lastly, finishFrom, finishOf, Run, none, some, Whole}
 use Rattle.records.proofs.ReaderLaws.{fed-append, whole}
 
 -- what is carried reads as what it was made of
@@ -41,12 +41,6 @@ run-fed {c} {d} {b} {e} (some {n = n} {rest = rest} piece out q r) =
     let s = readingOf c b in
     let l = left-is out (fed s (take n piece)) (take-is s piece out q) in
     fed-append (take n piece) s rest ∙ rw (← l .1, ← l .0, run-fed r)
-
--- the end of a run from the start: output, book and call are those of all its lines, and no octets are carried
-pub record Whole (input book output book' : List ℕ) (carry : Carry) : Type 0 where
-  pub output-is : output ≡ allAnswered (linesOf input) book noCall .output
-  pub book-is : book' ≡ allAnswered (linesOf input) book noCall .book
-  pub carry-is : carry ≡ carried [] (allAnswered (linesOf input) book noCall .call)
 
 pub run-whole : {book input output e : List ℕ} {d : Carry} → Run started book input output d e → (out : List ℕ) → answerRoom ≤ length out
     → {w : ℕ} {c : Carry} {b out' : List ℕ} → (w, (c, (b, out'))) ≡ finishOf d e out → Whole input book (output ++ take w out') b c

@@ -7,7 +7,6 @@ use lib.ListN.{length, take, replicate}
 use Rattle.octets.specs.Tests.{pick}
 use Rattle.voice.specs.declared.call.Call.{Call}
 use Rattle.voice.specs.Call.{noCall}
-use Rattle.keybook.specs.Book.{bookOctets}
 use Rattle.text.specs.Parted.{lineEnd, parted}
 use Rattle.lines.specs.Record.{lineOctets}
 use Rattle.records.specs.declared.reader.Carry.{Carry}
@@ -46,10 +45,6 @@ pub record Reading : Type 0 where
 -- before any octet of an input
 abbrev pub fresh : List ℕ → Call → Reading
 fresh book call = record { line = []; book = book; call = call }
-
--- of a receiver: a book of zeros and no call
-abbrev pub atStart : Reading
-atStart = fresh (replicate bookOctets 0) noCall
 
 -- the most octets of a line that are kept
 abbrev pub keptOctets : ℕ
@@ -155,3 +150,9 @@ pub data Run : Carry → List ℕ → List ℕ → List ℕ → Carry → List �
   none : {c : Carry} {b : List ℕ} → Run c b [] [] c b
   some : {c c' d : Carry} {b b' e : List ℕ} {n w : ℕ} {out' rest more : List ℕ} (piece out : List ℕ) → (n, (w, (c', (b', out')))) ≡ takeOf c piece b out
       → Run c' b' rest more d e → Run c b (take n piece ++ rest) (take w out' ++ more) d e
+
+-- the end of a run from the start: output, book and call are those of all its lines, and no octets are carried
+pub record Whole (input book output book' : List ℕ) (carry : Carry) : Type 0 where
+  pub output-is : output ≡ allAnswered (linesOf input) book noCall .output
+  pub book-is : book' ≡ allAnswered (linesOf input) book noCall .book
+  pub carry-is : carry ≡ carried [] (allAnswered (linesOf input) book noCall .call)

@@ -122,19 +122,15 @@ fn take_from(
 {
     let mut session = [0; SESSION_OCTETS];
     let mut made = false;
-    let mut at = 0;
+    let mut used = 0;
     let mut wrote = 0;
     loop {
         if out.len() - wrote < ANSWER_ROOM {
             let carry = carry_on(kept, count, call);
-            return Took {
-                used: at,
-                wrote,
-                carry,
-            };
+            return Took { used, wrote, carry };
         }
-        let end = part_end(piece, at, LINE_END);
-        let octets = &piece[at..end];
+        let end = part_end(piece, used, LINE_END);
+        let octets = &piece[used..end];
         if end == piece.len() {
             count = keep(&mut kept, count, octets);
             let carry = carry_on(kept, count, call);
@@ -159,7 +155,7 @@ fn take_from(
         call = done.call;
         made = done.made;
         count = 0;
-        at = end + 1;
+        used = end + 1;
     }
 }
 

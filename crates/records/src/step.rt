@@ -19,6 +19,7 @@ use session::VECTOR_OCTETS;
 use voice::call::Call;
 use voice::call::end;
 use voice::frame::FRAME_OCTETS;
+use voice::frame::SLOT_BITS;
 use voice::opening::join;
 use voice::opening::open;
 use voice::slot::lost;
@@ -27,7 +28,7 @@ use voice::slot::voice_by;
 use voice::vector::announce;
 
 // The octets that hold a session's keystream: 8 slots of 196 bits.
-pub const SESSION_OCTETS: usize = 196;
+pub const SESSION_OCTETS: usize = 8 * SLOT_BITS / 8;
 
 // The answer, the call after it, how many octets of the frame are shown, and whether the lent session is the call's.
 pub struct Outcome {

@@ -130,11 +130,7 @@ fn main() {
         b"ofb-known-answers.tsv",
         b"Output feedback, FIPS 81 and SP 800-38A",
     );
-    run(
-        Set::Nxdn,
-        b"nxdn-known-answers.tsv",
-        b"NXDN TS 1-D, 7.2.2 and 7.2.3",
-    );
+    run(Set::Nxdn, b"nxdn-known-answers.tsv", b"NXDN TS 1-D, 7.2.3");
     run(
         Set::Slots,
         b"voice-slots.tsv",

@@ -1,6 +1,5 @@
 // A call by value, the rules that a good one keeps, and its end.
 ghost use mathlib.Core.Path.{_≡_};
-ghost use Rattle.session.specs.Session.{keyRight};
 ghost use Rattle.voice.specs.Call.{vectorRight, isClosed, isOpen, goodCall, noCall, endOf};
 use answers::Answer;
 use ciphers::cipher::Scramble;

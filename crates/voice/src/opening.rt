@@ -1,7 +1,5 @@
 // How a call begins: open, join and start. The call has its own copy of the key.
 ghost use mathlib.Core.Path.{_≡_};
-ghost use lib.ListN.{length};
-ghost use Rattle.session.specs.Session.{vectorOctets, sessionVector};
 ghost use Rattle.voice.specs.Call.{written};
 ghost use Rattle.voice.specs.Opening.{joined, joinOf, begunOf, openOf, startOf};
 use crate::call::CLOSED;

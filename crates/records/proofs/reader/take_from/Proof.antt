@@ -12,12 +12,12 @@ use Rattle.records.proofs.reader.take_from.Statement.{statement}
 use Rattle.records.proofs.reader.take_from.Tie as tie
 
 abbrev Inv-loop : tie.InvT-loop
-Inv-loop count₀ call₀ piece book₀ out₀ kept₀ session₀ made₀ at₀ wrote₀ count call book out kept session made at wrote =
-    Taken piece out₀ (reading kept₀ count₀ call₀ book₀) at wrote (take count kept) book call out
+Inv-loop count₀ call₀ piece book₀ out₀ kept₀ session₀ made₀ used₀ wrote₀ count call book out kept session made used wrote =
+    Taken piece out₀ (reading kept₀ count₀ call₀ book₀) used wrote (take count kept) book call out
     × (length kept ≡ keptOctets) × (count ≤ keptOctets) × Cached made call session × (length book ≡ length book₀)
 
 abbrev μ-loop : tie.MeasureT-loop
-μ-loop count₀ call₀ piece book₀ out₀ kept₀ session₀ made₀ at₀ wrote₀ count call book out kept session made at wrote = length piece - at
+μ-loop count₀ call₀ piece book₀ out₀ kept₀ session₀ made₀ used₀ wrote₀ count call book out kept session made used wrote = length piece - used
 
 loop-holds : tie.Need-loop-holds Inv-loop μ-loop
 loop-holds c = (taken-none _ _ _ (kept-fits-short _ _ (c .before .before .before .pre)), search needs, c .before .before .before .pre, unmade _ _ refl, refl)
@@ -34,8 +34,8 @@ end-line-requires c κs = (c .before .before .before .before .before .before .be
 add-wrote : tie.Need-add-wrote Inv-loop μ-loop
 add-wrote c = omega (arith, c .before .before .before .before .before .before .before .before .before .before .before .before .before .before .before .before .before .before .before .before .good .1, c .before .before .before .before .before .before .before .end-line .ensures .0 .laid .ends, c .before .before .before .before .before .before .before .end-line .ensures .0 .laid .within, c .before .before .before .before .before .before .before .before .before .before .before .before .before .before .before .if1 .left)
 
-add-at : tie.Need-add-at Inv-loop μ-loop
-add-at c = omega (arith, c .before .before .before .before .before .before .before .before .before .before .before .before .before .before .before .before .before .before .before .before .before .good .1, c .before .before .before .before .before .before .before .before .before .before .before .before .before .before .before .part-end .ensures .2, c .before .before .before .before .before .before .before .before .before .before .before .before .before .if2 .left)
+add-used : tie.Need-add-used Inv-loop μ-loop
+add-used c = omega (arith, c .before .before .before .before .before .before .before .before .before .before .before .before .before .before .before .before .before .before .before .before .before .good .1, c .before .before .before .before .before .before .before .before .before .before .before .before .before .before .before .part-end .ensures .2, c .before .before .before .before .before .before .before .before .before .before .before .before .before .if2 .left)
 
 loop-again : tie.Need-loop-again Inv-loop μ-loop
 loop-again c = (taken-on _ _ _ (c .before .before .before .before .before .before .before .before .before .before .before .before .before .before .before .before .before .loop .inv .0) _ (c .before .before .before .before .before .before .before .before .before .before .before .before .before .before .before .part-end .ensures .0) (omega (arith, c .before .before .before .before .before .before .before .before .before .before .before .before .before .before .before .part-end .ensures .2, c .before .before .before .before .before .before .before .before .before .before .before .before .before .if2 .left)) (c .before .before .before .before .before .before .before .before .before .before .before .before .before .before .before .before .if1 .left) (c .before .before .before .before .before .before .before .before .end-line .ensures .0), search needs, omega arith, c .before .before .before .before .before .before .before .before .end-line .ensures .1, search needs)
@@ -69,6 +69,6 @@ take-from-spec =
     (λ c. search needs)
     end-line-requires
     add-wrote
-    add-at
+    add-used
     (λ c. search needs)
     loop-again)
