@@ -37,7 +37,7 @@ mixed = talkMade 2 keyABCD 0 seed twoKeys three
 
 pub mixed-kept : Kept mixed
 mixed-kept =
-    ours-keeps twoKeys 2 0 keyABCD has-des refl seed (record { long = refl; octets = seed-octets; some = λ e. seed-kept .zeros }) three
+    ours-keeps twoKeys 2 0 keyABCD has-des refl seed (record { long = refl; octets = seed-octets; some = seed-kept .some }) three
     (quietly-kept eight, (quietly-kept eight, (quietly-kept (true ∷ []), tt))) (refl, (refl, omega arith))
 
 -- by the opening: handed out, held, handed out

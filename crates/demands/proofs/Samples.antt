@@ -1,6 +1,6 @@
 -- A book with two ready keys, and slots of silence, for the calls that show what is thrown out and what can be met. Assumes nothing.
 use mathlib.Core.Path.{_≡_, refl}
-use mathlib.Core.Bool.{Bool, true}
+use mathlib.Core.Bool.{Bool, true, true≢false}
 use mathlib.Core.List.{List, [], _∷_, _++_}
 use Prim.Native.Nat.{ℕ, suc, _+_, _*_}
 use native.Mathlib.Omega.{arith}
@@ -81,11 +81,11 @@ quiet-kept ks p (a ∷ rest) = (saying-kept silence silence-frame ks p a, quiet-
 
 pub no-vector-kept : VectorKept 1 (replicate 8 0)
 unfolding allZero allBelow
-no-vector-kept = record { long = refl; zeros = refl }
+no-vector-kept = record { long = refl; some = λ e. absurd (true≢false e) }
 
 pub seed-kept : VectorKept 2 seed
 unfolding allZero allBelow
-seed-kept = record { long = refl; zeros = refl }
+seed-kept = record { long = refl; some = λ e. refl }
 
 pub seed-octets : Octets seed
 unfolding allBelow

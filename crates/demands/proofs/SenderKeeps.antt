@@ -42,18 +42,22 @@ use Rattle.demands.proofs.ReceiverMeets.{ours-meets-3}
 
 -- a sender's vector: the generator makes no zeros of one that isn't
 pub record Sound (c : ℕ) (v : List ℕ) : Type 0 where
-  pub kept : VectorKept c v
+  pub long : length v ≡ 8
+  pub zeros : allZero v ≡ scrambles c
   pub octets : Octets v
 
+sound-kept : (c : ℕ) (v : List ℕ) → Sound c v → VectorKept c v
+sound-kept c v s = record { long = s .long; some = λ e. s .zeros ∙ e }
+
 no-vector-sound : (c : ℕ) → scrambles c ≡ true → Sound c noVector
-no-vector-sound c e = record { kept = record { long = refl; zeros = no-vector-zero ∙ sym e }; octets = zeros-octets 8 }
+no-vector-sound c e = record { long = refl; zeros = no-vector-zero ∙ sym e; octets = zeros-octets 8 }
 
 starts-sound : (c : ℕ) (v : List ℕ) → Starts c v → Sound c (sessionVector c v)
 starts-sound c v s = go (scrambles c) refl
   where
     go : (t : Bool) → scrambles c ≡ t → Sound c (pick t noVector v)
     go true e = no-vector-sound c e
-    go false e = record { kept = record { long = s .long; zeros = s .some e ∙ sym e }; octets = s .octets }
+    go false e = record { long = s .long; zeros = s .some e ∙ sym e; octets = s .octets }
 
 going-sound : (c : ℕ) (v : List ℕ) → Sound c v → Sound c (goingOn c v)
 unfolding goingOn
@@ -63,7 +67,8 @@ going-sound c v s = go (scrambles c) refl
     go true e = no-vector-sound c e
     go false e =
         record {
-          kept = record { long = length-nextVector v; zeros = next-not-zero v (s .kept .long) (s .octets) (s .kept .zeros ∙ e) ∙ sym e };
+          long = length-nextVector v;
+          zeros = next-not-zero v (s .long) (s .octets) (s .zeros ∙ e) ∙ sym e;
           octets = octets-nextVector v;
         }
 
@@ -76,7 +81,7 @@ starts-not-zero c v s = go (scrambles c) refl
     go false e = s .some e
 
 -- the next vector is no zeros, so 14 is not given
-not-zero-after : (c p : ℕ) (v : List ℕ) → VectorKept c (goingOn c v) → zeroAfter c p v ≡ false
+not-zero-after : (c p : ℕ) (v : List ℕ) → Sound c (goingOn c v) → zeroAfter c p v ≡ false
 unfolding zeroAfter goingOn
 not-zero-after c p v k = go (scrambles c) refl
   where
@@ -105,7 +110,7 @@ module _ (b : List ℕ) (c i : ℕ) (key : List ℕ) (h : HasKey b c i key) (lon
   some : 0 < sessionSlots c
   some = let l = slots-some c (key-ranged b c i key h) in omega arith
 
-  right-vector : (v : List ℕ) → VectorKept c v → vectorRight 1 c true (allZero v) ≡ true
+  right-vector : (v : List ℕ) → Sound c v → vectorRight 1 c true (allZero v) ≡ true
   unfolding vectorRight
   right-vector v kept = rw (kept .zeros) (go (scrambles c))
     where
@@ -113,7 +118,7 @@ module _ (b : List ℕ) (c i : ℕ) (key : List ℕ) (h : HasKey b c i key) (lon
       go true = refl
       go false = refl
 
-  spot-read : (v : List ℕ) → VectorKept c v → (p : ℕ) → p < sessionSlots c → standing (spot v p) ≡ sending c k p v
+  spot-read : (v : List ℕ) → Sound c v → (p : ℕ) → p < sessionSlots c → standing (spot v p) ≡ sending c k p v
   spot-read v kept p l =
       ap standing (spot-in v p l)
       ∙ read-written (sending c k p v) refl
@@ -127,8 +132,8 @@ module _ (b : List ℕ) (c i : ℕ) (key : List ℕ) (h : HasKey b c i key) (lon
 
     spot-voice : (p : ℕ) → p < sessionSlots c → (x : Said) → SaidKept x → voiceOf (spot v p) (x .mask) (x .spoken) ≡ (Done, (spot v (p + 1), out p x))
     spot-voice p l x s =
-        voice-sent (spot v p) (x .mask) (x .spoken) (s .mask) (s .frame .long) c k p v (spot-read v (sound .kept) p l)
-        (not-zero-after c p v (going-sound c v sound .kept))
+        voice-sent (spot v p) (x .mask) (x .spoken) (s .mask) (s .frame .long) c k p v (spot-read v sound p l)
+        (not-zero-after c p v (going-sound c v sound))
 
     abbrev made : ℕ → Said → List ℕ → Slot
     made p x f = record { mask = x .mask; spoken = x .spoken; sent = f; arrived = x .arrives }
@@ -177,10 +182,10 @@ module _ (b : List ℕ) (c i : ℕ) (key : List ℕ) (h : HasKey b c i key) (lon
   sessions-made : (v : List ℕ) → Sound c v → (xs : List Saying) → AllSaid xs → Full c (sessionsMade (from v) xs)
       → Each (SessionKept c key) (sessionsMade (from v) xs)
   sessions-made v a [] s f = tt
-  sessions-made v a (x ∷ []) s f = (record { vector = a .kept; slots = session-made v a x f (s .0) }, tt)
+  sessions-made v a (x ∷ []) s f = (record { vector = sound-kept c v a; slots = session-made v a x f (s .0) }, tt)
   sessions-made v a (x ∷ y ∷ ys) s f =
       let e = session-after v a x (f .0) (s .0) in (
-        record { vector = a .kept; slots = session-made v a x (omega (arith, f .0)) (s .0) },
+        record { vector = sound-kept c v a; slots = session-made v a x (omega (arith, f .0)) (s .0) },
         rw e (sessions-made (goingOn c v) (going-sound c v a) (y ∷ ys) (s .1) (rw e at (f .1))),
       )
 
@@ -190,9 +195,9 @@ module _ (b : List ℕ) (c i : ℕ) (key : List ℕ) (h : HasKey b c i key) (lon
       → nextVectorOf (written (sending c k p v)) lent ≡ (Done, afterwards (from v) (x .slots) .vector)
   unfolding nextVectorOf nextRefusals goingOn
   next-announced v a e p l lent h8 x f s =
-      let z : allZero (nextVector v) ≡ false = rw e at (going-sound c v a .kept .zeros) in
+      let z : allZero (nextVector v) ≡ false = rw e at (going-sound c v a .zeros) in
       let g : goingOn c v ≡ nextVector v = rw e in
-      rw (sym (spot-in v p l), spot-read v (a .kept) p l, eq-eqb _ _ h8, e, z)
+      rw (sym (spot-in v p l), spot-read v a p l, eq-eqb _ _ h8, e, z)
       (ap (λ (w : List ℕ). (Done, w)) (sym g) ∙ ap (λ (d : Call). (Done, d .vector)) (sym (session-after v a x f s)))
 
   -- ---- from the start

@@ -8,7 +8,6 @@ use lib.Dec.{leb}
 use lib.ListN.{length}
 use borrow.Author.Tests.{eq-eqb, eqb-true, le-ltb, lt-ltb, ltb-true, leb-true}
 use Rattle.ciphers.proofs.KeystreamLaws.{stream-rest}
-use Rattle.octets.proofs.ListLaws.{zeros-are}
 use Rattle.ciphers.proofs.Cases.{by-range}
 use Rattle.octets.specs.Tests.{pick}
 use Rattle.octets.specs.Lists.{allZero}
@@ -75,21 +74,18 @@ slots-some = by-range (λ n. superframeSlots ≤ sessionSlots n) (omega arith) (
 pub closed-read : standing noCall ≡ closed
 closed-read = read-written closed refl closed-good
 
--- a vector that keeps the rules is the session's own
-pub session-is : (c : ℕ) (v : List ℕ) → VectorKept c v → sessionVector c v ≡ v
-session-is c v k = go (scrambles c) refl
-  where
-    go : (t : Bool) → scrambles c ≡ t → pick t noVector v ≡ v
-    go true e = sym (zeros-are v 8 (k .long) (k .zeros ∙ e))
-    go false e = refl
+-- scramble's stream asks for no vector
+session-stream : (key v : List ℕ) (n c : ℕ) → (1 ≤ c) × (c ≤ 3) → stream c key (sessionVector c v) n ≡ stream c key v n
+unfolding stream
+session-stream key v n = by-range (λ c. stream c key (sessionVector c v) n ≡ stream c key v n) refl refl refl
 
 pub not-zero-for : (c : ℕ) (v : List ℕ) → VectorKept c v → zeroFor c v ≡ false
 unfolding zeroFor
-not-zero-for c v k = rw (k .zeros) (go (scrambles c))
+not-zero-for c v k = go (scrambles c) refl
   where
-    go : (t : Bool) → (not t && t) ≡ false
-    go true = refl
-    go false = refl
+    go : (t : Bool) → scrambles c ≡ t → (not t && allZero v) ≡ false
+    go true e = refl
+    go false e = k .some e
 
 -- joining stands where a receiver is after a superframe: scramble's session is over
 joined-at : (k v : List ℕ) (c : ℕ) → (1 ≤ c) × (c ≤ 3) → joined c k ≡ received c k superframeSlots (counts c false) (pick (counts c false) v noVector)
@@ -104,13 +100,13 @@ module _ (b : List ℕ) (c i : ℕ) (key : List ℕ) (h : HasKey b c i key) wher
 
   -- after p slots of a session with vector v, known or not; after the last it is in the next one
   abbrev pub place : Bool → List ℕ → ℕ → Call
-  place known v p = written (received c k p known (pick known v noVector))
+  place known v p = written (received c k p known (pick known (sessionVector c v) noVector))
 
   -- at the start of a session of which it was told nothing
   abbrev pub fresh : Call
   fresh = written (receiving c k 0 (scrambles c) noVector)
 
-  pub place-in : (known : Bool) (v : List ℕ) (p : ℕ) → p < sessionSlots c → place known v p ≡ written (receiving c k p known (pick known v noVector))
+  pub place-in : (known : Bool) (v : List ℕ) (p : ℕ) → p < sessionSlots c → place known v p ≡ written (receiving c k p known (pick known (sessionVector c v) noVector))
   unfolding received
   place-in known v p l = rw (lt-ltb _ _ l)
 
@@ -119,22 +115,22 @@ module _ (b : List ℕ) (c i : ℕ) (key : List ℕ) (h : HasKey b c i key) wher
   place-end known v p l = rw (le-ltb p (sessionSlots c) (omega arith))
 
   right-vector : (told : Bool) (v : List ℕ) → VectorKept c v
-      → vectorRight 2 c (counts c told) (allZero (pick (counts c told) v noVector)) ≡ true
+      → vectorRight 2 c (counts c told) (allZero (pick (counts c told) (sessionVector c v) noVector)) ≡ true
   unfolding vectorRight
   right-vector told v kept = go (scrambles c) refl told
     where
       go : (t : Bool) → scrambles c ≡ t → (told : Bool)
-          → pick t ((t || told) && allZero (pick (t || told) v noVector)) ((t || told) || allZero (pick (t || told) v noVector)) ≡ true
-      go true e told = kept .zeros ∙ e
+          → pick t ((t || told) && allZero (pick (t || told) (pick t noVector v) noVector)) ((t || told) || allZero (pick (t || told) (pick t noVector v) noVector)) ≡ true
+      go true e told = no-vector-zero
       go false e true = refl
       go false e false = no-vector-zero
 
   pub place-read : (told : Bool) (v : List ℕ) → VectorKept c v → (p : ℕ) → p < sessionSlots c
-      → standing (place (counts c told) v p) ≡ receiving c k p (counts c told) (pick (counts c told) v noVector)
+      → standing (place (counts c told) v p) ≡ receiving c k p (counts c told) (pick (counts c told) (sessionVector c v) noVector)
   place-read told v kept p l =
       ap standing (place-in (counts c told) v p l)
-      ∙ read-written (receiving c k p (counts c told) (pick (counts c told) v noVector)) refl
-      (good-open 2 c k p (pick (counts c told) v noVector) (counts c told) (omega arith) (omega arith) (has-key-right b c i key h) l (right-vector told v kept))
+      ∙ read-written (receiving c k p (counts c told) (pick (counts c told) (sessionVector c v) noVector)) refl
+      (good-open 2 c k p (pick (counts c told) (sessionVector c v) noVector) (counts c told) (omega arith) (omega arith) (has-key-right b c i key h) l (right-vector told v kept))
 
   -- ---- a slot
 
@@ -150,14 +146,15 @@ module _ (b : List ℕ) (c i : ℕ) (key : List ℕ) (h : HasKey b c i key) wher
     pub place-heard : (told : Bool) (v : List ℕ) → VectorKept c v → counts c told ≡ true → (p : ℕ) → p < sessionSlots c → (x : Slot) → SlotKept (stream c key v) p x
         → voiceOf (place (counts c told) v p) (x .mask) (x .sent) ≡ (Done, (place (counts c told) v (p + 1), x .spoken))
     place-heard told v kept e p l x s =
-        voice-heard (place (counts c told) v p) (x .mask) (x .sent) (s .mask) (s .sent .long) c k p v
-        (place-read told v kept p l ∙ ap (λ (t : Bool). receiving c k p t (pick t v noVector)) e)
+        voice-heard (place (counts c told) v p) (x .mask) (x .sent) (s .mask) (s .sent .long) c k p (sessionVector c v)
+        (place-read told v kept p l ∙ ap (λ (t : Bool). receiving c k p t (pick t (sessionVector c v) noVector)) e)
         ∙ ap (λ (f : List ℕ). (Done, (place true v (p + 1), f))) opened
         ∙ ap (λ (t : Bool). (Done, (place t v (p + 1), x .spoken))) (sym e)
       where
-        opened : protect (ofSlot (stream c k v) p) (x .mask) (x .sent) ≡ x .spoken
+        opened : protect (ofSlot (stream c k (sessionVector c v)) p) (x .mask) (x .sent) ≡ x .spoken
         opened =
-            protect-same (ofSlot (stream c k v) p) (ofSlot (stream c key v) p) (x .mask) (λ n r. same-stream v (196 * p + n)) (x .sent)
+            protect-same (ofSlot (stream c k (sessionVector c v)) p) (ofSlot (stream c key v) p) (x .mask)
+            (λ n r. session-stream k v (196 * p + n) c (key-ranged b c i key h) ∙ same-stream v (196 * p + n)) (x .sent)
             ∙ ap (protect (ofSlot (stream c key v) p) (x .mask)) (air-protected (stream c key v) p x s)
             ∙ protect-twice (ofSlot (stream c key v) p) (x .mask) (x .spoken) (s .spoken)
 
@@ -165,7 +162,7 @@ module _ (b : List ℕ) (c i : ℕ) (key : List ℕ) (h : HasKey b c i key) wher
       → voiceOf (place (counts c told) v p) (x .mask) (x .sent) ≡ (Held, (place (counts c told) v (p + 1), x .sent))
   place-held told v kept e p l ks x s =
       voice-held (place (counts c told) v p) (x .mask) (x .sent) (s .mask) (s .sent .long) c k p noVector
-      (place-read told v kept p l ∙ ap (λ (t : Bool). receiving c k p t (pick t v noVector)) e)
+      (place-read told v kept p l ∙ ap (λ (t : Bool). receiving c k p t (pick t (sessionVector c v) noVector)) e)
       ∙ ap (λ (t : Bool). (Held, (place t v (p + 1), x .sent))) (sym e)
 
   -- ---- how it comes in, and what it is told
@@ -177,15 +174,14 @@ module _ (b : List ℕ) (c i : ℕ) (key : List ℕ) (h : HasKey b c i key) wher
   unfolding openOf openRefusals vectorRefusals keyRefusals
   place-opened v kept =
       rw (closed-read, eq-eqb _ _ (kept .long), eq-eqb _ _ (good-sized b (h .good)), key-named b c i key h, h .good, h .there, h .ready, not-zero-for c v kept)
-      (ap (λ (w : List ℕ). (Done, written (receiving c k 0 true w))) (session-is c v kept)
-      ∙ ap (λ (d : Call). (Done, d)) (sym (place-in true v 0 some))
+      (ap (λ (d : Call). (Done, d)) (sym (place-in true v 0 some))
       ∙ ap (λ (t : Bool). (Done, place t v 0)) (sym (or-true (scrambles c))))
 
   pub place-joined : (v : List ℕ) → joinOf noCall c i b ≡ (Done, place (counts c false) v superframeSlots)
   unfolding joinOf joinRefusals keyRefusals
   place-joined v =
       rw (closed-read, eq-eqb _ _ (good-sized b (h .good)), key-named b c i key h, h .good, h .there, h .ready)
-      (ap (λ (s : Standing). (Done, written s)) (joined-at k v c (key-ranged b c i key h)))
+      (ap (λ (s : Standing). (Done, written s)) (joined-at k (sessionVector c v) c (key-ranged b c i key h)))
 
   fresh-read : standing fresh ≡ receiving c k 0 (scrambles c) noVector
   fresh-read =
@@ -194,7 +190,7 @@ module _ (b : List ℕ) (c i : ℕ) (key : List ℕ) (h : HasKey b c i key) wher
 
   announced : (v : List ℕ) → VectorKept c v → scrambles c ≡ false → announceOf fresh v ≡ (Done, written (receiving c k 0 true v))
   unfolding announceOf announceRefusals
-  announced v kept e = rw (fresh-read, eq-eqb _ _ (kept .long), kept .zeros, e)
+  announced v kept e = rw (fresh-read, eq-eqb _ _ (kept .long), kept .some e, e)
 
   -- as a session starts: told of its vector, if the announcement arrived
   pub place-started : (told : Bool) (v : List ℕ) → VectorKept c v → started ours (not (scrambles c) && told) v fresh ≡ place (counts c told) v 0
@@ -203,7 +199,9 @@ module _ (b : List ℕ) (c i : ℕ) (key : List ℕ) (h : HasKey b c i key) wher
       go : (t : Bool) → scrambles c ≡ t → (told : Bool) → started ours (not t && told) v fresh ≡ place (t || told) v 0
       go true e told =
           ap (λ (t : Bool). written (receiving c k 0 t noVector)) e
-          ∙ ap (λ (w : List ℕ). written (receiving c k 0 true w)) (sym (zeros-are v 8 (kept .long) (kept .zeros ∙ e)))
+          ∙ ap (λ (t : Bool). written (receiving c k 0 true (pick t noVector v))) (sym e)
           ∙ sym (place-in true v 0 some)
-      go false e true = ap (λ (o : Answer × Call). o .1) (announced v kept e) ∙ sym (place-in true v 0 some)
+      go false e true =
+          ap (λ (o : Answer × Call). o .1) (announced v kept e) ∙ ap (λ (t : Bool). written (receiving c k 0 true (pick t noVector v))) (sym e)
+          ∙ sym (place-in true v 0 some)
       go false e false = ap (λ (t : Bool). written (receiving c k 0 t noVector)) e ∙ sym (place-in false v 0 some)

@@ -27,7 +27,7 @@ use Rattle.demands.specs.Marked.{key0001}
 use Rattle.demands.specs.History.{Slot, Session, Talk, opening, joining, SlotKept, VectorKept, SessionKept, Full, Kept}
 use Rattle.demands.specs.Log.{Receiver, counts, sessionsLog, talkLog}
 use Rattle.demands.specs.Demand3.{Right, Meets3}
-use Rattle.demands.specs.Others.{refusesAll, holdsAll, fixed, leavesAll, upTo, upToSlots, upToSession, fourOn, atOnce, Sending, turning, identity, restarting}
+use Rattle.demands.specs.Others.{upTo, upToSlots, upToSession, fourOn, atOnce, Sending, turning, identity, restarting}
 use Rattle.demands.proofs.Standing.{place, place-read, place-lost, place-opened}
 use Rattle.demands.proofs.Samples.{keyABCD, twoKeys, has-scramble, has-des, silence, silence-frame, click, click-frame, saying, quiet, saying-kept, quiet-kept, no-vector-kept, seed-kept}
 
@@ -55,25 +55,32 @@ not-silent e =
     let z : _≡_ {A = ℕ} 128 0 = ap (λ (xs : List ℕ). getD xs 0 0) e in
     omega arith
 
-pub refusesAll-fails : (a : Answer) → 2 ≤ numberOf a → Meets3 (refusesAll a) → ⊥
-refusesAll-fails a h m =
-    let z : numberOf a ≡ 0 = one-slot (refusesAll a) m silence silent-kept .0 .handed refl in
-    omega arith
+module _ (R : Receiver) where
+  abbrev begun : R .State
+  begun = R .hear 1 0 noVector twoKeys (R .idle) .1
 
-pub holdsAll-fails : Meets3 holdsAll → ⊥
-holdsAll-fails m =
-    let z : _≡_ {A = ℕ} 1 0 = one-slot holdsAll m silence silent-kept .0 .handed refl in
-    omega arith
+  -- it opens no slot: it refuses all, or holds all
+  pub never-opens-fails : ((mask : ℕ) (frame : List ℕ) (s : R .State) → 1 ≤ numberOf (R .voice mask frame s .0)) → Meets3 R → ⊥
+  never-opens-fails h m =
+      let z : numberOf (R .voice 1 (turning ks 0 1 silence) begun .0) ≡ 0 = one-slot R m silence silent-kept .0 .handed refl in
+      let l = h 1 (turning ks 0 1 silence) begun in
+      omega arith
 
-pub fixed-fails : (g : List ℕ) → Meets3 (fixed g) → ⊥
-fixed-fails g m =
-    let a : word 0 g ≡ word 0 silence = one-slot (fixed g) m silence silent-kept .0 .opened refl 0 (omega arith) refl in
-    let b : word 0 g ≡ word 0 click = one-slot (fixed g) m click (saying-kept click click-frame ks 0 true) .0 .opened refl 0 (omega arith) refl in
-    let z : _≡_ {A = ℕ} 0 1 = ap (λ (xs : List ℕ). getD xs 0 0) (sym a ∙ b) in
-    omega arith
+  -- it leaves one frame, whatever came
+  pub fixed-fails : (g : List ℕ) → ((mask : ℕ) (frame : List ℕ) (s : R .State) → R .voice mask frame s .1 .1 ≡ g) → Meets3 R → ⊥
+  fixed-fails g h m =
+      let r = one-slot R m silence silent-kept .0 in
+      let q = one-slot R m click (saying-kept click click-frame ks 0 true) .0 in
+      let a : word 0 g ≡ word 0 silence = ap (word 0) (sym (h 1 (turning ks 0 1 silence) begun)) ∙ r .opened (r .handed refl) 0 (omega arith) refl in
+      let b : word 0 g ≡ word 0 click = ap (word 0) (sym (h 1 (turning ks 0 1 click) begun)) ∙ q .opened (q .handed refl) 0 (omega arith) refl in
+      let z : _≡_ {A = ℕ} 0 1 = ap (λ (xs : List ℕ). getD xs 0 0) (sym a ∙ b) in
+      omega arith
 
-pub leavesAll-fails : Meets3 leavesAll → ⊥
-leavesAll-fails m = not-silent (one-slot leavesAll m silence silent-kept .0 .opened refl 0 (omega arith) refl)
+  -- it leaves speech as it came
+  pub leaves-fails : ((mask : ℕ) (frame : List ℕ) (s : R .State) → R .voice mask frame s .1 .1 ≡ frame) → Meets3 R → ⊥
+  leaves-fails h m =
+      let r = one-slot R m silence silent-kept .0 in
+      not-silent (ap (word 0) (sym (h 1 (turning ks 0 1 silence) begun)) ∙ r .opened (r .handed refl) 0 (omega arith) refl)
 
 -- ---- any other for its first slots: sessions of which every slot is lost, as many as may be, and one more slot
 

@@ -61,10 +61,10 @@ abbrev pub SlotsKept : (ℕ → ℕ) → ℕ → List Slot → Type 0
 SlotsKept ks p [] = Unit {0}
 SlotsKept ks p (x ∷ xs) = SlotKept ks p x × SlotsKept ks (suc p) xs
 
--- eight octets: a scramble session has no vector, which is kept as zeros; any other's is not all zero
+-- eight octets, for DES and AES not all zero; scramble ignores them
 pub record VectorKept (c : ℕ) (v : List ℕ) : Type 0 where
   pub long : length v ≡ vectorOctets
-  pub zeros : allZero v ≡ scrambles c
+  pub some : scrambles c ≡ false → allZero v ≡ false
 
 pub record SessionKept (c : ℕ) (key : List ℕ) (x : Session) : Type 0 where
   pub vector : VectorKept c (x .vector)

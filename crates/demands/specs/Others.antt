@@ -4,7 +4,6 @@ use Prim.Native.Nat.{ℕ, suc}
 use lib.Dec.{ltb}
 use Rattle.octets.specs.Tests.{pick}
 use Rattle.answers.specs.declared.Answer.{Answer}
-use Rattle.answers.specs.declared.Answer.the-variants.{Done, Held}
 use Rattle.ciphers.specs.Numbers.{sessionSlots}
 use Rattle.voice.specs.declared.call.Call.{Call}
 use Rattle.voice.specs.Frame.{ofSlot, protect}
@@ -13,38 +12,6 @@ use Rattle.voice.specs.Opening.{openOf}
 use Rattle.voice.specs.Slot.{lostOf, voiceOf}
 use Rattle.voice.specs.Vector.{announceOf}
 use Rattle.demands.specs.Log.{Receiver}
-
--- ---- receivers that keep nothing: one answer to every voice slot, and one way with its frame
-
-abbrev pub always : Answer → Answer → (List ℕ → List ℕ) → Receiver
-always other answer f =
-    record {
-      State = Unit {0};
-      idle = tt;
-      hear = λ c i v b s. (other, tt);
-      join = λ c i b s. (other, tt);
-      voice = λ mask frame s. (answer, (tt, f frame));
-      lost = λ s. (other, tt);
-      announce = λ v s. (other, tt);
-    }
-
-abbrev pub asItCame : List ℕ → List ℕ
-asItCame frame = frame
-
--- it refuses all, by this answer
-abbrev pub refusesAll : Answer → Receiver
-refusesAll a = always a a asItCame
-
-abbrev pub holdsAll : Receiver
-holdsAll = always Done Held asItCame
-
--- it answers 0 with this frame
-abbrev pub fixed : List ℕ → Receiver
-fixed g = always Done Done (λ frame. g)
-
--- it answers 0 and leaves speech as it came
-abbrev pub leavesAll : Receiver
-leavesAll = always Done Done asItCame
 
 -- ---- a receiver that is any other for its first slots, and then only moves its position
 
