@@ -115,14 +115,12 @@ word-done =
     ap (λ (c : Call). numberOf (voiceOf c 15 silence .0)) is-open
     ∙ ap (λ (r : Answer × (Call × List ℕ)). numberOf (r .0)) (voice-heard told 15 silence (omega arith) refl 2 desABCD 0 seed told-stands)
 
-pub word-turned : WordsTurned (history opening-call) 0 15 silence (step (deviceAfter opening-call) (OfCall 0 (Voice 15 silence)) .1 .1)
+pub word-turned : WordsTurned (history opening-call) 0 (deviceAfter opening-call .calls 0) 15 silence (step (deviceAfter opening-call) (OfCall 0 (Voice 15 silence)) .1 .1)
 word-turned = ours-meets-1 .words opening-call 0 15 silence word-done
 
--- and under no other key
-pub word-key : (frame : List ℕ) (t : WordsTurned (history opening-call) 0 15 silence frame) → (t .cipher ≡ 2) × (t .key ≡ desABCD)
-word-key frame t =
-    one-key-call 0 (history opening-call) (t .cipher) 2 (t .key) desABCD (t .loaded)
-    (subst (Held theCalls 0 (history opening-call)) is-open (calls-loaded opening-call 0) (λ z. omega arith))
+-- and under this key
+pub word-key : deviceAfter opening-call .calls 0 .key ≡ desABCD
+word-key = ap (λ (c : Call). c .key) is-open
 
 -- ---- and a packet
 
@@ -157,10 +155,8 @@ message-is-done =
     ap (λ (p : Packet). numberOf (messageOf p blanks .0)) is-opened
     ∙ sym (ap (λ (r : Answer × (Packet × List ℕ)). numberOf (r .0)) (message-done dcalls blanks dcalls-go refl))
 
-pub message-turned : MessageTurned (history opening-packet) 0 blanks (step (deviceAfter opening-packet) (OfPacket 0 (Message blanks)) .1 .1)
+pub message-turned : MessageTurned (history opening-packet) 0 (deviceAfter opening-packet .packets 0) blanks (step (deviceAfter opening-packet) (OfPacket 0 (Message blanks)) .1 .1)
 message-turned = ours-meets-1 .messages opening-packet 0 blanks message-is-done
 
-pub message-key : (octets : List ℕ) (t : MessageTurned (history opening-packet) 0 blanks octets) → (t .cipher ≡ 2) × (t .key ≡ desABCD)
-message-key octets t =
-    one-key-packet 0 (history opening-packet) (t .cipher) 2 (t .key) desABCD (t .loaded)
-    (subst (Held thePackets 0 (history opening-packet)) is-opened (packets-loaded opening-packet 0) (λ z. omega arith))
+pub message-key : deviceAfter opening-packet .packets 0 .key ≡ desABCD
+message-key = ap (λ (p : Packet). p .key) is-opened

@@ -18,3 +18,4 @@ pub mod PacketsLoaded
 pub mod Meets1
 pub mod ThrownOut1
 pub mod Instance1
+pub mod ThrownOut2

@@ -27,30 +27,21 @@ unfolding noKey
 no-key b c i l = refused-ready-no-key b c i (λ e. omega (arith, ap numberOf e))
 
 words : (os : List Operation) (n mask : ℕ) (frame : List ℕ) → numberOf (step (deviceAfter os) (OfCall n (Voice mask frame)) .0) ≡ 0
-    → WordsTurned (history os) n mask frame (step (deviceAfter os) (OfCall n (Voice mask frame)) .1 .1)
+    → WordsTurned (history os) n (deviceAfter os .calls n) mask frame (step (deviceAfter os) (OfCall n (Voice mask frame)) .1 .1)
 unfolding step callStep
 words os n mask frame z =
     let c : Call = deviceAfter os .calls n in
     record {
-      cipher = c .cipher;
-      key = c .key;
-      position = c .position;
-      vector = c .vector;
       turned = done-turned stream c mask frame z;
       loaded = calls-loaded os n (none-open c mask frame (voice-taken stream c mask frame (omega arith)));
     }
 
 messages : (os : List Operation) (n : ℕ) (message : List ℕ) → numberOf (step (deviceAfter os) (OfPacket n (Message message)) .0) ≡ 0
-    → MessageTurned (history os) n message (step (deviceAfter os) (OfPacket n (Message message)) .1 .1)
-unfolding step packetStep messageTurned
+    → MessageTurned (history os) n (deviceAfter os .packets n) message (step (deviceAfter os) (OfPacket n (Message message)) .1 .1)
+unfolding step packetStep
 messages os n message z =
     let p : Packet = deviceAfter os .packets n in
     record {
-      kind = p .kind;
-      cipher = p .cipher;
-      key = p .key;
-      count = p .count;
-      vector = p .vector;
       turned = ap (λ (r : Packet × List ℕ). r .1) (bits.done-turned p message z);
       loaded = packets-loaded os n (open-some p (done-open p message z));
     }

@@ -49,7 +49,7 @@ module _ (packet : Packet) (message : List ℕ) (z : numberOf (messageOf packet 
       subst Octets (sym (ap (λ (r : Packet × List ℕ). r .1) (bits.done-turned packet message z)))
       (bits.turned-octets packet message (open-kind packet (bits.done-open packet message z)) (bits.done-long packet message z) o)
 
-pub ours-meets-2 : Demand2
+pub ours-meets-2 : Demand2 voiceOf messageOf
 ours-meets-2 =
     record {
       keystreams = keystreams;

@@ -40,7 +40,7 @@ unfinished ((OfBook o, a) ∷ h) n c i = go o (n .0) (unfinished h (n .1) c i)
     go : (o : book.Operation) → (isDone a && isFinish o) ≡ false → book.finished (keyOperations h) c i ≡ false
         → pick (isDone a && book.names c i o) (book.finishes o (book.finished (keyOperations h) c i)) (book.finished (keyOperations h) c i) ≡ false
     go (book.Begin d j) e f = either-false (isDone a && book.names c i (book.Begin d j)) refl f
-    go (book.Add d j xs) e f = either-false (isDone a && book.names c i (book.Add d j xs)) f f
+    go (book.Add d j xs) e f = either-false (isDone a && book.names c i (book.Add d j xs)) refl f
     go (book.Finish d j) e f = rw (sym (and-true (isDone a)) ∙ e) f
     go (book.Erase d j) e f = either-false (isDone a && book.names c i (book.Erase d j)) refl f
 unfinished ((OfCall m o, a) ∷ h) n c i = unfinished h (n .1) c i
@@ -61,12 +61,12 @@ module _ (os : List Operation) (none : NoneDone finishing (history os)) (n : ℕ
   pub no-word : (mask : ℕ) (frame : List ℕ) → numberOf (step (deviceAfter os) (OfCall n (Voice mask frame)) .0) ≡ 0 → ⊥
   no-word mask frame z =
       let t = ours-meets-1 .words os n mask frame z in
-      unfinished-loads-none (OpensCall n) (renewsCall n) (history os) (t .cipher) (t .key) none (t .loaded)
+      unfinished-loads-none (OpensCall n) (renewsCall n) (history os) (deviceAfter os .calls n .cipher) (deviceAfter os .calls n .key) none (t .loaded)
 
   pub no-message : (message : List ℕ) → numberOf (step (deviceAfter os) (OfPacket n (Message message)) .0) ≡ 0 → ⊥
   no-message message z =
       let t = ours-meets-1 .messages os n message z in
-      unfinished-loads-none (OpensPacket n) (renewsPacket n) (history os) (t .cipher) (t .key) none (t .loaded)
+      unfinished-loads-none (OpensPacket n) (renewsPacket n) (history os) (deviceAfter os .packets n .cipher) (deviceAfter os .packets n .key) none (t .loaded)
 
 -- version one: half a key is added, the finish is refused, and a call is opened all the same
 pub version-one : (c : ℕ) (k half w : List ℕ)

@@ -6,7 +6,6 @@ use mathlib.Core.Bool.{Bool, true, false, _&&_}
 use Prim.Native.Nat.{ℕ, _≤_}
 use lib.Dec.{eqb}
 use lib.ListN.{replicate}
-use Rattle.octets.specs.Turn.{turnedIn}
 use Rattle.answers.specs.declared.Answer.the-variants.{Done}
 use Rattle.answers.specs.Numbers.{numberOf, isDone}
 use Rattle.ciphers.specs.Keystream.{stream}
@@ -15,8 +14,9 @@ use Rattle.keybook.specs.Operations.{readyKeyOf}
 use Rattle.keybook.specs.History as book
 use Rattle.keybook.specs.History.{Told}
 use Rattle.voice.specs.Frame.{ofSlot, protect}
-use Rattle.data.specs.Kinds.{headOctets, protectedOctets, protectedBits}
-use Rattle.data.specs.Message.{ofMessage}
+use Rattle.voice.specs.declared.call.Call.{Call}
+use Rattle.data.specs.declared.packet.Packet.{Packet}
+use Rattle.data.specs.Message.{messageTurned}
 use Rattle.demands.specs.Device.{Device, CallOperation, Open, Start, Join, Voice, Lost, End, Announce, NextVector, PacketOperation, OpenPacket, Message, LostMessage, EndPacket, Operation, OfBook, OfCall, OfPacket, lent, step, History, deviceAfter, history, keyOperations}
 
 -- ---- a refusal changes nothing
@@ -83,24 +83,15 @@ pub record Loaded (opens : ℕ → ℕ → Operation → Type 0) (renews : Opera
   pub still-stands : NoneDone renews since
   pub told : Told (keyOperations before) c id k
 
--- a word: the frame after a slot that was done is turned under a key k that was loaded, at some position and vector
-pub record WordsTurned (h : History) (n mask : ℕ) (frame after : List ℕ) : Type 0 where
-  pub cipher : ℕ
-  pub key : List ℕ
-  pub position : ℕ
-  pub vector : List ℕ
-  pub turned : after ≡ protect (ofSlot (stream cipher key vector) position) mask frame
-  pub loaded : Loaded (OpensCall n) (renewsCall n) h cipher key
+-- a word: the frame after a slot that was done is turned by the keystream of the call as it stood, and its key was loaded
+pub record WordsTurned (h : History) (n : ℕ) (c : Call) (mask : ℕ) (frame after : List ℕ) : Type 0 where
+  pub turned : after ≡ protect (ofSlot (stream (c .cipher) (c .key) (c .vector)) (c .position)) mask frame
+  pub loaded : Loaded (OpensCall n) (renewsCall n) h (c .cipher) (c .key)
 
 -- a message
-pub record MessageTurned (h : History) (n : ℕ) (message after : List ℕ) : Type 0 where
-  pub kind : ℕ
-  pub cipher : ℕ
-  pub key : List ℕ
-  pub count : ℕ
-  pub vector : List ℕ
-  pub turned : after ≡ turnedIn headOctets (protectedOctets kind) (protectedBits kind) (ofMessage (stream cipher key vector) kind count) message
-  pub loaded : Loaded (OpensPacket n) (renewsPacket n) h cipher key
+pub record MessageTurned (h : History) (n : ℕ) (p : Packet) (message after : List ℕ) : Type 0 where
+  pub turned : after ≡ messageTurned p message
+  pub loaded : Loaded (OpensPacket n) (renewsPacket n) h (p .cipher) (p .key)
 
 -- ---- the demand
 
@@ -115,6 +106,6 @@ pub record Demand1 : Type 0 where
   pub keys-apart : (d : Device) (o : book.Operation) (n : ℕ) → (step d (OfBook o) .1 .0 .calls n ≡ d .calls n) × (step d (OfBook o) .1 .0 .packets n ≡ d .packets n)
   -- over every list of operations from an all-zero book with no call and no packet: whenever words are turned, and whenever a message is
   pub words : (os : List Operation) (n mask : ℕ) (frame : List ℕ) → numberOf (step (deviceAfter os) (OfCall n (Voice mask frame)) .0) ≡ 0
-      → WordsTurned (history os) n mask frame (step (deviceAfter os) (OfCall n (Voice mask frame)) .1 .1)
+      → WordsTurned (history os) n (deviceAfter os .calls n) mask frame (step (deviceAfter os) (OfCall n (Voice mask frame)) .1 .1)
   pub messages : (os : List Operation) (n : ℕ) (message : List ℕ) → numberOf (step (deviceAfter os) (OfPacket n (Message message)) .0) ≡ 0
-      → MessageTurned (history os) n message (step (deviceAfter os) (OfPacket n (Message message)) .1 .1)
+      → MessageTurned (history os) n (deviceAfter os .packets n) message (step (deviceAfter os) (OfPacket n (Message message)) .1 .1)

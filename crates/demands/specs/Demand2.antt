@@ -13,13 +13,12 @@ use Rattle.des.specs.Des.{des}
 use Rattle.aes.specs.Cipher.{aes}
 use Rattle.generator.specs.Generator.{nextVector}
 use Rattle.ciphers.specs.Keystream.{stream}
+use Rattle.answers.specs.declared.Answer.{Answer}
 use Rattle.answers.specs.Numbers.{numberOf}
 use Rattle.voice.specs.declared.call.Call.{Call}
 use Rattle.voice.specs.Frame.{IsFrame, has}
-use Rattle.voice.specs.Slot.{voiceOf}
 use Rattle.data.specs.declared.packet.Packet.{Packet}
 use Rattle.data.specs.Kinds.{protectedBits}
-use Rattle.data.specs.Message.{messageOf}
 
 -- bit n of a session: the sequence P for scramble; output feedback for DES over the vector and for AES over the vector and L of it, where each block is the
 -- encipherment of the one before, the first is not used, and bits are taken most significant first
@@ -28,41 +27,48 @@ pub record Keystreams : Type 0 where
   pub des-bit : (key vector : List ℕ) (n : ℕ) → stream 2 key vector n ≡ bit (iterate (des key) (n / 64 + 2) vector) (n % 64)
   pub aes-bit : (key vector : List ℕ) (n : ℕ) → stream 3 key vector n ≡ bit (iterate (aes key) (n / 128 + 2) (vector ++ nextVector vector)) (n % 128)
 
+-- what a slot, and a message, answers and leaves
+abbrev pub OnSlot : Type 0
+OnSlot = Call → ℕ → List ℕ → Answer × (Call × List ℕ)
+
+abbrev pub OnMessage : Type 0
+OnMessage = Packet → List ℕ → Answer × (Packet × List ℕ)
+
 -- a slot of a call at either end: bit j of word w
-module _ (call : Call) (mask : ℕ) (frame : List ℕ) where
+module _ (voice : OnSlot) (call : Call) (mask : ℕ) (frame : List ℕ) where
   abbrev frameAfter : List ℕ
-  frameAfter = voiceOf call mask frame .1 .1
+  frameAfter = voice call mask frame .1 .1
 
   pub record VoiceBits : Type 0 where
     -- done: a speech bit of a word in the mask is turned by keystream bit 196 p + 49 w + j
-    pub turned : numberOf (voiceOf call mask frame .0) ≡ 0 → (w j : ℕ) → w < 4 → j < 49 → has mask w ≡ true
+    pub turned : numberOf (voice call mask frame .0) ≡ 0 → (w j : ℕ) → w < 4 → j < 49 → has mask w ≡ true
         → bit frameAfter (56 * w + j) ≡ flip (bit frame (56 * w + j)) (stream (call .cipher) (call .key) (call .vector) (196 * call .position + 49 * w + j))
     -- the last seven bits of a word, and words not in the mask, stay as they came
-    pub stays : numberOf (voiceOf call mask frame .0) ≡ 0 → (w j : ℕ) → w < 4 → j < 56 → ((49 ≤ j) ⊎ (has mask w ≡ false))
+    pub stays : numberOf (voice call mask frame .0) ≡ 0 → (w j : ℕ) → w < 4 → j < 56 → ((49 ≤ j) ⊎ (has mask w ≡ false))
         → bit frameAfter (56 * w + j) ≡ bit frame (56 * w + j)
     -- it is 28 octets, so that its bits are all of it
-    pub whole : numberOf (voiceOf call mask frame .0) ≡ 0 → IsFrame frameAfter
+    pub whole : numberOf (voice call mask frame .0) ≡ 0 → IsFrame frameAfter
     -- not done, held or refused: the whole frame
-    pub as-it-came : 1 ≤ numberOf (voiceOf call mask frame .0) → frameAfter ≡ frame
+    pub as-it-came : 1 ≤ numberOf (voice call mask frame .0) → frameAfter ≡ frame
 
 -- a message of a packet, sent or received: bit k
-module _ (packet : Packet) (message : List ℕ) where
+module _ (send : OnMessage) (packet : Packet) (message : List ℕ) where
   abbrev messageAfter : List ℕ
-  messageAfter = messageOf packet message .1 .1
+  messageAfter = send packet message .1 .1
 
   pub record DataBits : Type 0 where
     -- done: from octet 2 on the protected bits are turned, message n from keystream bit n times their number on
-    pub turned : numberOf (messageOf packet message .0) ≡ 0 → (k : ℕ) → k < protectedBits (packet .kind)
+    pub turned : numberOf (send packet message .0) ≡ 0 → (k : ℕ) → k < protectedBits (packet .kind)
         → bit messageAfter (16 + k)
         ≡ flip (bit message (16 + k)) (stream (packet .cipher) (packet .key) (packet .vector) (protectedBits (packet .kind) * packet .count + k))
     -- octets 0 and 1, and what lies past the protected bits, stay as they came
-    pub stays : numberOf (messageOf packet message .0) ≡ 0 → (k : ℕ) → ((k < 16) ⊎ (16 + protectedBits (packet .kind) ≤ k)) → bit messageAfter k ≡ bit message k
+    pub stays : numberOf (send packet message .0) ≡ 0 → (k : ℕ) → ((k < 16) ⊎ (16 + protectedBits (packet .kind) ≤ k)) → bit messageAfter k ≡ bit message k
     -- it is as many octets as it was, so that its bits are all of it
-    pub whole : numberOf (messageOf packet message .0) ≡ 0 → (length messageAfter ≡ length message) × (Octets message → Octets messageAfter)
+    pub whole : numberOf (send packet message .0) ≡ 0 → (length messageAfter ≡ length message) × (Octets message → Octets messageAfter)
     -- not done: the whole message
-    pub as-it-came : 1 ≤ numberOf (messageOf packet message .0) → messageAfter ≡ message
+    pub as-it-came : 1 ≤ numberOf (send packet message .0) → messageAfter ≡ message
 
-pub record Demand2 : Type 0 where
+pub record Demand2 (onSlot : OnSlot) (onMessage : OnMessage) : Type 0 where
   pub keystreams : Keystreams
-  pub voice : (call : Call) (mask : ℕ) (frame : List ℕ) → VoiceBits call mask frame
-  pub messages : (packet : Packet) (message : List ℕ) → DataBits packet message
+  pub voice : (call : Call) (mask : ℕ) (frame : List ℕ) → VoiceBits onSlot call mask frame
+  pub messages : (packet : Packet) (message : List ℕ) → DataBits onMessage packet message

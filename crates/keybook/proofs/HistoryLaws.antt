@@ -22,12 +22,15 @@ use Rattle.keyentry.specs.Entry.{cipherIn, isReady, keyRoom, keyIn, keyLoaded, 
 use Rattle.keyentry.proofs.WriteLaws.{named-used, loaded-count, ready-whole}
 use Rattle.keybook.specs.Book.{entries, bookOctets, entryOf, findEntry, bookRefusals}
 use Rattle.keybook.specs.Operations.{has, entryFor, withFor, beginRefusals, beginAfter, beginOf, addRefusals, addOf, finishRefusals, finishOf, eraseRefusals, eraseOf, noKey, notReady, readyRefusals, readyKeyOf}
-use Rattle.keybook.specs.History.{Operation, Begin, Add, Finish, Erase, names, finishes, added, finished, step, bookAfter, history, padded, Told}
+use Rattle.keybook.specs.History.{Operation, Begin, Add, Finish, Erase, names, finishes, begun, added, finished, step, bookAfter, history, padded, Told}
 use Rattle.keybook.proofs.GoodLaws.{good-sized}
 use Rattle.keybook.proofs.OperationLaws.{named-by}
 use Rattle.keybook.proofs.DoneLaws.{handed, begin-never-done, add-never-done, finish-never-done, erase-never-done}
 use Rattle.keybook.proofs.FindLaws.{none-there}
-use Rattle.keybook.proofs.HoldLaws.{always-good, Holds, holds-what-was-told, key-padded, same-names}
+use Rattle.keybook.proofs.HoldLaws.{always-good, Holds, name-test, holds-what-was-told, key-padded, same-names}
+
+own-name : (c i : ℕ) → (eqb c c && eqb i i) ≡ true
+own-name c i = rw (eq-eqb c c refl, eq-eqb i i refl)
 
 -- a key is handed out only if the history tells of it
 pub ready-only-if-told : (os : List Operation) (c i : ℕ) (k : List ℕ) → readyKeyOf (bookAfter os) c i ≡ (Done, k) → Told (history os) c i k
@@ -41,6 +44,7 @@ ready-only-if-told os c i k q =
     let p = key-padded e (t .long) u in
     let m = loaded-count e (t .long) (omega (arith, u .count, key-at-most (cipherIn e))) in
     record {
+      is-begun = sym (h .there) ∙ name-test e c i (t .cipher) (t .id) ∙ own-name c i;
       is-finished = sym (h .ready) ∙ d .ready;
       is-added = d .is ∙ p ∙ ap padded (h .octets);
       is-whole = ap length (sym (h .octets)) ∙ m ∙ w .full ∙ ap keyOctets (t .cipher);
@@ -94,7 +98,7 @@ module _ (os : List Operation) (c i : ℕ) (f : finished (history os) c i ≡ tr
   in-range : named c i ≡ true
   in-range = finished-named os c i f
 
-  held : Holds (bookAfter os) c i (added (history os) c i) (finished (history os) c i)
+  held : Holds (bookAfter os) c i (begun (history os) c i) (added (history os) c i) (finished (history os) c i)
   held = holds-what-was-told os c i (named-used c i in-range)
 
   is-there : findEntry (bookAfter os) c i < entries

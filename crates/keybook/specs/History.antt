@@ -48,7 +48,7 @@ added (h ∷ hs) c i = pick (isDone (h .1) && names c i (h .0)) (adds (h .0) (ad
 -- whether they are finished, where f says whether they were
 abbrev pub finishes : Operation → Bool → Bool
 finishes (Begin d j) f = false
-finishes (Add d j ys) f = f
+finishes (Add d j ys) f = false
 finishes (Finish d j) f = true
 finishes (Erase d j) f = false
 
@@ -57,6 +57,18 @@ unfoldable pub finished : History → ℕ → ℕ → Bool
 finished [] c i = false
 finished (h ∷ hs) c i = pick (isDone (h .1) && names c i (h .0)) (finishes (h .0) (finished hs c i)) (finished hs c i)
 
+-- whether a begin took it, where g says whether one had
+abbrev pub begins : Operation → Bool → Bool
+begins (Begin d j) g = true
+begins (Add d j ys) g = g
+begins (Finish d j) g = g
+begins (Erase d j) g = false
+
+-- a begin was done, and no erase since
+unfoldable pub begun : History → ℕ → ℕ → Bool
+begun [] c i = false
+begun (h ∷ hs) c i = pick (isDone (h .1) && names c i (h .0)) (begins (h .0) (begun hs c i)) (begun hs c i)
+
 -- octets, followed by zeros to 32
 abbrev pub padded : List ℕ → List ℕ
 padded xs = xs ++ replicate (keyRoom - length xs) 0
@@ -64,6 +76,7 @@ padded xs = xs ++ replicate (keyRoom - length xs) 0
 -- what a history tells of a key k: a finish was done, k is exactly the octets that were added, in order, followed by
 -- zeros, their number is the cipher's key length, and they are allowed
 pub record Told (h : History) (c i : ℕ) (k : List ℕ) : Type 0 where
+  pub is-begun : begun h c i ≡ true
   pub is-finished : finished h c i ≡ true
   pub is-added : k ≡ padded (added h c i)
   pub is-whole : length (added h c i) ≡ keyOctets c
