@@ -37,8 +37,8 @@ mixed = talkMade 2 keyABCD 0 seed twoKeys three
 
 pub mixed-kept : Kept mixed
 mixed-kept =
-    ours-keeps twoKeys 2 0 keyABCD has-des refl seed (record { long = refl; octets = seed-octets; some = seed-kept .some }) three
-    (quietly-kept eight, (quietly-kept eight, (quietly-kept (true ∷ []), tt))) (refl, (refl, omega arith))
+    ours-keeps twoKeys 2 0 keyABCD has-des refl seed seed-kept seed-octets three
+    (record { each = (quietly-kept eight, (quietly-kept eight, (quietly-kept (true ∷ []), tt))); full = (refl, (refl, omega arith)) })
 
 -- by the opening: handed out, held, handed out
 pub mixed-opened : answers (talkLog ours twoKeys 0 mixed opening) ≡ 0 ∷ 0 ∷ 0 ∷ 0 ∷ 1 ∷ 1 ∷ 1 ∷ 1 ∷ 0 ∷ []

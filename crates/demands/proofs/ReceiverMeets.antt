@@ -16,7 +16,7 @@ use Rattle.voice.specs.declared.call.Call.{Call}
 use Rattle.voice.specs.Frame.{word}
 use Rattle.voice.specs.Opening.{superframeSlots}
 use Rattle.octets.specs.Lists.{Each}
-use Rattle.demands.specs.History.{Slot, Session, Entry, opening, joining, SlotKept, SlotsKept, VectorKept, SessionKept, Full, HasKey}
+use Rattle.demands.specs.History.{Slot, Session, Entry, opening, joining, SlotKept, SlotsKept, VectorKept, SessionKept, Full, slotCounts, HasKey}
 use Rattle.demands.specs.Log.{Report, counts, reports, next, slotsLog, slotsEnd, sessionsLog, firstLog, firstVector, talkLog}
 use Rattle.demands.specs.Demand3.{Right, Meets3, ours}
 use Rattle.demands.proofs.Standing.{key-ranged, slots-some, place, fresh, place-end, place-lost, place-heard, place-held, place-opened, place-joined, place-started}
@@ -37,11 +37,11 @@ slots-drop ks (suc n) p (x ∷ xs) h =
     let e : suc p + n ≡ p + suc n = omega arith in
     rw e at (slots-drop ks n (suc p) xs (h .1))
 
-full-tail : (c : ℕ) (x : Session) (xs : List Session) → Full c (x ∷ xs) → Full c xs
+full-tail : (c : ℕ) (x : Session) (xs : List Session) → Full c (slotCounts (x ∷ xs)) → Full c (slotCounts xs)
 full-tail c x [] f = tt
 full-tail c x (y ∷ ys) f = f .1
 
-full-drop : (c n : ℕ) (xs : List Session) → Full c xs → Full c (drop n xs)
+full-drop : (c n : ℕ) (xs : List Session) → Full c (slotCounts xs) → Full c (slotCounts (drop n xs))
 full-drop c zero xs f = f
 full-drop c (suc n) [] f = f
 full-drop c (suc n) (x ∷ xs) f = full-drop c n xs (full-tail c x xs f)
@@ -112,15 +112,15 @@ module _ (b : List ℕ) (c i : ℕ) (key : List ℕ) (h : HasKey b c i key) (lon
   -- ---- the sessions
 
   -- a list of sessions ends here, or its first is full
-  full-or-last : (x : Session) (ys : List Session) → Full c (x ∷ ys) → (ys ≡ []) ⊎ (length (x .slots) ≡ sessionSlots c)
+  full-or-last : (x : Session) (ys : List Session) → Full c (slotCounts (x ∷ ys)) → (ys ≡ []) ⊎ (length (x .slots) ≡ sessionSlots c)
   full-or-last x [] f = inl refl
   full-or-last x (y ∷ ys) f = inr (f .0)
 
-  full-within : (x : Session) (ys : List Session) → Full c (x ∷ ys) → length (x .slots) ≤ sessionSlots c
+  full-within : (x : Session) (ys : List Session) → Full c (slotCounts (x ∷ ys)) → length (x .slots) ≤ sessionSlots c
   full-within x [] f = f
   full-within x (y ∷ ys) f = omega (arith, f .0)
 
-  sessions-right : (xs : List Session) → Each (SessionKept c key) xs → Full c xs → Each Right (sessionsLog ours c (fresh b c i key h) xs)
+  sessions-right : (xs : List Session) → Each (SessionKept c key) xs → Full c (slotCounts xs) → Each Right (sessionsLog ours c (fresh b c i key h) xs)
   sessions-right [] k f = tt
   sessions-right (x ∷ ys) k f =
       rw (place-started b c i key h (x .announced) (x .vector) (k .0 .vector))
@@ -132,7 +132,7 @@ module _ (b : List ℕ) (c i : ℕ) (key : List ℕ) (h : HasKey b c i key) (lon
       last (inr e) = inr (omega arith)
 
   -- the first session that is heard, from slot p on
-  first-right : (told : Bool) (p : ℕ) → p ≤ sessionSlots c → (xs : List Session) → Each (SessionKept c key) xs → Full c xs
+  first-right : (told : Bool) (p : ℕ) → p ≤ sessionSlots c → (xs : List Session) → Each (SessionKept c key) xs → Full c (slotCounts xs)
       → Each Right (firstLog ours c told p (at (counts c told) (firstVector xs) p) xs)
   first-right told p l [] k f = tt
   first-right told p l (x ∷ ys) k f =
@@ -144,7 +144,7 @@ module _ (b : List ℕ) (c i : ℕ) (key : List ℕ) (h : HasKey b c i key) (lon
       last (inl e) = inl e
       last (inr e) = inr (omega (arith, length-drop p (x .slots)))
 
-  talk-right : (e : Entry) (xs : List Session) → Each (SessionKept c key) xs → Full c xs
+  talk-right : (e : Entry) (xs : List Session) → Each (SessionKept c key) xs → Full c (slotCounts xs)
       → Each Right (talkLog ours b i (record { cipher = c; key = key; sessions = xs }) e)
   talk-right opening [] k f = tt
   talk-right opening (x ∷ xs) k f =

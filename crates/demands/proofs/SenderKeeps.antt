@@ -1,7 +1,7 @@
 -- Our sender keeps the rules: the call that it makes is one of those that demand 3 is about. Assumes nothing.
-use mathlib.Core.Path.{_≡_, refl, sym, ap, _∙_}
+use mathlib.Core.Path.{_≡_, refl, sym, ap, ap₂, _∙_}
 use mathlib.Core.Bool.{Bool, true, false, _&&_, not}
-use mathlib.Core.List.{List, [], _∷_}
+use mathlib.Core.List.{List, [], _∷_, map}
 use Prim.Native.Nat.{ℕ, suc, _+_, _*_, _≤_, _<_}
 use native.Mathlib.Nat.{add-zero}
 use native.Mathlib.Numerals.{add-one}
@@ -23,7 +23,7 @@ use Rattle.keybook.proofs.GoodLaws.{good-sized}
 use Rattle.voice.specs.declared.call.Call.{Call}
 use Rattle.voice.specs.Frame.{ofSlot, protect}
 use Rattle.session.specs.Session.{noVector, scrambles, sessionVector}
-use Rattle.session.specs.Ladder.{keyFor, keyRefusals, zeroFor, vectorRefusals}
+use Rattle.session.specs.Ladder.{keyFor, keyRefusals, vectorRefusals}
 use Rattle.voice.specs.Call.{vectorRight, noCall, sending, standing, written}
 use Rattle.voice.specs.Opening.{openRefusals, startOf}
 use Rattle.voice.specs.Slot.{goingOn, sent, zeroAfter, voiceOf}
@@ -32,12 +32,12 @@ use Rattle.voice.proofs.FrameLaws.{protect-same, protect-frame}
 use Rattle.session.proofs.SessionLaws.{no-vector-zero}
 use Rattle.voice.proofs.GoodLaws.{good-open, read-written}
 use Rattle.voice.proofs.SlotSteps.{voice-sent}
-use Rattle.demands.specs.History.{Slot, SlotKept, SlotsKept, VectorKept, SessionKept, Full, Kept, HasKey, Entry}
+use Rattle.demands.specs.History.{Slot, SlotKept, SlotsKept, VectorKept, SessionKept, Full, slotCounts, Kept, HasKey, Entry}
 use Rattle.demands.specs.Log.{talkLog}
 use Rattle.demands.specs.Demand3.{Right, ours}
-use Rattle.demands.specs.OurSender.{Said, Saying, slotsMade, afterwards, sessionsMade, talkMade, SaidKept, Starts, AllSaid}
+use Rattle.demands.specs.OurSender.{Said, Saying, slotsMade, afterwards, sessionsMade, talkMade, SaidKept, AllSaid}
 use Rattle.demands.proofs.AirLaws.{protected-air}
-use Rattle.demands.proofs.Standing.{key-named, key-ranged, has-key-right, slots-some, closed-read, same-stream}
+use Rattle.demands.proofs.Standing.{key-named, key-ranged, has-key-right, slots-some, closed-read, not-zero-for, same-stream}
 use Rattle.demands.proofs.ReceiverMeets.{ours-meets-3}
 
 -- a sender's vector: the generator makes no zeros of one that isn't
@@ -52,12 +52,12 @@ sound-kept c v s = record { long = s .long; some = λ e. s .zeros ∙ e }
 no-vector-sound : (c : ℕ) → scrambles c ≡ true → Sound c noVector
 no-vector-sound c e = record { long = refl; zeros = no-vector-zero ∙ sym e; octets = zeros-octets 8 }
 
-starts-sound : (c : ℕ) (v : List ℕ) → Starts c v → Sound c (sessionVector c v)
-starts-sound c v s = go (scrambles c) refl
+starts-sound : (c : ℕ) (v : List ℕ) → VectorKept c v → Octets v → Sound c (sessionVector c v)
+starts-sound c v s o = go (scrambles c) refl
   where
     go : (t : Bool) → scrambles c ≡ t → Sound c (pick t noVector v)
     go true e = no-vector-sound c e
-    go false e = record { long = s .long; zeros = s .some e ∙ sym e; octets = s .octets }
+    go false e = record { long = s .long; zeros = s .some e ∙ sym e; octets = o }
 
 going-sound : (c : ℕ) (v : List ℕ) → Sound c v → Sound c (goingOn c v)
 unfolding goingOn
@@ -71,14 +71,6 @@ going-sound c v s = go (scrambles c) refl
           zeros = next-not-zero v (s .long) (s .octets) (s .zeros ∙ e) ∙ sym e;
           octets = octets-nextVector v;
         }
-
-starts-not-zero : (c : ℕ) (v : List ℕ) → Starts c v → zeroFor c v ≡ false
-unfolding zeroFor
-starts-not-zero c v s = go (scrambles c) refl
-  where
-    go : (t : Bool) → scrambles c ≡ t → (not t && allZero v) ≡ false
-    go true e = refl
-    go false e = s .some e
 
 -- the next vector is no zeros, so 14 is not given
 not-zero-after : (c p : ℕ) (v : List ℕ) → Sound c (goingOn c v) → zeroAfter c p v ≡ false
@@ -164,34 +156,35 @@ module _ (b : List ℕ) (c i : ℕ) (key : List ℕ) (h : HasKey b c i key) (lon
 
   -- ---- the sessions
 
+  counts-made : (s : Call) (xs : List Saying) → slotCounts (sessionsMade s xs) ≡ map (λ x. length (x .slots)) xs
+  counts-made s [] = refl
+  counts-made s (x ∷ xs) = ap₂ _∷_ (made-length s (x .slots)) (counts-made (afterwards s (x .slots)) xs)
+
   abbrev from : List ℕ → Call
   from v = written (sending c k 0 v)
 
-  session-made : (v : List ℕ) → Sound c v → (x : Saying) → length (slotsMade (from v) (x .slots)) ≤ sessionSlots c → Each SaidKept (x .slots)
+  session-made : (v : List ℕ) → Sound c v → (x : Saying) → length (x .slots) ≤ sessionSlots c → Each SaidKept (x .slots)
       → SlotsKept (stream c key v) 0 (slotsMade (from v) (x .slots))
-  session-made v a x l s =
-      let e : length (slotsMade (from v) (x .slots)) ≡ length (x .slots) = made-length (from v) (x .slots) in
-      rw (sym (spot-in v 0 some)) (slots-made v a 0 (x .slots) (omega arith) s)
+  session-made v a x l s = rw (sym (spot-in v 0 some)) (slots-made v a 0 (x .slots) (omega arith) s)
 
-  session-after : (v : List ℕ) → Sound c v → (x : Saying) → length (slotsMade (from v) (x .slots)) ≡ sessionSlots c → Each SaidKept (x .slots)
+  session-after : (v : List ℕ) → Sound c v → (x : Saying) → length (x .slots) ≡ sessionSlots c → Each SaidKept (x .slots)
       → afterwards (from v) (x .slots) ≡ from (goingOn c v)
   session-after v a x l s =
-      let e : length (slotsMade (from v) (x .slots)) ≡ length (x .slots) = made-length (from v) (x .slots) in
       rw (sym (spot-in v 0 some)) (slots-after v a 0 (x .slots) (omega arith) s ∙ spot-end v (0 + length (x .slots)) (omega arith))
 
-  sessions-made : (v : List ℕ) → Sound c v → (xs : List Saying) → AllSaid xs → Full c (sessionsMade (from v) xs)
+  sessions-made : (v : List ℕ) → Sound c v → (xs : List Saying) → Each (λ x. Each SaidKept (x .slots)) xs → Full c (map (λ x. length (x .slots)) xs)
       → Each (SessionKept c key) (sessionsMade (from v) xs)
   sessions-made v a [] s f = tt
   sessions-made v a (x ∷ []) s f = (record { vector = sound-kept c v a; slots = session-made v a x f (s .0) }, tt)
   sessions-made v a (x ∷ y ∷ ys) s f =
       let e = session-after v a x (f .0) (s .0) in (
         record { vector = sound-kept c v a; slots = session-made v a x (omega (arith, f .0)) (s .0) },
-        rw e (sessions-made (goingOn c v) (going-sound c v a) (y ∷ ys) (s .1) (rw e at (f .1))),
+        rw e (sessions-made (goingOn c v) (going-sound c v a) (y ∷ ys) (s .1) (f .1)),
       )
 
   -- what next vector writes at any slot of a session is the vector of the next one
   pub next-announced : (v : List ℕ) → Sound c v → scrambles c ≡ false → (p : ℕ) → p < sessionSlots c → (lent : List ℕ) → length lent ≡ 8
-      → (x : Saying) → length (slotsMade (from v) (x .slots)) ≡ sessionSlots c → Each SaidKept (x .slots)
+      → (x : Saying) → length (x .slots) ≡ sessionSlots c → Each SaidKept (x .slots)
       → nextVectorOf (written (sending c k p v)) lent ≡ (Done, afterwards (from v) (x .slots) .vector)
   unfolding nextVectorOf nextRefusals goingOn
   next-announced v a e p l lent h8 x f s =
@@ -202,21 +195,21 @@ module _ (b : List ℕ) (c i : ℕ) (key : List ℕ) (h : HasKey b c i key) (lon
 
   -- ---- from the start
 
-  started-at : (v : List ℕ) → Starts c v → startOf noCall c i v b ≡ (Done, from (sessionVector c v))
+  started-at : (v : List ℕ) → VectorKept c v → startOf noCall c i v b ≡ (Done, from (sessionVector c v))
   unfolding startOf openRefusals vectorRefusals keyRefusals
   started-at v s =
-      rw (closed-read, eq-eqb _ _ (s .long), eq-eqb _ _ (good-sized b (h .good)), key-named b c i key h, h .good, h .there, h .ready, starts-not-zero c v s)
+      rw (closed-read, eq-eqb _ _ (s .long), eq-eqb _ _ (good-sized b (h .good)), key-named b c i key h, h .good, h .there, h .ready, not-zero-for c v s)
 
-  pub ours-keeps : (v : List ℕ) → Starts c v → (said : List Saying) → AllSaid said → Full c (talkMade c key i v b said .sessions) → Kept (talkMade c key i v b said)
-  ours-keeps v s said a f =
-      let e = ap (λ (o : Answer × Call). o .1) (started-at v s) in
+  pub ours-keeps : (v : List ℕ) → VectorKept c v → Octets v → (said : List Saying) → AllSaid c said → Kept (talkMade c key i v b said)
+  ours-keeps v s o said a =
+      let e = ap (λ (r : Answer × Call). r .1) (started-at v s) in
       record {
         key = long;
-        each = rw e (sessions-made (sessionVector c v) (starts-sound c v s) said a (rw e at f));
-        full = f;
+        each = rw e (sessions-made (sessionVector c v) (starts-sound c v s o) said (a .each) (a .full));
+        full = rw (counts-made (startOf noCall c i v b .1) said) (a .full);
       }
 
   -- our sender to our receiver, whose book has the key under an ID of its own
-  pub ours-to-ours : (v : List ℕ) → Starts c v → (said : List Saying) → AllSaid said → Full c (talkMade c key i v b said .sessions)
+  pub ours-to-ours : (v : List ℕ) → VectorKept c v → Octets v → (said : List Saying) → AllSaid c said
       → (b′ : List ℕ) (i′ : ℕ) → HasKey b′ c i′ key → (e : Entry) → Each Right (talkLog ours b′ i′ (talkMade c key i v b said) e)
-  ours-to-ours v s said a f = ours-meets-3 (talkMade c key i v b said) (ours-keeps v s said a f)
+  ours-to-ours v s o said a = ours-meets-3 (talkMade c key i v b said) (ours-keeps v s o said a)

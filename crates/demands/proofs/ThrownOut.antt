@@ -24,7 +24,7 @@ use Rattle.voice.proofs.FrameLaws.{protect-frame}
 use Rattle.voice.proofs.SlotSteps.{voice-heard}
 use Rattle.session.specs.Samples.{seed}
 use Rattle.demands.specs.Marked.{key0001}
-use Rattle.demands.specs.History.{Slot, Session, Talk, opening, joining, SlotKept, VectorKept, SessionKept, Full, Kept}
+use Rattle.demands.specs.History.{Slot, Session, Talk, opening, joining, SlotKept, VectorKept, SessionKept, Full, slotCounts, Kept}
 use Rattle.demands.specs.Log.{Receiver, counts, sessionsLog, talkLog}
 use Rattle.demands.specs.Demand3.{Right, Meets3}
 use Rattle.demands.specs.Others.{upTo, upToSlots, upToSession, fourOn, atOnce, Sending, turning, identity, restarting}
@@ -98,7 +98,7 @@ quietFor-each : (m : ℕ) → Each (SessionKept 1 key0001) (quietFor m)
 quietFor-each zero = (record { vector = no-vector-kept; slots = quiet-kept ks 0 (true ∷ []) }, tt)
 quietFor-each (suc m) = (record { vector = no-vector-kept; slots = quiet-kept ks 0 (false ∷ false ∷ false ∷ false ∷ []) }, quietFor-each m)
 
-quietFor-full : (m : ℕ) → Full 1 (quietFor m)
+quietFor-full : (m : ℕ) → Full 1 (slotCounts (quietFor m))
 quietFor-full zero = omega arith
 quietFor-full (suc zero) = (refl, quietFor-full zero)
 quietFor-full (suc (suc m)) = (refl, quietFor-full (suc m))

@@ -1,6 +1,6 @@
 -- Demand 3, what was said: one call of a sender that keeps the rules, and what the channel let through.
 use mathlib.Core.Path.{_≡_}
-use mathlib.Core.List.{List, [], _∷_, _++_}
+use mathlib.Core.List.{List, [], _∷_, _++_, map}
 use mathlib.Core.Bool.{Bool, true, false}
 use Prim.Native.Nat.{ℕ, suc, _+_, _-_, _*_, _≤_, _<_}
 use lib.ListN.{length, replicate}
@@ -70,16 +70,19 @@ pub record SessionKept (c : ℕ) (key : List ℕ) (x : Session) : Type 0 where
   pub vector : VectorKept c (x .vector)
   pub slots : SlotsKept (stream c key (x .vector)) 0 (x .slots)
 
--- every session has all its slots; the last may have fewer
-abbrev pub Full : ℕ → List Session → Type 0
+-- of sessions with so many slots each, every one has all of its cipher's; the last may have fewer
+abbrev pub Full : ℕ → List ℕ → Type 0
 Full c [] = Unit {0}
-Full c (x ∷ []) = length (x .slots) ≤ sessionSlots c
-Full c (x ∷ y ∷ ys) = (length (x .slots) ≡ sessionSlots c) × Full c (y ∷ ys)
+Full c (n ∷ []) = n ≤ sessionSlots c
+Full c (n ∷ m ∷ ms) = (n ≡ sessionSlots c) × Full c (m ∷ ms)
+
+abbrev pub slotCounts : List Session → List ℕ
+slotCounts = map (λ x. length (x .slots))
 
 pub record Kept (t : Talk) : Type 0 where
   pub key : length (t .key) ≡ keyOctets (t .cipher)
   pub each : Each (SessionKept (t .cipher) (t .key)) (t .sessions)
-  pub full : Full (t .cipher) (t .sessions)
+  pub full : Full (t .cipher) (slotCounts (t .sessions))
 
 -- ---- a receiver with the same key
 

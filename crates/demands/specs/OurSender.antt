@@ -1,18 +1,15 @@
 -- The call that our sender makes of what is said: what its operations write goes on the air, and each session's vector is the one it stands with.
-use mathlib.Core.Path.{_≡_}
-use mathlib.Core.List.{List, [], _∷_}
-use mathlib.Core.Bool.{Bool, false}
+use mathlib.Core.List.{List, [], _∷_, map}
+use mathlib.Core.Bool.{Bool}
 use Prim.Native.Nat.{ℕ, _≤_}
 use lib.ListN.{length}
-use Rattle.octets.specs.Bits.{Octets}
-use Rattle.octets.specs.Lists.{allZero, Each}
+use Rattle.octets.specs.Lists.{Each}
 use Rattle.voice.specs.declared.call.Call.{Call}
 use Rattle.voice.specs.Frame.{IsFrame}
-use Rattle.session.specs.Session.{vectorOctets, scrambles}
 use Rattle.voice.specs.Call.{noCall}
 use Rattle.voice.specs.Opening.{startOf}
 use Rattle.voice.specs.Slot.{voiceOf}
-use Rattle.demands.specs.History.{Slot, Session, Talk}
+use Rattle.demands.specs.History.{Slot, Session, Talk, Full}
 
 -- what is said in a slot, and whether the slot will arrive
 pub record Said : Type 0 where
@@ -51,11 +48,7 @@ pub record SaidKept (x : Said) : Type 0 where
   pub mask : x .mask ≤ 15
   pub frame : IsFrame (x .spoken)
 
--- a vector to start with: eight octets, for DES and AES not all zero
-pub record Starts (c : ℕ) (v : List ℕ) : Type 0 where
-  pub long : length v ≡ vectorOctets
-  pub octets : Octets v
-  pub some : scrambles c ≡ false → allZero v ≡ false
-
-abbrev pub AllSaid : List Saying → Type 0
-AllSaid = Each (λ x. Each SaidKept (x .slots))
+-- what is said in a call: masks and frames, and full sessions but for the last
+pub record AllSaid (c : ℕ) (said : List Saying) : Type 0 where
+  pub each : Each (λ x. Each SaidKept (x .slots)) said
+  pub full : Full c (map (λ x. length (x .slots)) said)
