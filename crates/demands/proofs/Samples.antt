@@ -1,7 +1,7 @@
--- A book with two ready keys, and slots of silence, for the calls that show what is thrown out and what can be met. Assumes nothing.
+-- The book of two ready keys, and slots of silence, for the calls that show what is thrown out and what can be met. Assumes nothing.
 use mathlib.Core.Path.{_≡_, refl}
 use mathlib.Core.Bool.{Bool, true, true≢false}
-use mathlib.Core.List.{List, [], _∷_, _++_}
+use mathlib.Core.List.{List, [], _∷_}
 use Prim.Native.Nat.{ℕ, suc, _+_, _*_}
 use native.Mathlib.Omega.{arith}
 use lib.ListN.{replicate}
@@ -15,7 +15,7 @@ use Rattle.keybook.specs.Book as book
 use Rattle.voice.specs.Frame.{IsFrame}
 use Rattle.voice.proofs.FrameLaws.{protect-frame}
 use Rattle.session.specs.Samples.{seed}
-use Rattle.demands.specs.Marked.{key0001}
+use Rattle.demands.specs.Marked.{key0001, bookOfTwo}
 use Rattle.demands.specs.History.{Slot, SlotKept, SlotsKept, VectorKept, HasKey}
 use Rattle.demands.specs.Others.{Sending, turning}
 use Rattle.demands.proofs.AirLaws.{protected-air}
@@ -24,20 +24,16 @@ use Rattle.demands.proofs.AirLaws.{protected-air}
 abbrev pub keyABCD : List ℕ
 keyABCD = 0xAB ∷ 0xCD ∷ 0xEF ∷ 0x01 ∷ 0x23 ∷ 0x45 ∷ 0x67 ∷ 0x89 ∷ []
 
--- scramble key 0001 and that DES key, both ready as key ID 0
-abbrev pub twoKeys : List ℕ
-twoKeys = (1 ∷ 0 ∷ 2 ∷ 1 ∷ (key0001 ++ replicate 30 0)) ++ ((2 ∷ 0 ∷ 8 ∷ 1 ∷ (keyABCD ++ replicate 24 0)) ++ replicate (14 * entry.entryOctets) 0)
-
-two-good : book.goodBook twoKeys ≡ true
+two-good : book.goodBook bookOfTwo ≡ true
 unfolding book.goodBook book.apart book.findEntry book.entryOf allBelow firstBelow allZero entry.isFor entry.named entry.entryRight
     entry.usedRight entry.readyRight entry.lacks keyAllowed scrambleKey desKey oddOctet
 two-good = refl
 
-pub has-scramble : HasKey twoKeys 1 0 key0001
+pub has-scramble : HasKey bookOfTwo 1 0 key0001
 unfolding book.findEntry book.entryOf firstBelow entry.isFor
 has-scramble = record { good = two-good; there = refl; ready = refl; same = refl }
 
-pub has-des : HasKey twoKeys 2 0 keyABCD
+pub has-des : HasKey bookOfTwo 2 0 keyABCD
 unfolding book.findEntry book.entryOf firstBelow entry.isFor
 has-des = record { good = two-good; there = refl; ready = refl; same = refl }
 

@@ -23,13 +23,13 @@ use Rattle.voice.specs.Slot.{lostOf, voiceOf}
 use Rattle.voice.proofs.FrameLaws.{protect-frame}
 use Rattle.voice.proofs.SlotSteps.{voice-heard}
 use Rattle.session.specs.Samples.{seed}
-use Rattle.demands.specs.Marked.{key0001}
+use Rattle.demands.specs.Marked.{key0001, bookOfTwo}
 use Rattle.demands.specs.History.{Slot, Session, Talk, opening, joining, SlotKept, VectorKept, SessionKept, Full, slotCounts, Kept}
 use Rattle.demands.specs.Log.{Receiver, counts, sessionsLog, talkLog}
 use Rattle.demands.specs.Demand3.{Right, Meets3}
-use Rattle.demands.specs.Others.{upTo, upToSlots, upToSession, fourOn, atOnce, Sending, turning, identity, restarting}
+use Rattle.demands.specs.Others.{upTo, upToSlots, upToSession, fourOn, atOnce, Sending, turning, identity, restarting, saving}
 use Rattle.demands.proofs.Standing.{place, place-read, place-lost, place-opened}
-use Rattle.demands.proofs.Samples.{keyABCD, twoKeys, has-scramble, has-des, silence, silence-frame, click, click-frame, saying, quiet, saying-kept, quiet-kept, no-vector-kept, seed-kept}
+use Rattle.demands.proofs.Samples.{keyABCD, has-scramble, has-des, silence, silence-frame, click, click-frame, saying, quiet, saying-kept, quiet-kept, no-vector-kept, seed-kept}
 
 -- ---- one slot under scramble key 0001
 
@@ -41,9 +41,9 @@ one frame =
     record { cipher = 1; key = key0001; sessions = record { vector = noVector; announced = false; slots = saying turning frame ks 0 true ∷ [] } ∷ [] }
 
 one-slot : (R : Receiver) → Meets3 R → (frame : List ℕ) → SlotKept ks 0 (saying turning frame ks 0 true)
-    → Each Right (talkLog R twoKeys 0 (one frame) opening)
+    → Each Right (talkLog R bookOfTwo 0 (one frame) opening)
 one-slot R m frame k =
-    m (one frame) (record { key = refl; each = (record { vector = no-vector-kept; slots = (k, tt) }, tt); full = omega arith }) twoKeys 0 has-scramble opening
+    m (one frame) (record { key = refl; each = (record { vector = no-vector-kept; slots = (k, tt) }, tt); full = omega arith }) bookOfTwo 0 has-scramble opening
 
 silent-kept : SlotKept ks 0 (saying turning silence ks 0 true)
 silent-kept = saying-kept silence silence-frame ks 0 true
@@ -57,7 +57,7 @@ not-silent e =
 
 module _ (R : Receiver) where
   abbrev begun : R .State
-  begun = R .hear 1 0 noVector twoKeys (R .idle) .1
+  begun = R .hear 1 0 noVector bookOfTwo (R .idle) .1
 
   -- it opens no slot: it refuses all, or holds all
   pub never-opens-fails : ((mask : ℕ) (frame : List ℕ) (s : R .State) → 1 ≤ numberOf (R .voice mask frame s .0)) → Meets3 R → ⊥
@@ -118,8 +118,8 @@ module _ (first : ℕ → ℕ) (a : Answer) (R : Receiver) where
   -- whatever the number of slots, whatever it answers then, and whatever the receiver before
   pub upTo-fails : Meets3 (upTo first a R) → ⊥
   upTo-fails m =
-      late (first 1) (4, first 1, R .lost (R .lost (R .lost (R .lost (R .hear 1 0 noVector twoKeys (R .idle) .1) .1) .1) .1) .1) (omega arith)
-      (m (longTalk (suc (first 1))) (record { key = refl; each = quietFor-each (suc (first 1)); full = quietFor-full (suc (first 1)) }) twoKeys 0 has-scramble opening)
+      late (first 1) (4, first 1, R .lost (R .lost (R .lost (R .lost (R .hear 1 0 noVector bookOfTwo (R .idle) .1) .1) .1) .1) .1) (omega arith)
+      (m (longTalk (suc (first 1))) (record { key = refl; each = quietFor-each (suc (first 1)); full = quietFor-full (suc (first 1)) }) bookOfTwo 0 has-scramble opening)
 
 pub upToSlots-fails : (n : ℕ) (a : Answer) (R : Receiver) → Meets3 (upToSlots n a R) → ⊥
 upToSlots-fails n = upTo-fails (λ c. n)
@@ -144,14 +144,14 @@ announcing w = record { cipher = 2; key = keyABCD; sessions = inDes seed ∷ inD
 
 module _ (w : List ℕ) (k : VectorKept 2 w) where
   abbrev at : ℕ → Call
-  at = place twoKeys 2 0 keyABCD has-des (counts 2 true) w
+  at = place bookOfTwo 2 0 keyABCD has-des (counts 2 true) w
 
   on-one : (p : ℕ) → p < 8 → lostOf (at p) .1 ≡ at (p + 1)
-  on-one p l = ap (λ (o : Answer × Call). o .1) (place-lost twoKeys 2 0 keyABCD has-des true w k p l)
+  on-one p l = ap (λ (o : Answer × Call). o .1) (place-lost bookOfTwo 2 0 keyABCD has-des true w k p l)
 
-  four-on : fourOn (openOf noCall 2 0 w twoKeys .1) ≡ at 4
+  four-on : fourOn (openOf noCall 2 0 w bookOfTwo .1) ≡ at 4
   four-on =
-      ap (λ (o : Answer × Call). fourOn (o .1)) (place-opened twoKeys 2 0 keyABCD has-des w k)
+      ap (λ (o : Answer × Call). fourOn (o .1)) (place-opened bookOfTwo 2 0 keyABCD has-des w k)
       ∙ ap (λ (s : Call). lostOf (lostOf (lostOf s .1) .1) .1) (on-one 0 (omega arith))
       ∙ ap (λ (s : Call). lostOf (lostOf s .1) .1) (on-one 1 (omega arith))
       ∙ ap (λ (s : Call). lostOf s .1) (on-one 2 (omega arith)) ∙ on-one 3 (omega arith)
@@ -159,7 +159,7 @@ module _ (w : List ℕ) (k : VectorKept 2 w) where
   opens : (frame : List ℕ) → length frame ≡ 28 → voiceOf (at 4) 1 frame .0 ≡ Done
   opens frame l =
       ap (λ (o : Answer × (Call × List ℕ)). o .0)
-      (voice-heard (at 4) 1 frame (omega arith) l 2 _ 4 w (place-read twoKeys 2 0 keyABCD has-des true w k 4 (omega arith)))
+      (voice-heard (at 4) 1 frame (omega arith) l 2 _ 4 w (place-read bookOfTwo 2 0 keyABCD has-des true w k 4 (omega arith)))
 
   -- it hands out the rest of the session that it joined, which counts as not reached
   pub atOnce-fails : Meets3 (atOnce w) → ⊥
@@ -168,7 +168,7 @@ module _ (w : List ℕ) (k : VectorKept 2 w) where
       let came = turning (stream 2 keyABCD seed) 4 1 silence in
       let z : _≡_ {A = ℕ} 0 1 =
       sym (ap numberOf (ap (λ (s : Call). voiceOf s 1 came .0) four-on ∙ opens came (protect-frame (ofSlot (stream 2 keyABCD seed) 4) 1 silence .long)))
-      ∙ m (announcing w) kept twoKeys 0 has-des (joining 0) .0 .held refl .0 in
+      ∙ m (announcing w) kept bookOfTwo 0 has-des (joining 0) .0 .held refl .0 in
       omega arith
 
 -- ---- senders: two slots of silence
@@ -197,4 +197,11 @@ pub restarting-breaks : Kept (twoSlots restarting) → ⊥
 unfolding protect keyBit octetsFrom octet stream P iterate stepped keyNumber
 restarting-breaks k =
     let z : _≡_ {A = ℕ} 1 0 = k .each .0 .slots .1 .0 .air .speech 0 0 (omega arith) (omega arith) refl in
+    omega arith
+
+-- the first word gives way to signalling, so the second takes P0 on, and not P49, which is 0
+pub saving-breaks : SlotKept ks 0 (record { mask = 2; spoken = silence; sent = saving ks 0 2 silence; arrived = true }) → ⊥
+unfolding protect keyBit octetsFrom octet stream P iterate stepped keyNumber
+saving-breaks k =
+    let z : _≡_ {A = ℕ} 1 0 = k .air .speech 1 0 (omega arith) (omega arith) refl in
     omega arith

@@ -1,12 +1,12 @@
 -- Receivers that demand 3 throws out, and senders that do not keep its rules.
 use mathlib.Core.List.{List}
-use Prim.Native.Nat.{ℕ, suc}
+use Prim.Native.Nat.{ℕ, zero, suc, _+_, _*_, _/_, _%_}
 use lib.Dec.{ltb}
 use Rattle.octets.specs.Tests.{pick}
 use Rattle.answers.specs.declared.Answer.{Answer}
 use Rattle.ciphers.specs.Numbers.{sessionSlots}
 use Rattle.voice.specs.declared.call.Call.{Call}
-use Rattle.voice.specs.Frame.{ofSlot, protect}
+use Rattle.voice.specs.Frame.{speechBits, has, ofSlot, protect}
 use Rattle.voice.specs.Call.{noCall}
 use Rattle.voice.specs.Opening.{openOf}
 use Rattle.voice.specs.Slot.{lostOf, voiceOf}
@@ -72,3 +72,11 @@ identity ks p mask frame = frame
 -- the keystream begins anew in each slot
 abbrev pub restarting : Sending
 restarting ks p mask frame = protect (ofSlot ks 0) mask frame
+
+-- version two: keystream is spent only on the words that are sent. How many words before word w are
+abbrev pub spent : ℕ → ℕ → ℕ
+spent mask zero = 0
+spent mask (suc w) = pick (has mask w) 1 0 + spent mask w
+
+abbrev pub saving : Sending
+saving ks p mask frame = protect (λ n. ofSlot ks p (speechBits * spent mask (n / speechBits) + n % speechBits)) mask frame

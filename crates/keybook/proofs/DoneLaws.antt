@@ -18,7 +18,7 @@ use Rattle.keyentry.specs.Entry.{entryOctets, cipherIn, idIn, keyIn, isReady, l
 use Rattle.keyentry.proofs.RightLaws.{Used, used-of, of-used, for-name, not-for}
 use Rattle.keyentry.proofs.WriteLaws.{named-used, blank-length, blank-cipher, blank-right, new-length, new-cipher, new-id, new-right, load-length, load-cipher, load-id, load-used, complete-length, complete-cipher, complete-id, complete-used}
 use Rattle.keybook.specs.Book.{entries, entryOf, withEntry, goodBook, findEntry, freeEntry, bookRefusals}
-use Rattle.keybook.specs.Operations.{has, entryFor, withFor, beginRefusals, beginAfter, addRefusals, finishRefusals, eraseRefusals, noKey, notReady, readyRefusals, readyKeyOf}
+use Rattle.keybook.specs.Operations.{has, placeRefusals, entryFor, withFor, beginRefusals, beginAfter, addRefusals, finishRefusals, eraseRefusals, noKey, notReady, readyRefusals, readyKeyOf}
 use Rattle.keybook.proofs.BookLaws.{entry-length}
 use Rattle.keybook.proofs.GoodLaws.{none-for, found-for, good-sized, good-entry, good-apart, good-with}
 use Rattle.keybook.proofs.OperationLaws.{sized-by, named-by, good-by}
@@ -103,7 +103,7 @@ module _ (b : List ℕ) (c i : ℕ) where
   unfolding beginRefusals beginAfter
   begin-changed n =
       let m = none-left (bookRefusals b c i) _ n in
-      let r = none-right (bookRefusals b c i) ((has b c i, Already) ∷ (not (ltb (freeEntry b) entries), Full) ∷ []) n in
+      let r = none-right (bookRefusals b c i) (placeRefusals b c i) n in
       let l : freeEntry b < entries = ltb-true _ _ (not-false _ (r .1 .0)) in
       let none = none-for b c i (ltb-false _ _ (r .0)) in
       record {

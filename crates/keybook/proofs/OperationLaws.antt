@@ -17,7 +17,7 @@ use Rattle.answers.specs.Outcomes.{Refusals, settled, outcome}
 use Rattle.answers.proofs.OutcomeLaws.{NoneHolds, neverDone, done-none, none-settles, none-first, first-refuses, around}
 use Rattle.keyentry.specs.Entry.{countIn, readyIn, keyRoom, keyIn, named, blank, newEntry, loadRefusals, loaded, completeRefusals, completed}
 use Rattle.keybook.specs.Book.{entries, bookOctets, entryOf, withEntry, goodBook, findEntry, freeEntry, bookRefusals, found, lookup}
-use Rattle.keybook.specs.Operations.{has, beginRefusals, beginAfter, beginOf, addRefusals, addOf, finishRefusals, finishOf, eraseRefusals, eraseOf, noKey, notReady, readyRefusals, readyKeyOf}
+use Rattle.keybook.specs.Operations.{has, placeRefusals, beginRefusals, beginAfter, beginOf, addRefusals, addOf, finishRefusals, finishOf, eraseRefusals, eraseOf, noKey, notReady, readyRefusals, readyKeyOf}
 use Rattle.keybook.specs.declared.book.Found.the-variants.{At, Missing, Refused}
 use Rattle.keyentry.proofs.RightLaws.{count-fits}
 use Rattle.keybook.proofs.GoodLaws.{good-entry}
@@ -155,7 +155,7 @@ module _ {S : Type 0} (b : List ℕ) (c i : ℕ) (before : S) where
 
 module _ (b : List ℕ) (c i : ℕ) where
   abbrev begins : Refusals
-  begins = (has b c i, Already) ∷ (not (ltb (freeEntry b) entries), Full) ∷ []
+  begins = placeRefusals b c i
 
   pub begin-refused : (a : Answer) → lookup b c i ≡ Refused a → (a, b) ≡ beginOf b c i
   unfolding beginOf beginRefusals

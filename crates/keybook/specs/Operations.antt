@@ -24,8 +24,11 @@ abbrev pub withFor : List ℕ → ℕ → ℕ → List ℕ → List ℕ
 withFor b c i e = withEntry b (findEntry b c i) e
 
 -- begin takes the free entry nearest the start; refused by 2, 3, 4 of the book, 11, 12
+abbrev pub placeRefusals : List ℕ → ℕ → ℕ → Refusals
+placeRefusals b c i = (has b c i, Already) ∷ (not (ltb (freeEntry b) entries), Full) ∷ []
+
 unfoldable pub beginRefusals : List ℕ → ℕ → ℕ → Refusals
-beginRefusals b c i = bookRefusals b c i ++ ((has b c i, Already) ∷ (not (ltb (freeEntry b) entries), Full) ∷ [])
+beginRefusals b c i = bookRefusals b c i ++ placeRefusals b c i
 
 unfoldable pub beginAfter : List ℕ → ℕ → ℕ → List ℕ
 beginAfter b c i = withEntry b (freeEntry b) (newEntry c i)
