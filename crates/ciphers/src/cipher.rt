@@ -1,6 +1,6 @@
 // The cipher types with their numbers. Scramble is no block cipher, so it has no block bits.
 ghost use mathlib.Core.Path.{_≡_};
-ghost use Rattle.ciphers.specs.Numbers.{byCipher, keyOctets, sessionSlots};
+ghost use Rattle.ciphers.specs.Numbers.{byCipher, keyOctets, blockBits, sessionSlots};
 
 pub struct Scramble;
 
@@ -58,6 +58,13 @@ pub fn key_octets(cipher: u8) -> usize
         Des::KEY_OCTETS,
         Aes::KEY_OCTETS,
     )
+}
+
+// A cipher type's block length in bits, or 0 where it is no block cipher.
+pub fn block_bits(cipher: u8) -> usize
+    ensures { λ r. ⌜ r ≡ blockBits cipher ⌝ }
+{
+    by_cipher(cipher, 0, Des::BLOCK_BITS, Aes::BLOCK_BITS)
 }
 
 // How many slots a session of a cipher type has.

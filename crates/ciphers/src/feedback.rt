@@ -10,6 +10,7 @@ ghost use Rattle.ciphers.specs.Numbers.{blockBits};
 ghost use Rattle.ciphers.specs.Keystream.{feedback};
 ghost use Rattle.ciphers.specs.Engine.{Engine, encipheredBy, running};
 use crate::cipher::Des;
+use crate::cipher::block_bits;
 use octets::window;
 
 // Enciphers a block where it stands.
@@ -82,7 +83,7 @@ pub fn feed_back(
     requires { ⌜ 8 * length (now block) ≡ blockBits cipher ⌝ }
     ensures { λ _. ⌜ now (out .exit) ≡ octetsFrom (length (now (out .entry))) (λ k. feedback (encipheredBy cipher (now (schedule .entry))) (8 * length (now (block .entry))) (now (block .entry)) (from + k)) ⌝ }
 {
-    let width = 8 * block.len();
+    let width = block_bits(cipher);
     skip(cipher, tables, schedule, block, from / width + 2);
     run(cipher, tables, schedule, block, from % width, out);
 }
