@@ -1,20 +1,20 @@
 -- What an engine is for DES and for AES, and that by a key's own schedule it enciphers as the standards do. Assumes nothing.
-use mathlib.Core.Path.{_≡_, refl, sym, ap, _∙_}
+use mathlib.Core.Path.{_≡_, refl, ap, _∙_}
 use mathlib.Core.List.{List}
 use Prim.Native.Nat.{ℕ, _+_, _*_, _/_, _%_}
 use native.Mathlib.Omega.{arith}
 use lib.ListN.{length, getD}
-use Rattle.octets.specs.Lists.{tab, iterate}
+use Rattle.octets.specs.Lists.{tab}
 use Rattle.octets.specs.Bits.{bit, octetsFrom, Bits}
 use Rattle.octets.proofs.ListLaws.{iterate-same}
 use Rattle.octets.proofs.BitLaws.{octetsFrom-same}
 use Rattle.des.specs.Tables.{cipherTables}
-use Rattle.des.specs.Des.{des, byKeys, setOut, roundKey, roundKeys}
+use Rattle.des.specs.Des.{des, roundKeys}
 use Rattle.des.proofs.BitLists.{bits-of}
 use Rattle.des.proofs.DesLaws.{by-set-out}
 use Rattle.des.proofs.KeyLaws.{length-roundKeys, bits-roundKeys}
 use Rattle.aes.specs.Field.{IsSbox}
-use Rattle.aes.specs.Cipher.{aes, cipher, keyExpansion}
+use Rattle.aes.specs.Cipher.{aes, keyExpansion}
 use Rattle.aes.proofs.ScheduleLaws.{length-keyExpansion}
 use Rattle.ciphers.specs.Numbers.{blockBits}
 use Rattle.ciphers.specs.Keystream.{usedBlock, feedback}

@@ -1,10 +1,8 @@
 -- Octet by octet through the blocks of output feedback. Assumes nothing.
-use mathlib.Core.Path.{_≡_, refl, sym, ap, _∙_}
+use mathlib.Core.Path.{_≡_, sym, ap, _∙_}
 use mathlib.Core.List.{List}
-use mathlib.Core.Bool.{Bool, true, false}
 use mathlib.Core.Logic.{_⊎_, inl, inr}
-use Prim.Native.Nat.{ℕ, zero, suc, _+_, _-_, _*_, _/_, _%_, _^_, _≤_, _<_}
-use native.Mathlib.Numerals.{add-one}
+use Prim.Native.Nat.{ℕ, suc, _+_, _-_, _*_, _/_, _%_, _^_, _≤_, _<_}
 use native.Mathlib.Decide.{decLt}
 use native.Mathlib.Omega.{arith}
 use lib.Dec.{ltb}
@@ -12,7 +10,7 @@ use lib.ListN.{length, getD, set}
 use borrow.Author.Tests.{lt-ltb, le-ltb}
 use Rattle.octets.specs.Tests.{pick}
 use Rattle.octets.specs.Lists.{iterate}
-use Rattle.octets.specs.Bits.{bit, octet, octetsFrom, Octets}
+use Rattle.octets.specs.Bits.{octetsFrom}
 use Rattle.octets.proofs.BitLaws.{bit-lt, bit-at, getD-octetsFrom, length-octetsFrom, octetsFrom-same}
 use Rattle.octets.proofs.ListLaws.{iterate-add}
 use Rattle.octets.proofs.Front.{Front, front-more}

@@ -1,4 +1,5 @@
--- An exchange of messages: what is said at one end of a packet, what goes on the air, and what is handed out at the other.
+-- An exchange of messages (document 01, "Data": sending and receiving are one operation, a lost message uses up its bits): what is said at
+-- one end of a packet, what goes on the air, and what is handed out at the other.
 use mathlib.Core.List.{List, [], _∷_}
 use mathlib.Core.Bool.{Bool}
 use mathlib.Core.Path.{_≡_}

@@ -11,7 +11,7 @@ use Rattle.octets.specs.Bits.{bit, flip}
 use Rattle.octets.proofs.BitLaws.{bit-lt, flip-zero}
 use Rattle.voice.specs.Frame.{has, ofSlot, keyBit, protect}
 use Rattle.voice.proofs.FrameLaws.{protect-bit, protect-frame, frame-ext, protect-stays, keyBit-spare, keyBit-other, keyBit-speech}
-use Rattle.demands.specs.History.{Slot, OnAir, SlotKept}
+use Rattle.demands.specs.Talk.{Slot, OnAir, SlotKept}
 
 sum : (a b n : ℕ) → a + b + n ≡ a + (b + n)
 sum a b n = omega arith

@@ -6,7 +6,7 @@ use mathlib.Core.List.{List, [], _∷_}
 use native.Mathlib.Omega.{arith}
 use Rattle.session.specs.Samples.{seed}
 use Rattle.octets.specs.Lists.{Each}
-use Rattle.demands.specs.History.{Talk, opening, joining, Kept}
+use Rattle.demands.specs.Talk.{Talk, opening, joining, Kept}
 use Rattle.demands.specs.Log.{talkLog}
 use Rattle.demands.specs.Demand3.{ours}
 use Rattle.demands.specs.OurSender.{Said, Saying, talkMade, SaidKept}

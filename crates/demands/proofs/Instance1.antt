@@ -1,6 +1,6 @@
 -- The premises of demand 1 can be met: a DES key that is begun, added in two parts and finished opens a call and a packet, and then a word and a
 -- message are turned, under it and no other. Assumes nothing.
-use mathlib.Core.Path.{_≡_, refl, sym, ap, subst, _∙_}
+use mathlib.Core.Path.{_≡_, refl, sym, ap, _∙_}
 use mathlib.Core.Bool.{true}
 use mathlib.Core.List.{List, [], _∷_, _++_}
 use Prim.Native.Nat.{ℕ}
@@ -34,11 +34,7 @@ use Rattle.session.specs.Samples.{seed, desABCD}
 use Rattle.demands.specs.Marked.{holding}
 use Rattle.demands.specs.Device.{Device, Open, Voice, callStep, OpenPacket, Message, packetStep, Operation, OfBook, OfCall, OfPacket, step, deviceAfter, history}
 use Rattle.demands.specs.Demand1.{WordsTurned, MessageTurned}
-use Rattle.demands.proofs.LoadedLaws.{Held}
-use Rattle.demands.proofs.CallsLoaded.{theCalls, calls-loaded}
-use Rattle.demands.proofs.PacketsLoaded.{thePackets, packets-loaded}
 use Rattle.demands.proofs.Meets1.{ours-meets-1}
-use Rattle.demands.proofs.ThrownOut1.{one-key-call, one-key-packet}
 use Rattle.demands.proofs.Samples.{keyABCD, silence}
 
 -- ---- the key is loaded

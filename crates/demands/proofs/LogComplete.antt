@@ -9,7 +9,7 @@ use Rattle.answers.specs.Numbers.{numberOf}
 use Rattle.session.specs.Session.{scrambles}
 use Rattle.voice.specs.Opening.{superframeSlots}
 use Rattle.octets.specs.Lists.{Each}
-use Rattle.demands.specs.History.{Slot, Session, Talk, Entry, opening, joining, Kept, HasKey}
+use Rattle.demands.specs.Talk.{Slot, Session, Talk, WayIn, opening, joining, Kept, HasKey}
 use Rattle.demands.specs.Log.{Receiver, Report, counts, reports, next, slotsLog, slotsEnd, started, sessionsLog, firstLog, firstVector, talkLog}
 use Rattle.demands.specs.Arrivals.{Arrival, shown, arrival, arrivals, later, first, heardOf}
 use Rattle.demands.specs.Demand3.{Right, Meets3}
@@ -40,7 +40,7 @@ module _ (R : Receiver) where
         ∙ ap₂ _++_ (all-slots (counts c told) s (drop p (x .slots))) (all-later (slotsEnd R s (drop p (x .slots))) xs)
 
   -- the log lists exactly the slots that arrived, in order
-  pub log-complete : (b : List ℕ) (i : ℕ) (t : Talk) (e : Entry) → map shown (talkLog R b i t e) ≡ heardOf t e
+  pub log-complete : (b : List ℕ) (i : ℕ) (t : Talk) (e : WayIn) → map shown (talkLog R b i t e) ≡ heardOf t e
   log-complete b i t opening = all-first (t .cipher) true 0 (R .hear (t .cipher) i (firstVector (t .sessions)) b (R .idle) .1) (t .sessions)
   log-complete b i t (joining n) = all-first (t .cipher) false superframeSlots (R .join (t .cipher) i b (R .idle) .1) (drop n (t .sessions))
 
@@ -63,6 +63,6 @@ right-answers : (rs : List Report) → Each Right rs → answers rs ≡ due (map
 right-answers [] h = refl
 right-answers (r ∷ rs) h = ap₂ _∷_ (right-answer r (h .0)) (right-answers rs (h .1))
 
-pub answers-settled : (R : Receiver) → Meets3 R → (t : Talk) → Kept t → (b : List ℕ) (i : ℕ) → HasKey b (t .cipher) i (t .key) → (e : Entry)
+pub answers-settled : (R : Receiver) → Meets3 R → (t : Talk) → Kept t → (b : List ℕ) (i : ℕ) → HasKey b (t .cipher) i (t .key) → (e : WayIn)
     → answers (talkLog R b i t e) ≡ due (heardOf t e)
 answers-settled R m t k b i h e = right-answers (talkLog R b i t e) (m t k b i h e) ∙ ap due (log-complete R b i t e)

@@ -1,6 +1,6 @@
 -- The marked examples of data: 3 and 10. Assumes nothing.
 use mathlib.Core.Path.{_≡_, refl, sym, ap, _∙_}
-use mathlib.Core.List.{List, [], _∷_}
+use mathlib.Core.List.{List, _∷_}
 use Prim.Native.Nat.{ℕ}
 use Rattle.octets.specs.Tests.{allBelow}
 use Rattle.octets.specs.Lists.{replaced, allZero, iterate}

@@ -12,7 +12,6 @@ use Rattle.keybook.proofs.Laws.{refused-ready-no-key}
 use Rattle.voice.specs.declared.call.Call.{Call}
 use Rattle.voice.proofs.SlotLaws.{done-turned, voice-taken, none-open}
 use Rattle.data.specs.declared.packet.Packet.{Packet}
-use Rattle.data.specs.Message.{messageTurned}
 use Rattle.data.proofs.PacketLaws.{open-some}
 use Rattle.data.proofs.MessageBits as bits
 use Rattle.demands.specs.Device.{callStep, Voice, packetStep, Message, Operation, OfCall, OfPacket, step, deviceAfter, history}

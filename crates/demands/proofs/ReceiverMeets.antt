@@ -16,7 +16,7 @@ use Rattle.voice.specs.declared.call.Call.{Call}
 use Rattle.voice.specs.Frame.{word}
 use Rattle.voice.specs.Opening.{superframeSlots}
 use Rattle.octets.specs.Lists.{Each}
-use Rattle.demands.specs.History.{Slot, Session, Entry, opening, joining, SlotKept, SlotsKept, VectorKept, SessionKept, Full, slotCounts, HasKey}
+use Rattle.demands.specs.Talk.{Slot, Session, WayIn, opening, joining, SlotKept, SlotsKept, VectorKept, SessionKept, Full, slotCounts, HasKey}
 use Rattle.demands.specs.Log.{Report, counts, reports, next, slotsLog, slotsEnd, sessionsLog, firstLog, firstVector, talkLog}
 use Rattle.demands.specs.Demand3.{Right, Meets3, ours}
 use Rattle.demands.proofs.Standing.{key-ranged, slots-some, place, fresh, place-end, place-lost, place-heard, place-held, place-opened, place-joined, place-started}
@@ -144,7 +144,7 @@ module _ (b : List ℕ) (c i : ℕ) (key : List ℕ) (h : HasKey b c i key) (lon
       last (inl e) = inl e
       last (inr e) = inr (omega (arith, length-drop p (x .slots)))
 
-  talk-right : (e : Entry) (xs : List Session) → Each (SessionKept c key) xs → Full c (slotCounts xs)
+  talk-right : (e : WayIn) (xs : List Session) → Each (SessionKept c key) xs → Full c (slotCounts xs)
       → Each Right (talkLog ours b i (record { cipher = c; key = key; sessions = xs }) e)
   talk-right opening [] k f = tt
   talk-right opening (x ∷ xs) k f =

@@ -16,7 +16,7 @@ use Rattle.voice.specs.Frame.{IsFrame}
 use Rattle.voice.proofs.FrameLaws.{protect-frame}
 use Rattle.session.specs.Samples.{seed}
 use Rattle.demands.specs.Marked.{key0001, bookOfTwo}
-use Rattle.demands.specs.History.{Slot, SlotKept, SlotsKept, VectorKept, HasKey}
+use Rattle.demands.specs.Talk.{Slot, SlotKept, SlotsKept, VectorKept, HasKey}
 use Rattle.demands.specs.Others.{Sending, turning}
 use Rattle.demands.proofs.AirLaws.{protected-air}
 

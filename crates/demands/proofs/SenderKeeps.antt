@@ -32,7 +32,7 @@ use Rattle.voice.proofs.FrameLaws.{protect-same, protect-frame}
 use Rattle.session.proofs.SessionLaws.{no-vector-zero}
 use Rattle.voice.proofs.GoodLaws.{good-open, read-written}
 use Rattle.voice.proofs.SlotSteps.{voice-sent}
-use Rattle.demands.specs.History.{Slot, SlotKept, SlotsKept, VectorKept, SessionKept, Full, slotCounts, Kept, HasKey, Entry}
+use Rattle.demands.specs.Talk.{Slot, SlotKept, SlotsKept, VectorKept, SessionKept, Full, slotCounts, Kept, HasKey, WayIn}
 use Rattle.demands.specs.Log.{talkLog}
 use Rattle.demands.specs.Demand3.{Right, ours}
 use Rattle.demands.specs.OurSender.{Said, Saying, slotsMade, afterwards, sessionsMade, talkMade, SaidKept, AllSaid}
@@ -211,5 +211,5 @@ module _ (b : List ℕ) (c i : ℕ) (key : List ℕ) (h : HasKey b c i key) (lon
 
   -- our sender to our receiver, whose book has the key under an ID of its own
   pub ours-to-ours : (v : List ℕ) → VectorKept c v → Octets v → (said : List Saying) → AllSaid c said
-      → (b′ : List ℕ) (i′ : ℕ) → HasKey b′ c i′ key → (e : Entry) → Each Right (talkLog ours b′ i′ (talkMade c key i v b said) e)
+      → (b′ : List ℕ) (i′ : ℕ) → HasKey b′ c i′ key → (e : WayIn) → Each Right (talkLog ours b′ i′ (talkMade c key i v b said) e)
   ours-to-ours v s o said a = ours-meets-3 (talkMade c key i v b said) (ours-keeps v s o said a)

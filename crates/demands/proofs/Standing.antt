@@ -34,7 +34,7 @@ use Rattle.session.proofs.SessionLaws.{no-vector-zero}
 use Rattle.session.proofs.ReadyLaws.{key-right}
 use Rattle.voice.proofs.GoodLaws.{closed-good, good-open, read-written, fresh-right}
 use Rattle.voice.proofs.SlotSteps.{voice-heard, voice-held}
-use Rattle.demands.specs.History.{Slot, SlotKept, VectorKept, HasKey}
+use Rattle.demands.specs.Talk.{Slot, SlotKept, VectorKept, HasKey}
 use Rattle.demands.specs.Log.{counts, started}
 use Rattle.demands.specs.Demand3.{ours}
 use Rattle.demands.proofs.AirLaws.{air-protected}

@@ -24,7 +24,7 @@ use Rattle.voice.proofs.FrameLaws.{protect-frame}
 use Rattle.voice.proofs.SlotSteps.{voice-heard}
 use Rattle.session.specs.Samples.{seed}
 use Rattle.demands.specs.Marked.{key0001, bookOfTwo}
-use Rattle.demands.specs.History.{Slot, Session, Talk, opening, joining, SlotKept, VectorKept, SessionKept, Full, slotCounts, Kept}
+use Rattle.demands.specs.Talk.{Session, Talk, opening, joining, SlotKept, VectorKept, SessionKept, Full, slotCounts, Kept}
 use Rattle.demands.specs.Log.{Receiver, counts, sessionsLog, talkLog}
 use Rattle.demands.specs.Demand3.{Right, Meets3}
 use Rattle.demands.specs.Others.{upTo, upToSlots, upToSession, fourOn, atOnce, Sending, turning, identity, restarting, saving}

@@ -4,7 +4,7 @@ use mathlib.Core.List.{List}
 use Prim.Native.Nat.{ℕ}
 use native.Mathlib.Omega.{arith}
 use Rattle.octets.specs.Lists.{iterate}
-use Rattle.octets.specs.Bits.{bit, flip}
+use Rattle.octets.specs.Bits.{bit}
 use Rattle.scramble.specs.Sequence.{keyNumber, stepped, P}
 use Rattle.ciphers.specs.Keystream.{stream}
 use Rattle.answers.specs.Numbers.{numberOf}

@@ -1,21 +1,21 @@
 -- Octets given by a test, zeros, and what is followed by zeros. Assumes nothing.
 use mathlib.Core.Path.{_≡_, refl, sym, ap, _∙_}
 use mathlib.Core.Bool.{Bool, true, false}
-use mathlib.Core.List.{List, _++_, append-nil}
-use Prim.Native.Nat.{ℕ, zero, suc, _+_, _-_, _*_, _/_, _%_, _^_, _≤_, _<_}
+use mathlib.Core.List.{List}
+use Prim.Native.Nat.{ℕ, zero, suc, _-_, _/_, _%_, _^_, _<_}
 use native.Mathlib.Nat.{zero-div}
 use native.Mathlib.Decide.{decLt}
 use native.Mathlib.Omega.{arith}
 use lib.Dec.{ltb, eqb}
-use lib.ListN.{length, getD, replicate, length-replicate, getD-replicate, List·getD-append, List·getD-eq-default}
-use lib.Seq.{ext-getD}
-use borrow.Author.Tests.{eqb-true, eq-eqb, lt-ltb, ltb-true}
+use lib.ListN.{length, getD, replicate, List·getD-eq-default}
+use borrow.Author.Tests.{eq-eqb, ltb-true}
 use Rattle.octets.specs.Tests.{allBelow}
-use Rattle.octets.specs.Lists.{allZero, tab, iterate}
+use Rattle.octets.specs.Lists.{allZero, iterate}
 use Rattle.octets.specs.Bits.{bit, octetsFrom, Bits, Octets}
 use Rattle.octets.proofs.TestLaws.{all-at, all-intro}
-use Rattle.octets.proofs.BitLaws.{bit-lt, bit-octetsFrom, length-octetsFrom, octets-ext}
+use Rattle.octets.proofs.BitLaws.{bit-octetsFrom, length-octetsFrom, octets-ext}
 use Rattle.generator.specs.Generator.{loaded, announced, shifted, nextVector}
+use Rattle.generator.proofs.VectorLaws.{bits-loaded, bits-iterate}
 use Rattle.octets.proofs.ListLaws.{zeros-are}
 
 -- octets, by a test of each
@@ -46,12 +46,6 @@ zeros-bit n k = rw (zeros-at n (k / 8), zero-div (2 ^ (7 - k % 8)))
 abbrev NoStage : (ℕ → ℕ) → Type 0
 NoStage b = (i : ℕ) → i < 64 → b i ≡ 0
 
-bits-shifted : (n : ℕ) (b : ℕ → ℕ) → Bits b → Bits (iterate shifted n b)
-unfolding iterate shifted
-bits-shifted zero b h i = h i
-bits-shifted (suc n) b h zero = omega arith
-bits-shifted (suc n) b h (suc i) = bits-shifted n b h i
-
 shift-back : (b : ℕ → ℕ) → Bits b → NoStage (shifted b) → NoStage b
 unfolding shifted
 shift-back b h z i l = go (decLt i 63)
@@ -67,7 +61,7 @@ shift-back b h z i l = go (decLt i 63)
 shifts-back : (n : ℕ) (b : ℕ → ℕ) → Bits b → NoStage (iterate shifted n b) → NoStage b
 unfolding iterate
 shifts-back zero b h z = z
-shifts-back (suc n) b h z = shifts-back n b h (shift-back (iterate shifted n b) (bits-shifted n b h) z)
+shifts-back (suc n) b h z = shifts-back n b h (shift-back (iterate shifted n b) (bits-iterate n b h) z)
 
 announced-zero : (b : ℕ → ℕ) → Bits b → allZero (announced b) ≡ true → NoStage b
 unfolding announced
@@ -86,10 +80,6 @@ loaded-zero s l o z =
     let e : 63 - (63 - k) ≡ k = omega arith in
     (rw e at (z (63 - k) (omega arith))) ∙ sym (zeros-bit 8 k))
 
-loaded-bits : (s : List ℕ) → Bits (loaded s)
-unfolding loaded
-loaded-bits s i = bit-lt s (63 - i)
-
 pub next-not-zero : (s : List ℕ) → length s ≡ 8 → Octets s → allZero s ≡ false → allZero (nextVector s) ≡ false
 unfolding nextVector
 next-not-zero s l o n = go (allZero (nextVector s)) refl
@@ -97,6 +87,6 @@ next-not-zero s l o n = go (allZero (nextVector s)) refl
     go : (t : Bool) → allZero (nextVector s) ≡ t → t ≡ false
     go false e = refl
     go true e =
-        let register = announced-zero (iterate shifted 64 (loaded s)) (bits-shifted 64 (loaded s) (loaded-bits s)) e in
-        let zeros = loaded-zero s l o (shifts-back 64 (loaded s) (loaded-bits s) register) in
+        let register = announced-zero (iterate shifted 64 (loaded s)) (bits-iterate 64 (loaded s) (bits-loaded s)) e in
+        let zeros = loaded-zero s l o (shifts-back 64 (loaded s) (bits-loaded s) register) in
         sym (ap allZero zeros ∙ zeros-all 8) ∙ n

@@ -4,7 +4,7 @@ use mathlib.Core.Bool.{Bool, true, false}
 use Prim.Native.Nat.{ℕ}
 use lib.ListN.{drop}
 use Rattle.voice.specs.Opening.{superframeSlots}
-use Rattle.demands.specs.History.{Slot, Session, Talk, Entry, opening, joining}
+use Rattle.demands.specs.Talk.{Slot, Session, Talk, WayIn, opening, joining}
 use Rattle.demands.specs.Log.{Report, counts}
 
 pub record Arrival : Type 0 where
@@ -34,6 +34,6 @@ abbrev pub first : ℕ → Bool → ℕ → List Session → List Arrival
 first c told p [] = []
 first c told p (x ∷ xs) = arrivals (counts c told) (drop p (x .slots)) ++ later c xs
 
-abbrev pub heardOf : Talk → Entry → List Arrival
+abbrev pub heardOf : Talk → WayIn → List Arrival
 heardOf t opening = first (t .cipher) true 0 (t .sessions)
 heardOf t (joining n) = first (t .cipher) false superframeSlots (drop n (t .sessions))

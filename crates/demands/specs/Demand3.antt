@@ -11,7 +11,7 @@ use Rattle.voice.specs.Opening.{openOf, joinOf}
 use Rattle.voice.specs.Slot.{lostOf, voiceOf}
 use Rattle.voice.specs.Vector.{announceOf}
 use Rattle.octets.specs.Lists.{Each}
-use Rattle.demands.specs.History.{Talk, Entry, Kept, HasKey}
+use Rattle.demands.specs.Talk.{Talk, WayIn, Kept, HasKey}
 use Rattle.demands.specs.Log.{Receiver, Report, talkLog}
 
 pub record Right (r : Report) : Type 0 where
@@ -24,7 +24,7 @@ pub record Right (r : Report) : Type 0 where
 
 -- one call of a sender that keeps the rules, a receiver with the same key, and either way in
 abbrev pub Meets3 : Receiver → Type 0
-Meets3 R = (t : Talk) → Kept t → (b : List ℕ) (i : ℕ) → HasKey b (t .cipher) i (t .key) → (e : Entry) → Each Right (talkLog R b i t e)
+Meets3 R = (t : Talk) → Kept t → (b : List ℕ) (i : ℕ) → HasKey b (t .cipher) i (t .key) → (e : WayIn) → Each Right (talkLog R b i t e)
 
 abbrev pub ours : Receiver
 ours =

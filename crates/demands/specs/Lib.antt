@@ -1,5 +1,5 @@
 pub mod Marked
-pub mod History
+pub mod Talk
 pub mod Log
 pub mod Arrivals
 pub mod Demand3

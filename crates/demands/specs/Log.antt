@@ -6,7 +6,7 @@ use lib.ListN.{drop}
 use Rattle.answers.specs.declared.Answer.{Answer}
 use Rattle.session.specs.Session.{noVector, scrambles}
 use Rattle.voice.specs.Opening.{superframeSlots}
-use Rattle.demands.specs.History.{Slot, Session, Talk, Entry, opening, joining}
+use Rattle.demands.specs.Talk.{Slot, Session, Talk, WayIn, opening, joining}
 
 -- a receiver: what it answers and leaves, whatever it keeps between two operations
 pub record Receiver : Type 1 where
@@ -81,6 +81,6 @@ module _ (R : Receiver) where
       slotsLog (counts c told) s (drop p (x .slots)) ++ sessionsLog c (slotsEnd s (drop p (x .slots))) xs
 
   -- the log of a call, for a receiver that starts without one: book, key ID, the call, how the receiver comes in
-  abbrev pub talkLog : List ℕ → ℕ → Talk → Entry → List Report
+  abbrev pub talkLog : List ℕ → ℕ → Talk → WayIn → List Report
   talkLog b i t opening = firstLog (t .cipher) true 0 (R .hear (t .cipher) i (firstVector (t .sessions)) b (R .idle) .1) (t .sessions)
   talkLog b i t (joining n) = firstLog (t .cipher) false superframeSlots (R .join (t .cipher) i b (R .idle) .1) (drop n (t .sessions))

@@ -1,4 +1,5 @@
--- Receivers that demand 3 throws out, and senders that do not keep its rules.
+-- Receivers that demand 3 throws out, and senders that do not keep its rules (document 01, "How tight each statement is" and "Readings to
+-- shut out"; versions two and three of the user's words).
 use mathlib.Core.List.{List}
 use Prim.Native.Nat.{ℕ, zero, suc, _+_, _*_, _/_, _%_}
 use lib.Dec.{ltb}

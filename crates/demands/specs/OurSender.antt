@@ -1,4 +1,4 @@
--- The call that our sender makes of what is said: what its operations write goes on the air, and each session's vector is the one it stands with.
+-- The call that our sender makes of what is said (document 01, "Voice", the sender): what its operations write goes on the air, and each session's vector is the one it stands with.
 use mathlib.Core.List.{List, [], _∷_, map}
 use mathlib.Core.Bool.{Bool}
 use Prim.Native.Nat.{ℕ, _≤_}
@@ -9,7 +9,7 @@ use Rattle.voice.specs.Frame.{IsFrame}
 use Rattle.voice.specs.Call.{noCall}
 use Rattle.voice.specs.Opening.{startOf}
 use Rattle.voice.specs.Slot.{voiceOf}
-use Rattle.demands.specs.History.{Slot, Session, Talk, Full}
+use Rattle.demands.specs.Talk.{Slot, Session, Talk, Full}
 
 -- what is said in a slot, and whether the slot will arrive
 pub record Said : Type 0 where

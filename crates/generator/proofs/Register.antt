@@ -9,7 +9,7 @@ use native.Mathlib.Omega.{arith}
 use lib.ListN.{getD}
 use lib.Pow.{shl-shr, shr-shr, high, low, mod-pow-add}
 use Rattle.octets.specs.Lists.{iterate}
-use Rattle.octets.specs.Bits.{bit, octetsFrom}
+use Rattle.octets.specs.Bits.{bit}
 use Rattle.octets.proofs.BitLaws.{bit-at, bit-low, bit-octetsFrom, octet-ext, octetsFrom-same}
 use Rattle.generator.specs.Generator.{loaded, announced, shifted, nextVector}
 use Rattle.generator.specs.Held.{stages, Holds}

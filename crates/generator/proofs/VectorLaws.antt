@@ -9,11 +9,11 @@ use Rattle.octets.specs.Bits.{Bits, Octets}
 use Rattle.octets.proofs.BitLaws.{bit-lt, length-octetsFrom, octets-octetsFrom, octets-append}
 use Rattle.generator.specs.Generator.{loaded, announced, shifted, nextVector, aesVector}
 
-bits-loaded : (s : List ℕ) → Bits (loaded s)
+pub bits-loaded : (s : List ℕ) → Bits (loaded s)
 unfolding loaded
 bits-loaded s i = bit-lt s (63 - i)
 
-bits-iterate : (n : ℕ) (b : ℕ → ℕ) → Bits b → Bits (iterate shifted n b)
+pub bits-iterate : (n : ℕ) (b : ℕ → ℕ) → Bits b → Bits (iterate shifted n b)
 unfolding iterate shifted
 bits-iterate zero b h i = h i
 bits-iterate (suc n) b h zero = omega arith

@@ -1,11 +1,11 @@
 -- One entry of the key book (document 01, "The key book"): its octets, its rules, and what is written into it.
 use Prim.Native.Nat.{ℕ, _+_, _-_}
 use mathlib.Core.Bool.{Bool, _&&_, _||_, not}
-use mathlib.Core.List.{List, [], _∷_, _++_}
+use mathlib.Core.List.{List, [], _∷_}
 use lib.ListN.{length, getD, set, take, drop, replicate}
 use lib.Dec.{ltb, leb, eqb}
 use Rattle.octets.specs.Lists.{replaced, allZero}
-use Rattle.octets.specs.Tests.{pick, allBelow}
+use Rattle.octets.specs.Tests.{pick}
 use Rattle.ciphers.specs.Numbers.{keyOctets}
 use Rattle.ciphers.specs.Keys.{keyAllowed}
 use Rattle.answers.specs.declared.Answer.the-variants.{NotReady, NotAllowed, Already, TooMany}

@@ -7,7 +7,7 @@ use native.Mathlib.Decide.{decLt}
 use native.Mathlib.Omega.{arith}
 use borrow.Rule.Slice.PartMut.{midOf, postOf, putMid, same-len-mid}
 use lib.ListN.{length, getD, take, drop, set, length-set, length-drop, List·getD-append}
-use lib.Seq.{getD-set-same, getD-set-other, ext-getD, getD-take, getD-drop, getD-append-add, length-take-le, drop-drop}
+use lib.Seq.{getD-set-same, getD-set-other, ext-getD, getD-take, getD-drop, getD-append-add, length-take-le}
 use Rattle.octets.specs.Lists.{tab}
 use Rattle.octets.proofs.ListLaws.{length-tab, getD-tab}
 

@@ -1,18 +1,15 @@
 -- Turning, octet by octet. Assumes nothing.
-use mathlib.Core.Path.{_≡_, refl, sym, ap, ap₂, _∙_}
+use mathlib.Core.Path.{_≡_, sym, ap, ap₂, _∙_}
 use mathlib.Core.List.{List}
-use mathlib.Core.Bool.{Bool}
-use Prim.Native.Nat.{ℕ, zero, suc, _+_, _-_, _*_, _/_, _%_, _^_, _≤_, _<_}
+use Prim.Native.Nat.{ℕ, _+_, _-_, _*_, _/_, _%_, _^_, _≤_, _<_}
 use native.Mathlib.Nat.{zero-div, le-refl}
 use native.Mathlib.Decide.{decLt}
 use native.Mathlib.Omega.{arith}
-use lib.Dec.{ltb}
 use lib.Bits.{bitXor, xor-lt, xor-zero-r}
 use lib.ListN.{length, getD, set}
 use Rattle.octets.proofs.Front.{Front, front-start, front-more, front-rest}
 use borrow.Author.Tests.{lt-ltb, le-ltb}
-use Rattle.octets.specs.Tests.{pick}
-use Rattle.octets.specs.Bits.{bit, flip, octetsFrom, Bits, Octets}
+use Rattle.octets.specs.Bits.{bit, flip, Octets}
 use Rattle.octets.proofs.BitLaws.{flip-lt, flip-flip, flip-zero, bit-lt, octets-ext, octet-ext, bit-at, xor-bit, bit-octetsFrom, octets-octetsFrom, length-octetsFrom, octetsFrom-same}
 use Rattle.octets.specs.Turn.{within, turned}
 use Rattle.octets.proofs.Windows.{windowAt, window-lt, window-bit, top-le, top-kept, top-lost}

@@ -7,7 +7,7 @@ use lib.ListN.{length}
 use borrow.Author.Tests.{eq-eqb, eqb-true, not-false, ne-eqb}
 use Rattle.answers.specs.declared.Answer.{Answer}
 use Rattle.answers.specs.declared.Answer.the-variants.{Done, ZeroVector}
-use Rattle.answers.specs.Numbers.{numberOf, isDone}
+use Rattle.answers.specs.Numbers.{isDone}
 use Rattle.answers.specs.Outcomes.{Refusals, outcome}
 use Rattle.answers.proofs.OutcomeLaws.{NoneHolds, neverDone, none-first, none-settles, done-none, Refuses, answerAt, refused-at, first-decides}
 use Rattle.keyentry.specs.Entry.{named}

@@ -1,4 +1,4 @@
--- What an opening asks, in document 01's order, of what is to be opened (bad, or busy: it stands already) and of the book. The ready key
+-- What an opening asks, in the order of document 01, "Answer numbers", of what is to be opened (bad, or busy: it stands already) and of the book. The ready key
 -- comes out of the book in one way. The packet's opening asks the same.
 use mathlib.Core.List.{List, [], _∷_, _++_}
 use mathlib.Core.Bool.{Bool, _&&_, not}

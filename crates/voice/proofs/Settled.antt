@@ -1,6 +1,6 @@
 -- Each operation's statement settles its outcome: any two outcomes that meet it are equal. And a refusal, any answer but 0 and 1, changes
 -- nothing. Assumes nothing.
-use mathlib.Core.Path.{_≡_, ap}
+use mathlib.Core.Path.{_≡_, ap, sym, _∙_}
 use mathlib.Core.Bool.{true}
 use mathlib.Core.List.{List}
 use Prim.Native.Nat.{ℕ}
@@ -14,7 +14,7 @@ use Rattle.session.specs.Session.{sessionVector}
 use Rattle.session.specs.Ladder.{keyFor}
 use Rattle.voice.specs.Call.{closed, sending, receiving, standing, written, endRefusals, endOf}
 use Rattle.voice.specs.Opening.{joinRefusals, openRefusals, openOf, startOf, joined, joinOf}
-use Rattle.voice.specs.Slot.{slotOn, lostRefusals, lostOf, voiceRefusals, voiceAfter, voiceBy, voiceOf}
+use Rattle.voice.specs.Slot.{slotOn, lostRefusals, lostOf, voiceRefusals, voiceAfter, voiceBy, voiceOf, sessionStreamOf}
 use Rattle.voice.specs.Vector.{told, announceRefusals, announceOf, following, nextRefusals, nextVectorOf}
 use Rattle.voice.proofs.SlotLaws.{voice-under-two}
 
@@ -52,6 +52,9 @@ module _ (a b : Answer) (x y : Call) (c : Call) where
 
 pub one-next : (a b : Answer) (f g : List ℕ) (c : Call) (out : List ℕ) → (a, f) ≡ nextVectorOf c out → (b, g) ≡ nextVectorOf c out → (a ≡ b) × (f ≡ g)
 one-next a b f g c out = one-outcome a b f g
+
+pub one-stream : (f g : List ℕ) (c : Call) (out : List ℕ) → f ≡ sessionStreamOf c out → g ≡ sessionStreamOf c out → f ≡ g
+one-stream f g c out p q = p ∙ sym q
 
 -- ---- a refusal changes nothing
 

@@ -1,14 +1,13 @@
 -- `ciphers::feedback::run` meets its contract: the octet that is read stands at its place in its block. Assumes nothing.
-use mathlib.Core.Path.{_≡_, refl, sym, ap, _∙_, subst}
+use mathlib.Core.Path.{_≡_, refl, sym}
 use native.Mathlib.Nat.{add-zero}
-use Prim.Native.Nat.{ℕ, _+_, _-_, _*_, _/_, _≤_}
+use Prim.Native.Nat.{_+_, _-_, _*_, _/_}
 use native.Mathlib.Omega.{arith}
 use borrow.Author.Needs.{needs}
 use lib.ListN.{length}
 use Rattle.octets.specs.Bits.{octetsFrom}
 use Rattle.octets.proofs.BitLaws.{length-octetsFrom}
 use Rattle.octets.proofs.Front.{Front, front-start, front-done}
-use Rattle.ciphers.specs.Numbers.{blockBits}
 use Rattle.ciphers.specs.Engine.{encipheredBy, running}
 use Rattle.ciphers.proofs.Running.{Stands, wide, stands-first, stands-next, place-lt, run-more}
 use Rattle.ciphers.proofs.feedback.run.Statement.{statement}

@@ -1,4 +1,4 @@
--- Demand 3, what was said: one call of a sender that keeps the rules, and what the channel let through.
+-- Demand 3, what was said (document 01, "Voice"): one call of a sender that keeps the rules, and what the channel let through.
 use mathlib.Core.Path.{_≡_}
 use mathlib.Core.List.{List, [], _∷_, _++_, map}
 use mathlib.Core.Bool.{Bool, true, false}
@@ -35,9 +35,9 @@ pub record Talk : Type 0 where
   pub sessions : List Session
 
 -- how the receiver comes in: it hears the opening, or joins at the end of the first superframe of session n, counted from 0
-pub data Entry : Type 0 where
-  opening : Entry
-  joining : ℕ → Entry
+pub data WayIn : Type 0 where
+  opening : WayIn
+  joining : ℕ → WayIn
 
 -- ---- the sender keeps the rules
 
