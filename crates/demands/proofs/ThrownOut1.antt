@@ -1,7 +1,7 @@
 -- What demand 1 throws out: every key but one, histories in which no finish was done (version one began while the key loader was still sending),
 -- and keys that were erased before the opening. Assumes nothing.
 use mathlib.Core.Path.{_≡_, refl, sym, ap, subst, _∙_}
-use mathlib.Core.Bool.{Bool, true, false, _&&_, and-true, true≢false}
+use mathlib.Core.Bool.{Bool, true, false, _&&_, true≢false}
 use mathlib.Core.List.{List, [], _∷_, _++_}
 use Prim.Native.Nat.{ℕ}
 use lib.Dec.{eqb}
@@ -11,6 +11,7 @@ use Rattle.answers.specs.declared.Answer.{Answer}
 use Rattle.answers.specs.declared.Answer.the-variants.{Done, NotReady}
 use Rattle.answers.specs.Numbers.{numberOf, isDone}
 use Rattle.keybook.specs.History as book
+use Rattle.keybook.proofs.HistoryLaws.{one-told}
 use Rattle.demands.specs.Device.{CallOperation, Open, Start, Join, Voice, Lost, End, Announce, NextVector, PacketOperation, OpenPacket, Message, LostMessage, EndPacket, Operation, OfBook, OfCall, OfPacket, step, History, deviceAfter, history, keyOperations}
 use Rattle.demands.specs.Demand1.{OpensCall, by-open, by-start, by-join, OpensPacket, by-opening, renewsCall, renewsPacket, NoneDone, Loaded}
 use Rattle.demands.proofs.Meets1.{ours-meets-1}
@@ -28,21 +29,29 @@ finishing (OfBook o) = isFinish o
 finishing (OfCall n o) = false
 finishing (OfPacket n o) = false
 
-either-false : (t : Bool) {f g : Bool} → f ≡ false → g ≡ false → pick t f g ≡ false
-either-false true p q = p
-either-false false p q = q
+abbrev isFinished : book.Progress → Bool
+isFinished book.nothing = false
+isFinished (book.loading xs) = false
+isFinished (book.finished xs) = true
 
-unfinished : (h : History) → NoneDone finishing h → (c i : ℕ) → book.finished (keyOperations h) c i ≡ false
-unfolding keyOperations book.finished
+-- another operation finishes nothing
+not-by : (o : book.Operation) (t : book.Progress) → isFinish o ≡ false → isFinished (book.tells o t) ≡ false
+not-by (book.Begin d j) t e = refl
+not-by (book.Add d j xs) book.nothing e = refl
+not-by (book.Add d j xs) (book.loading ys) e = refl
+not-by (book.Add d j xs) (book.finished ys) e = refl
+not-by (book.Finish d j) t e = absurd (true≢false e)
+not-by (book.Erase d j) t e = refl
+
+unfinished : (h : History) → NoneDone finishing h → (c i : ℕ) → isFinished (book.telling (keyOperations h) c i) ≡ false
+unfolding keyOperations book.telling
 unfinished [] n c i = refl
-unfinished ((OfBook o, a) ∷ h) n c i = go o (n .0) (unfinished h (n .1) c i)
+unfinished ((OfBook o, a) ∷ h) n c i = go (isDone a) (book.names c i o) (n .0) (book.telling (keyOperations h) c i) (unfinished h (n .1) c i)
   where
-    go : (o : book.Operation) → (isDone a && isFinish o) ≡ false → book.finished (keyOperations h) c i ≡ false
-        → pick (isDone a && book.names c i o) (book.finishes o (book.finished (keyOperations h) c i)) (book.finished (keyOperations h) c i) ≡ false
-    go (book.Begin d j) e f = either-false (isDone a && book.names c i (book.Begin d j)) refl f
-    go (book.Add d j xs) e f = either-false (isDone a && book.names c i (book.Add d j xs)) refl f
-    go (book.Finish d j) e f = rw (sym (and-true (isDone a)) ∙ e) f
-    go (book.Erase d j) e f = either-false (isDone a && book.names c i (book.Erase d j)) refl f
+    go : (d m : Bool) → (d && isFinish o) ≡ false → (t : book.Progress) → isFinished t ≡ false → isFinished (pick (d && m) (book.tells o t) t) ≡ false
+    go true true e t f = not-by o t e
+    go true false e t f = f
+    go false m e t f = f
 unfinished ((OfCall m o, a) ∷ h) n c i = unfinished h (n .1) c i
 unfinished ((OfPacket m o, a) ∷ h) n c i = unfinished h (n .1) c i
 
@@ -54,7 +63,7 @@ pub unfinished-loads-none : (opens : ℕ → ℕ → Operation → Type 0) (rene
     → Loaded opens renews h c k → ⊥
 unfinished-loads-none opens renews h c k n l =
     let m : NoneDone finishing (l .since ++ ((l .opening, Done) ∷ l .before)) = rw (l .is-history) at n in
-    true≢false (sym (l .told .is-finished) ∙ unfinished (l .before) (after finishing (l .since) ((l .opening, Done) ∷ l .before) m .1) c (l .id))
+    true≢false (ap isFinished (sym (l .told .is-finished)) ∙ unfinished (l .before) (after finishing (l .since) ((l .opening, Done) ∷ l .before) m .1) c (l .id))
 
 -- so no word and no message is turned
 module _ (os : List Operation) (none : NoneDone finishing (history os)) (n : ℕ) where
@@ -107,7 +116,7 @@ module _ (opens : ℕ → ℕ → Operation → Type 0) (renews : Operation → 
       let r = renewing c′ (l′ .id) (l′ .opening) (l′ .opens-it) in
       let a = told-at h c k l (l′ .since) (l′ .before) (l′ .opening) r (l′ .still-stands) (l′ .is-history) in
       let b = told-at h c′ k′ l′ (l′ .since) (l′ .before) (l′ .opening) r (l′ .still-stands) (l′ .is-history) in
-      (a .0 ∙ sym (b .0), a .1 .is-added ∙ sym (b .1 .is-added))
+      (a .0 ∙ sym (b .0), one-told (a .1) (b .1))
 
 -- the cipher and key ID that an opening names
 abbrev callNames : CallOperation → ℕ × ℕ
@@ -162,8 +171,8 @@ module _ (n : ℕ) where
 -- an opening right after its key was erased, whatever came before
 pub erased : (c i d : ℕ) (k w : List ℕ) (h : History)
     → Loaded (OpensCall 0) (renewsCall 0) ((OfCall 0 (Open c i w), Done) ∷ (OfBook (book.Erase c i), Done) ∷ h) d k → ⊥
-unfolding keyOperations book.finished
+unfolding keyOperations book.telling
 erased c i d k w h l =
     let t = told-at (OpensCall 0) (renewsCall 0) openingNames (call-renews 0) (call-names 0) _ d k l [] ((OfBook (book.Erase c i), Done) ∷ h)
     (OfCall 0 (Open c i w)) refl tt refl in
-    true≢false (sym (t .1 .is-finished) ∙ rw (eq-eqb c c refl, eq-eqb i i refl))
+    true≢false (ap isFinished (sym (t .1 .is-finished)) ∙ rw (eq-eqb c c refl, eq-eqb i i refl))

@@ -115,6 +115,10 @@ module _ (b : List ℕ) (c i : ℕ) where
             (λ j lj d u. rw (new-cipher c i, new-id c i) (none j lj));
       }
 
+  pub begin-used : NoneHolds (beginRefusals b c i) → c ≡ 0 → ⊥
+  unfolding beginRefusals
+  begin-used n = named-used c i (named-by b c i (none-left (bookRefusals b c i) _ n))
+
   module _ (xs : List ℕ) (n : NoneHolds (addRefusals b c i xs)) where
     pub add-there : There b c i
     unfolding addRefusals
@@ -148,6 +152,10 @@ module _ (b : List ℕ) (c i : ℕ) where
     none-complete : NoneHolds (completeRefusals (entryFor b c i))
     unfolding finishRefusals
     none-complete = none-right (bookRefusals b c i) ((not (has b c i), NoEntry) ∷ completeRefusals (entryFor b c i)) n .1
+
+    pub finish-not-ready : isReady (entryFor b c i) ≡ false
+    unfolding completeRefusals
+    finish-not-ready = none-complete .0
 
     pub finish-whole : lacks (entryFor b c i) ≡ 0
     unfolding completeRefusals

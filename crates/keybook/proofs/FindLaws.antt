@@ -8,7 +8,7 @@ use mathlib.Core.List.{List, []}
 use lib.ListN.{length, take, drop-of-length-le}
 use lib.Seq.{take-nil}
 use Rattle.octets.proofs.TestLaws.{first-none}
-use Rattle.keyentry.specs.Entry.{entryOctets, isFor}
+use Rattle.keyentry.specs.Entry.{entryOctets, cipherIn, isFor}
 use Rattle.keybook.specs.Book.{entries, bookOctets, entryOf, withEntry, findEntry}
 use Rattle.keybook.specs.Operations.{entryFor}
 use Rattle.keybook.proofs.GoodLaws.{good-sized, find-is, none-for, found-for, entry-same, entry-other}
@@ -27,6 +27,14 @@ find-none b c i h = first-none (λ k. isFor c i (entryOf b k)) entries h
 
 pub none-there : (b : List ℕ) (c i : ℕ) → length b ≡ bookOctets → findEntry b c i ≡ entries → entryFor b c i ≡ []
 none-there b c i h e = ap (entryOf b) e ∙ no-entry b h
+
+-- so what has a cipher was found
+pub used-found : (b : List ℕ) (c i : ℕ) → length b ≡ bookOctets → (cipherIn (entryFor b c i) ≡ 0 → ⊥) → findEntry b c i < entries
+used-found b c i h u = go (decLt (findEntry b c i) entries)
+  where
+    go : Dec (findEntry b c i < entries) → findEntry b c i < entries
+    go (yes l) = l
+    go (no m) = absurd (u (ap cipherIn (none-there b c i h (find-none b c i (none-for b c i (omega arith))))))
 
 module _ (b : List ℕ) (k : ℕ) (e : List ℕ) {after : List ℕ} (ch : Changed b after k e) (c i : ℕ) (n : c ≡ 0 → ⊥) where
   abbrev now-is : List ℕ

@@ -1,8 +1,8 @@
--- A history of key operations (document 01, "The key book"; demand 1), told by the operations and their answers alone: which octets were added for a cipher type
--- and key ID since the begin that took it, and whether they were finished. What was refused does not count.
+-- A history of key operations (document 01, "The key book"; demand 1), and what it tells of a cipher type and key ID by the operations and their answers
+-- alone: how far its key has come, and with which octets. What was refused does not count.
 use Prim.Native.Nat.{ℕ, _-_}
 use mathlib.Core.Path.{_≡_}
-use mathlib.Core.Bool.{Bool, true, false, _&&_}
+use mathlib.Core.Bool.{Bool, true, _&&_}
 use mathlib.Core.List.{List, [], _∷_, _++_}
 use lib.ListN.{length, replicate}
 use lib.Dec.{eqb}
@@ -24,7 +24,7 @@ pub data Operation : Type 0 where
 abbrev pub History : Type 0
 History = List (Operation × Answer)
 
--- ---- what a history says of a cipher type and key ID
+-- ---- what a history tells of a cipher type and key ID
 
 -- the operation names them
 abbrev pub names : ℕ → ℕ → Operation → Bool
@@ -33,54 +33,39 @@ names c i (Finish d j) = eqb d c && eqb j i
 names c i (Erase d j) = eqb d c && eqb j i
 names c i (Add d j xs) = eqb d c && eqb j i
 
--- what becomes of the octets xs that were added
-abbrev pub adds : Operation → List ℕ → List ℕ
-adds (Begin d j) xs = []
-adds (Add d j ys) xs = xs ++ ys
-adds (Finish d j) xs = xs
-adds (Erase d j) xs = []
+-- no key, the octets of one that is being loaded, or those of one that was finished
+pub data Progress : Type 0 where
+  nothing : Progress
+  loading finished : List ℕ → Progress
 
--- the octets that were added since the begin that took it
-unfoldable pub added : History → ℕ → ℕ → List ℕ
-added [] c i = []
-added (h ∷ hs) c i = pick (isDone (h .1) && names c i (h .0)) (adds (h .0) (added hs c i)) (added hs c i)
+-- one operation more: begin starts with no octets, add appends, finish ends the loading, erase leaves no key; an add or a finish out of turn tells of none
+abbrev pub tells : Operation → Progress → Progress
+tells (Begin d j) t = loading []
+tells (Add d j ys) nothing = nothing
+tells (Add d j ys) (loading xs) = loading (xs ++ ys)
+tells (Add d j ys) (finished xs) = nothing
+tells (Finish d j) nothing = nothing
+tells (Finish d j) (loading xs) = finished xs
+tells (Finish d j) (finished xs) = nothing
+tells (Erase d j) t = nothing
 
--- whether they are finished, where f says whether they were
-abbrev pub finishes : Operation → Bool → Bool
-finishes (Begin d j) f = false
-finishes (Add d j ys) f = false
-finishes (Finish d j) f = true
-finishes (Erase d j) f = false
-
--- a finish was done since the begin that took it
-unfoldable pub finished : History → ℕ → ℕ → Bool
-finished [] c i = false
-finished (h ∷ hs) c i = pick (isDone (h .1) && names c i (h .0)) (finishes (h .0) (finished hs c i)) (finished hs c i)
-
--- whether a begin took it, where g says whether one had
-abbrev pub begins : Operation → Bool → Bool
-begins (Begin d j) g = true
-begins (Add d j ys) g = g
-begins (Finish d j) g = g
-begins (Erase d j) g = false
-
--- a begin was done, and no erase since
-unfoldable pub begun : History → ℕ → ℕ → Bool
-begun [] c i = false
-begun (h ∷ hs) c i = pick (isDone (h .1) && names c i (h .0)) (begins (h .0) (begun hs c i)) (begun hs c i)
+-- what is told by the operations that were done and name them
+unfoldable pub telling : History → ℕ → ℕ → Progress
+telling [] c i = nothing
+telling (h ∷ hs) c i = pick (isDone (h .1) && names c i (h .0)) (tells (h .0) (telling hs c i)) (telling hs c i)
 
 -- octets, followed by zeros to 32
 abbrev pub padded : List ℕ → List ℕ
 padded xs = xs ++ replicate (keyRoom - length xs) 0
 
--- what a history tells of a key k: a finish was done, k is exactly the octets that were added, in order, followed by
--- zeros, their number is the cipher's key length, and they are allowed
+-- a history tells of key k: a key was finished, k is exactly the octets that were added since its begin, in order, followed by zeros, their number is
+-- the cipher's key length, and they are allowed
 pub record Told (h : History) (c i : ℕ) (k : List ℕ) : Type 0 where
-  pub is-begun : begun h c i ≡ true
-  pub is-finished : finished h c i ≡ true
-  pub is-added : k ≡ padded (added h c i)
-  pub is-whole : length (added h c i) ≡ keyOctets c
-  pub is-allowed : keyAllowed c (added h c i) ≡ true
+  pub octets : List ℕ
+  pub is-finished : telling h c i ≡ finished octets
+  pub is-padded : k ≡ padded octets
+  pub is-whole : length octets ≡ keyOctets c
+  pub is-allowed : keyAllowed c octets ≡ true
 
 -- ---- the histories that come to pass
 
