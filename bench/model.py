@@ -1,9 +1,11 @@
 #!/usr/bin/env python3
 """An independent model of the build paper, to compare with: scramble, the generator, the book and the receiver in Python, DES and AES by OpenSSL's command.
 
-model.py messages            prints the rows of crates/vectors/data/data-messages.tsv
+model.py first               prints crates/vectors/data/nxdn-first-messages.tsv, the enciphered user data as 001 has it
+model.py messages            prints crates/vectors/data/data-messages.tsv
+model.py slots               prints crates/vectors/data/voice-slots.tsv
 model.py slotcheck < FILE    prints what slotcheck should print
-Both first check the model against section 7.2.2 of NXDN TS 1-D."""
+Each first checks the model against section 7.2.2 of NXDN TS 1-D ("001")."""
 import functools
 import re
 import subprocess
@@ -68,13 +70,27 @@ def turned(cipher, count, text):
     return bytes(a ^ b for a, b in zip(text, bits[start:]))
 
 
-def messages():
+def row(cipher, kind, count, text, enciphered):
+    message, sent = (HEAD + octets + TAIL[kind] for octets in (text, enciphered))
+    print(cipher, kind, KEYS[cipher], SEED[cipher], f"{count:04X}", message.hex().upper(), sent.hex().upper(), sep="\t")
+
+
+def first():
+    print("# The first message of each kind and cipher, from 001, 7.2.2: cipher type, kind, key, vector, count of messages before it (hex), message, message protected.")
+    print("# Rows of kind 1 have the user data as printed there; those of kinds 2 to 4 are cut from it, to 14 and 8 characters, as 7.2.2 says. The two octets before it, and after it in kind 3, are ours.")
     for kind, protected in PROTECTED.items():
         for cipher in KEYS:
-            for count in [0, 1, 999] if kind == 2 else [0, 1]:
+            row(cipher, kind, 0, TEXT[:protected], bytes.fromhex(PUBLISHED[cipher])[:protected])
+
+
+def messages():
+    print("# The second message of each kind and cipher, and the thousandth of kind 2: cipher type, kind, key, vector, count of messages before it (hex), message, message protected.")
+    print("# Printed by bench/model.py messages: scramble and the generator in Python, DES and AES by OpenSSL.")
+    for kind, protected in PROTECTED.items():
+        for cipher in KEYS:
+            for count in [1, 999] if kind == 2 else [1]:
                 text = (TEXT if count != 1 else TEXT[::-1])[:protected]
-                message, sent = HEAD + text + TAIL[kind], HEAD + turned(cipher, count, text) + TAIL[kind]
-                print(cipher, kind, KEYS[cipher], SEED[cipher], f"{count:04X}", message.hex().upper(), sent.hex().upper(), sep="\t")
+                row(cipher, kind, count, text, turned(cipher, count, text))
 
 
 # ---- the receiver
@@ -193,6 +209,34 @@ class Receiver:
         return f"{answer}\t{position}\t{frame.hex().upper() if frame else '-'}\n"
 
 
+# ---- voice slots
+
+# cipher type, key, position, mask and a frame that came, any octets
+FRAMES = [
+    (1, "5A3C", 2, 15, "A3E46432FF55F87827B12299E296E86E70D3C2A3864C3D50E8F049CE"),
+    (1, "5A3C", 3, 10, "9E006095AAC607C8B0E24C9AF4894DC4CE73FF23C4310C3982F5FE96"),
+    (2, KEYS[2], 1, 15, "1D1676873F7FE5974381DB2340834680F5049B34E19671BF0155964F"),
+    (2, KEYS[2], 3, 10, "2B18CADAAFD04F196799B30C84065F049B837D0E8C28CB500727FC37"),
+    (2, KEYS[2], 7, 14, "ACCDC65C47B6DAF73D136F9CD4809CD8894415AB99DB0809BD5DD760"),
+    (3, KEYS[3], 1, 15, "55AF56D922BC7FAF4AE1EFD028334F46B188B218C37BCB2CBDFB3CF7"),
+    (3, KEYS[3], 5, 5, "748DB6313C5AE63AC1883AFEE5D2BFF653903D46577817C081279AAE"),
+    (3, KEYS[3], 7, 8, "53211E950C8C4B90FA2A8A2581D626544FC52A56411CE18D3E305AA1"),
+]
+
+
+def slots():
+    print("# Voice slots past the first: cipher type, key, vector, position, mask (hex), frame that came, opened frame.")
+    print("# Printed by bench/model.py slots: scramble and the generator in Python, DES and AES by OpenSSL.")
+    for cipher, key, position, mask, frame in FRAMES:
+        receiver = Receiver()
+        receiver.call = [cipher, bytes.fromhex(key), position, bytes.fromhex(SEED[cipher])]
+        _, opened = receiver.voice(mask, bytes.fromhex(frame))
+        print(cipher, key, SEED[cipher], position, f"{mask:02X}", frame, opened.hex().upper(), sep="\t")
+
+
+# ---- slotcheck
+
+
 def slotcheck(text):
     receiver = Receiver()
     lines = text.split(b"\n")
@@ -205,8 +249,9 @@ for cipher, enciphered in PUBLISHED.items():
     assert turned(cipher, 0, TEXT).hex().upper() == enciphered
 
 if __name__ == "__main__":
-    if sys.argv[1:] == ["messages"]:
-        messages()
+    printed = {"first": first, "messages": messages, "slots": slots}
+    if len(sys.argv) == 2 and sys.argv[1] in printed:
+        printed[sys.argv[1]]()
     elif sys.argv[1:] == ["slotcheck"]:
         slotcheck(sys.stdin.buffer.read())
     else:

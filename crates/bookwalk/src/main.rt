@@ -14,6 +14,8 @@ use libc::STDOUT_FILENO;
 // Room for a book and one octet more.
 const ROOM: usize = BOOK_OCTETS + 1;
 
+const ENTRIES: u8 = (BOOK_OCTETS / ENTRY_OCTETS) as u8;
+
 // ---- what is written
 
 fn text(t: &[u8]) {
@@ -203,11 +205,11 @@ fn fill(book: &mut [u8], n: u8) {
 fn full() {
     let mut book = [0u8; BOOK_OCTETS];
     text(b"# all entries in use\n");
-    fill(&mut book, 16);
-    begin(&mut book, 1, 16);
+    fill(&mut book, ENTRIES);
+    begin(&mut book, 1, ENTRIES);
     begin(&mut book, 1, 3);
     erase(&mut book, 1, 3);
-    begin(&mut book, 1, 16);
+    begin(&mut book, 1, ENTRIES);
     begin(&mut book, 1, 3);
 }
 
@@ -264,7 +266,7 @@ fn broken_entries() {
         3 * ENTRY_OCTETS - 1,
         1,
     );
-    broken(b"cipher type 4", b"\x7f\xff", CIPHER, 4);
+    broken(b"cipher type 4", b"", CIPHER, 4);
     broken(b"key ID 64", b"\x7f\xff", ID, 64);
     broken(b"a count past the key's length", b"\x7f\xff", COUNT, 3);
     broken(b"a key octet past the count", b"\x7f", KEY + 1, 1);

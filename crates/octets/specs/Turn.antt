@@ -1,4 +1,5 @@
--- Turning: the first bits of a part, turned over by the bits of a keystream. All of voice and data is this.
+-- Turning: the first bits of a part, turned over by the bits of a keystream. A message is turned so. A voice frame is written out bit by bit over
+-- the same `flip` (voice's `protect`), and in the code each of its words is turned so.
 use mathlib.Core.List.{List}
 use Prim.Native.Nat.{ℕ}
 use lib.Dec.{ltb}

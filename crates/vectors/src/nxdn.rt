@@ -1,4 +1,4 @@
-// The known outputs of the vector generator (NXDN TS 1-D, 7.2.3). The enciphered user data of 7.2.2 are first DCALL messages, in `messages`.
+// The known outputs of the vector generator (NXDN TS 1-D, 7.2.3). The enciphered user data of 7.2.2 are first messages, in `messages`.
 use crate::row::has_octets;
 use crate::row::number;
 use crate::row::octets_of;
