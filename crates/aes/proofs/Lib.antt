@@ -1,4 +1,5 @@
 pub mod FieldLaws
 pub mod StateLaws
+pub mod ColumnLaws
 pub mod ScheduleLaws
 pub mod Examples

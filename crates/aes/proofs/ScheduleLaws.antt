@@ -3,7 +3,7 @@
 -- Assumes nothing.
 use mathlib.Core.Path.{_≡_, refl, sym, ap, _∙_}
 use mathlib.Core.Bool.{Bool, true, false}
-use mathlib.Core.List.{List, [], _∷_, _++_, append-assoc}
+use mathlib.Core.List.{List, _++_, append-assoc}
 use Prim.Native.Nat.{ℕ, zero, suc, _+_, _-_, _*_, _/_, _%_, _^_, _≤_, _<_}
 use native.Mathlib.Omega.{arith}
 use lib.Bits.{bitXor, xor-lt, xor-zero-r}
@@ -21,6 +21,7 @@ use Rattle.octets.proofs.BitLaws.{octets-append}
 use Rattle.aes.specs.Field.{xtime, reduce}
 use Rattle.aes.specs.Cipher.{word, xors, rotWord, subWord, rconOf, temp, nextWord, expanded, keyExpansion}
 use Rattle.aes.proofs.FieldLaws.{xtime-lt, sbox-lt}
+use Rattle.aes.proofs.StateLaws.{octets-first}
 
 -- ---- the three cases of temp
 
@@ -115,13 +116,6 @@ rcon-lt zero = omega arith
 rcon-lt (suc zero) = omega arith
 rcon-lt (suc (suc j)) = xtime-lt (rconOf (suc j)) (rcon-lt (suc j))
 
-octets-rcon : (r : ℕ) → r < 256 → Octets (r ∷ 0 ∷ 0 ∷ 0 ∷ [])
-octets-rcon r h zero = h
-octets-rcon r h (suc zero) = omega arith
-octets-rcon r h (suc (suc zero)) = omega arith
-octets-rcon r h (suc (suc (suc zero))) = omega arith
-octets-rcon r h (suc (suc (suc (suc i)))) = omega arith
-
 octets-pick : (b : Bool) (x y : List ℕ) → Octets x → Octets y → Octets (pick b x y)
 octets-pick true x y ox oy = ox
 octets-pick false x y ox oy = oy
@@ -129,7 +123,7 @@ octets-pick false x y ox oy = oy
 octets-temp : (t : List ℕ) (i : ℕ) → Octets t → Octets (temp t i)
 unfolding temp
 octets-temp t i o =
-    octets-pick (eqb (i % 8) 0) _ _ (octets-xors _ _ (octets-subWord _ (octets-rotWord t o)) (octets-rcon (rconOf (i / 8)) (rcon-lt (i / 8))))
+    octets-pick (eqb (i % 8) 0) _ _ (octets-xors _ _ (octets-subWord _ (octets-rotWord t o)) (octets-first (rconOf (i / 8)) (rcon-lt (i / 8))))
     (octets-pick (eqb (i % 8) 4) _ _ (octets-subWord t o) o)
 
 octets-next : (w : List ℕ) (i : ℕ) → Octets w → Octets (nextWord w i)

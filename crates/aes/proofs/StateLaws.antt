@@ -12,9 +12,9 @@ use Rattle.octets.specs.Bits.{Octets}
 use Rattle.octets.specs.Lists.{tab}
 use Rattle.octets.proofs.Front.{Front, front-four, front-to}
 use Rattle.octets.proofs.ListLaws.{length-tab, getD-tab, tab-same, octets-tab}
-use Rattle.aes.specs.Field.{xtime, sboxOf}
+use Rattle.aes.specs.Field.{sboxOf}
 use Rattle.aes.specs.Cipher.{word, cell, subBytes, shiftRows, mixed, mixColumns, addRoundKey, rounds, cipher}
-use Rattle.aes.proofs.FieldLaws.{mul-two, mul-three, mul-lt, sbox-lt}
+use Rattle.aes.proofs.FieldLaws.{mul-lt, sbox-lt}
 
 -- ---- sizes
 
@@ -49,14 +49,7 @@ pub addRoundKey-at : (w s : List ℕ) (n i : ℕ) → i < 16 → bitXor (getD s 
 unfolding addRoundKey
 addRoundKey-at w s n i h = sym (getD-tab (λ k. bitXor (getD s k 0) (getD w (16 * n + k) 0)) 16 i h)
 
--- ---- a column, as `aes::mix_column` and `aes::column` make it
-
-pub mix-law : (a b c d p q r s : ℕ) → p ≡ xtime a → q ≡ xtime b → r ≡ xtime c → s ≡ xtime d
-    → bitXor (bitXor (bitXor p (bitXor b q)) c) d ∷ bitXor (bitXor (bitXor q (bitXor c r)) d) a
-    ∷ bitXor (bitXor (bitXor r (bitXor d s)) a) b ∷ bitXor (bitXor (bitXor s (bitXor a p)) b) c ∷ []
-    ≡ tab (λ i. mixed (a ∷ b ∷ c ∷ d ∷ []) i 0) 4
-unfolding mixed tab
-mix-law a b c d p q r s e f g h = rw (e, f, g, h) (simp (mul-two, mul-three))
+-- ---- a column
 
 cell-at : (x : List ℕ) (q r : ℕ) → r < 4 → cell (word x q) r 0 ≡ cell x r q
 cell-at x q r h = rw add-zero (word-at x q r h ∙ ap (λ (k : ℕ). getD x k 0) (add-comm (4 * q) r))
@@ -120,6 +113,14 @@ module _ (w b s : List ℕ) (n : ℕ) (e : s ≡ rounds w b n) where
 
 -- ---- octets
 
+-- a word that is v, 0, 0, 0
+pub octets-first : (v : ℕ) → v < 256 → Octets (v ∷ 0 ∷ 0 ∷ 0 ∷ [])
+octets-first v h zero = h
+octets-first v h (suc zero) = omega arith
+octets-first v h (suc (suc zero)) = omega arith
+octets-first v h (suc (suc (suc zero))) = omega arith
+octets-first v h (suc (suc (suc (suc i)))) = omega arith
+
 octets-subBytes : (s : List ℕ) → Octets s → Octets (subBytes s)
 unfolding subBytes
 octets-subBytes s o = octets-tab _ 16 (λ i h. sbox-lt (getD s i 0) (o i))
@@ -128,7 +129,7 @@ octets-shiftRows : (s : List ℕ) → Octets s → Octets (shiftRows s)
 unfolding shiftRows
 octets-shiftRows s o = octets-tab _ 16 (λ i h. o (i % 4 + 4 * ((i / 4 + i % 4) % 4)))
 
-mixed-lt : (s : List ℕ) (r c : ℕ) → Octets s → mixed s r c < 256
+pub mixed-lt : (s : List ℕ) (r c : ℕ) → Octets s → mixed s r c < 256
 unfolding mixed
 mixed-lt s r c o =
     let x = xor-lt 8 in

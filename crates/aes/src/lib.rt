@@ -1,27 +1,20 @@
-// AES-256's forward cipher (FIPS 197). Whoever enciphers makes the S-box once, by `table`, and lends it to each call.
+// AES-256's forward cipher (FIPS 197). Whoever enciphers makes the S-box, a key's schedule and the columns once, and lends them to each call.
 mod tables;
 
 ghost use mathlib.Core.Path.{_≡_};
-ghost use mathlib.Core.List.{_∷_, []};
-ghost use Prim.Native.Nat.{_<_, _≤_};
+ghost use Prim.Native.Nat.{_+_, _*_, _/_, _%_, _^_, _-_, _<_, _≤_};
+ghost use lib.Bits.{bitOr};
 ghost use lib.ListN.{length, getD, take};
-ghost use Rattle.octets.specs.Lists.{tab};
 ghost use Rattle.aes.specs.Field.{sboxOf, IsSbox, xtime as xtimeOf};
-ghost use Rattle.aes.specs.Cipher.{word, subBytes, shiftRows, mixed, mixColumns, addRoundKey, cipher};
+ghost use Rattle.aes.specs.Cipher.{word, subBytes, shiftRows, mixColumns, addRoundKey, cipher};
 ghost use Rattle.aes.specs.Cipher.{xors, rconOf, rotWord, subWord, temp as tempOf, nextWord, keyExpansion};
+ghost use Rattle.aes.specs.Columns.{mixedAlone, IsColumns, joined};
 
 // The S-box. A constant that is indexed is made anew at each read, so this is called once.
-pub fn table() -> [u8; 256]
+pub fn sbox() -> [u8; 256]
     ensures { λ r. ⌜ IsSbox r ⌝ }
 {
     tables::SBOX
-}
-
-fn sbox(table: &[u8], x: u8) -> u8
-    requires { ⌜ IsSbox (now table) ⌝ }
-    ensures { λ r. ⌜ r ≡ sboxOf x ⌝ }
-{
-    table[x as usize]
 }
 
 // {02} times b (4.2), with no branch.
@@ -31,55 +24,84 @@ fn xtime(b: u8) -> u8
     (b << 1) ^ ((b >> 7) * 0x1b)
 }
 
-// Octet i of the state after SubBytes and ShiftRows (5.1.1, 5.1.2), which comes from place 5 i mod 16.
-fn sub_shifted(table: &[u8], s: &[u8; 16], i: usize) -> u8
-    requires { ⌜ IsSbox (now table) ⌝ }
+// SubBytes and MixColumns of each octet alone, which a round's columns are sums of.
+pub fn columns(sbox: &[u8]) -> [u8; 1024]
+    requires { ⌜ IsSbox (now sbox) ⌝ }
+    ensures { λ r. ⌜ IsColumns r ⌝ }
+{
+    let mut o = [0u8; 1024];
+    for x in 0..256usize {
+        let s = sbox[x];
+        let d = xtime(s);
+        let i = 4 * x;
+        o[i] = d;
+        o[i + 1] = s;
+        o[i + 2] = s;
+        o[i + 3] = s ^ d;
+    }
+    o
+}
+
+// The octet that SubBytes and ShiftRows (5.1.1, 5.1.2) make octet i of: it stands at place 5 i mod 16.
+fn shifted(s: &[u8; 16], i: usize) -> u8
     requires { ⌜ i < 16 ⌝ }
-    ensures { λ r. ⌜ r ≡ getD (shiftRows (subBytes (now (s .entry)))) i 0 ⌝ }
+    ensures { λ r. ⌜ sboxOf r ≡ getD (shiftRows (subBytes (now (s .entry)))) i 0 ⌝ }
 {
-    sbox(table, s[5 * i % 16])
+    s[5 * i % 16]
 }
 
-// One column mixed (5.1.3).
-fn mix_column(a: u8, b: u8, c: u8, d: u8) -> [u8; 4]
-    ensures { λ r. ⌜ r ≡ tab (λ i. mixed (a ∷ b ∷ c ∷ d ∷ []) i 0) 4 ⌝ }
+// Four octets as a word, the first lowest. Of neighbours the compiler makes one load.
+fn join(a: u8, b: u8, c: u8, d: u8) -> u32
+    ensures { λ r. ⌜ r ≡ a + 256 * b + 65536 * c + 16777216 * d ⌝ }
 {
-    let p = xtime(a);
-    let q = xtime(b);
-    let r = xtime(c);
-    let s = xtime(d);
-    [
-        p ^ (b ^ q) ^ c ^ d,
-        q ^ (c ^ r) ^ d ^ a,
-        r ^ (d ^ s) ^ a ^ b,
-        s ^ (a ^ p) ^ b ^ c,
-    ]
+    a as u32 + 256 * (b as u32) + 65536 * (c as u32) + 16777216 * (d as u32)
 }
 
-// Column q of the state after SubBytes, ShiftRows and MixColumns.
-fn column(table: &[u8], s: &[u8; 16], q: usize) -> [u8; 4]
-    requires { ⌜ IsSbox (now table) ⌝ }
+// The columns' entry for x, as a word.
+fn entry(columns: &[u8], x: u8) -> u32
+    requires { ⌜ IsColumns (now columns) ⌝ }
+    ensures { λ r. ⌜ r ≡ joined (mixedAlone (sboxOf x)) ⌝ }
+{
+    let i = 4 * x as usize;
+    join(columns[i], columns[i + 1], columns[i + 2], columns[i + 3])
+}
+
+// A word turned by n bits, of which eight are a row.
+fn turned(w: u32, n: u32) -> u32
+    requires { ⌜ (0 < n) × (n < 32) ⌝ }
+    ensures { λ r. ⌜ r ≡ bitOr (w * 2 ^ n % 4294967296) (w / 2 ^ (32 - n)) ⌝ }
+{
+    (w << n) | (w >> (32 - n))
+}
+
+// Column q of the state after SubBytes, ShiftRows and MixColumns: the sum of its four octets' entries, each turned to its row.
+fn column(columns: &[u8], s: &[u8; 16], q: usize) -> [u8; 4]
+    requires { ⌜ IsColumns (now columns) ⌝ }
     requires { ⌜ q < 4 ⌝ }
     ensures { λ r. ⌜ r ≡ word (mixColumns (shiftRows (subBytes (now (s .entry))))) q ⌝ }
 {
     let i = 4 * q;
-    mix_column(
-        sub_shifted(table, s, i),
-        sub_shifted(table, s, i + 1),
-        sub_shifted(table, s, i + 2),
-        sub_shifted(table, s, i + 3),
-    )
+    let w = entry(columns, shifted(s, i))
+        ^ turned(entry(columns, shifted(s, i + 1)), 8)
+        ^ turned(entry(columns, shifted(s, i + 2)), 16)
+        ^ turned(entry(columns, shifted(s, i + 3)), 24);
+    [
+        (w % 256) as u8,
+        (w / 256 % 256) as u8,
+        (w / 65536 % 256) as u8,
+        (w / 16777216 % 256) as u8,
+    ]
 }
 
 // A round before the last (5.1), a column at a time.
-fn round(table: &[u8], schedule: &[u8], s: &[u8; 16], n: usize) -> [u8; 16]
-    requires { ⌜ IsSbox (now table) ⌝ }
+fn round(columns: &[u8], schedule: &[u8], s: &[u8; 16], n: usize) -> [u8; 16]
+    requires { ⌜ IsColumns (now columns) ⌝ }
     requires { ⌜ (length (now schedule) ≡ 240) × (n < 15) ⌝ }
     ensures { λ r. ⌜ r ≡ addRoundKey (now (schedule .entry)) (mixColumns (shiftRows (subBytes (now (s .entry))))) n ⌝ }
 {
     let mut o = [0u8; 16];
     for q in 0..4usize {
-        let v = column(table, s, q);
+        let v = column(columns, s, q);
         let i = 4 * q;
         let k = 16 * n + i;
         o[i] = v[0] ^ schedule[k];
@@ -91,13 +113,13 @@ fn round(table: &[u8], schedule: &[u8], s: &[u8; 16], n: usize) -> [u8; 16]
 }
 
 // SubBytes and ShiftRows of the last round, which mixes no columns.
-fn sub_shift(table: &[u8], s: &[u8; 16]) -> [u8; 16]
-    requires { ⌜ IsSbox (now table) ⌝ }
+fn sub_shift(columns: &[u8], s: &[u8; 16]) -> [u8; 16]
+    requires { ⌜ IsColumns (now columns) ⌝ }
     ensures { λ r. ⌜ r ≡ shiftRows (subBytes (now (s .entry))) ⌝ }
 {
     let mut o = [0u8; 16];
     for i in 0..16 {
-        o[i] = sub_shifted(table, s, i);
+        o[i] = columns[4 * shifted(s, i) as usize + 1];
     }
     o
 }
@@ -116,16 +138,16 @@ fn add_round_key(schedule: &[u8], s: &[u8], n: usize) -> [u8; 16]
 }
 
 // Enciphers a block in place under a key schedule (5.1).
-pub fn encipher(table: &[u8], schedule: &[u8], block: &mut [u8])
-    requires { ⌜ IsSbox (now table) ⌝ }
+pub fn encipher(columns: &[u8], schedule: &[u8], block: &mut [u8])
+    requires { ⌜ IsColumns (now columns) ⌝ }
     requires { ⌜ (length (now schedule) ≡ 240) × (length (now block) ≡ 16) ⌝ }
     ensures { λ _. ⌜ now (block .exit) ≡ cipher (now (schedule .entry)) (now (block .entry)) ⌝ }
 {
     let mut s = add_round_key(schedule, block, 0);
     for n in 0..13 {
-        s = round(table, schedule, &s, n + 1);
+        s = round(columns, schedule, &s, n + 1);
     }
-    let t = sub_shift(table, &s);
+    let t = sub_shift(columns, &s);
     let o = add_round_key(schedule, &t, 14);
     octets::copy(&o, block);
 }
@@ -144,31 +166,38 @@ fn rot_word(t: &[u8; 4]) -> [u8; 4]
     [t[1], t[2], t[3], t[0]]
 }
 
-fn sub_word(table: &[u8], t: &[u8; 4]) -> [u8; 4]
-    requires { ⌜ IsSbox (now table) ⌝ }
+fn sub_byte(sbox: &[u8], x: u8) -> u8
+    requires { ⌜ IsSbox (now sbox) ⌝ }
+    ensures { λ r. ⌜ r ≡ sboxOf x ⌝ }
+{
+    sbox[x as usize]
+}
+
+fn sub_word(sbox: &[u8], t: &[u8; 4]) -> [u8; 4]
+    requires { ⌜ IsSbox (now sbox) ⌝ }
     ensures { λ r. ⌜ r ≡ subWord (now (t .entry)) ⌝ }
 {
     let mut o = [0u8; 4];
     for i in 0..4 {
-        o[i] = sbox(table, t[i]);
+        o[i] = sub_byte(sbox, t[i]);
     }
     o
 }
 
 // What is added to word i - 8 to make word i, where t is word i - 1.
-fn temp(table: &[u8], t: &[u8; 4], i: usize) -> [u8; 4]
-    requires { ⌜ IsSbox (now table) ⌝ }
+fn temp(sbox: &[u8], t: &[u8; 4], i: usize) -> [u8; 4]
+    requires { ⌜ IsSbox (now sbox) ⌝ }
     requires { ⌜ (8 ≤ i) × (i < 60) ⌝ }
     ensures { λ r. ⌜ r ≡ tempOf (now (t .entry)) i ⌝ }
 {
     if i % 8 == 0 {
         let u = rot_word(t);
-        let mut v = sub_word(table, &u);
+        let mut v = sub_word(sbox, &u);
         v[0] = v[0] ^ rcon(i / 8);
         return v;
     }
     if i % 8 == 4 {
-        return sub_word(table, t);
+        return sub_word(sbox, t);
     }
     *t
 }
@@ -196,12 +225,12 @@ fn add_words(a: &[u8; 4], b: &[u8; 4]) -> [u8; 4]
 }
 
 // Word i, made of the words before it.
-fn next_word(table: &[u8], w: &[u8; 240], i: usize) -> [u8; 4]
-    requires { ⌜ IsSbox (now table) ⌝ }
+fn next_word(sbox: &[u8], w: &[u8; 240], i: usize) -> [u8; 4]
+    requires { ⌜ IsSbox (now sbox) ⌝ }
     requires { ⌜ (8 ≤ i) × (i < 60) ⌝ }
     ensures { λ r. ⌜ r ≡ nextWord (now (w .entry)) i ⌝ }
 {
-    let t = temp(table, &word_at(w, i - 1), i);
+    let t = temp(sbox, &word_at(w, i - 1), i);
     add_words(&word_at(w, i - 8), &t)
 }
 
@@ -216,14 +245,14 @@ fn key_words(key: &[u8]) -> [u8; 240]
 }
 
 // The key schedule of a key (5.2).
-pub fn key_expansion(table: &[u8], key: &[u8]) -> [u8; 240]
-    requires { ⌜ IsSbox (now table) ⌝ }
+pub fn key_expansion(sbox: &[u8], key: &[u8]) -> [u8; 240]
+    requires { ⌜ IsSbox (now sbox) ⌝ }
     requires { ⌜ length (now key) ≡ 32 ⌝ }
     ensures { λ r. ⌜ r ≡ keyExpansion (now (key .entry)) ⌝ }
 {
     let mut w = key_words(key);
     for i in 8..60 {
-        let v = next_word(table, &w, i);
+        let v = next_word(sbox, &w, i);
         let a = 4 * i;
         octets::copy(&v, &mut w[a..a + 4]);
     }

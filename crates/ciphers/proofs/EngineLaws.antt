@@ -13,8 +13,8 @@ use Rattle.des.specs.Des.{des, roundKeys}
 use Rattle.des.proofs.BitLists.{bits-of}
 use Rattle.des.proofs.DesLaws.{by-set-out}
 use Rattle.des.proofs.KeyLaws.{length-roundKeys, bits-roundKeys}
-use Rattle.aes.specs.Field.{IsSbox}
 use Rattle.aes.specs.Cipher.{aes, keyExpansion}
+use Rattle.aes.specs.Columns.{IsColumns}
 use Rattle.aes.proofs.ScheduleLaws.{length-keyExpansion}
 use Rattle.ciphers.specs.Numbers.{blockBits}
 use Rattle.ciphers.specs.Keystream.{usedBlock, feedback}
@@ -26,7 +26,7 @@ module _ (c n : ℕ) (tables schedule : List ℕ) (fits : 8 * n ≡ blockBits c)
   des-engine (forDes e a b d) q = (a, b, d, omega (arith, rw e at fits))
   des-engine (forAes e a b) q = absurd (omega arith)
 
-  pub aes-engine : Engine c tables schedule → (c ≡ 2 → ⊥) → (c ≡ 3) × IsSbox tables × (length schedule ≡ 240) × (n ≡ 16)
+  pub aes-engine : Engine c tables schedule → (c ≡ 2 → ⊥) → (c ≡ 3) × IsColumns tables × (length schedule ≡ 240) × (n ≡ 16)
   aes-engine (forDes e a b d) q = absurd (q e)
   aes-engine (forAes e a b) q = (e, a, b, omega (arith, rw e at fits))
 
@@ -34,7 +34,7 @@ module _ (c n : ℕ) (tables schedule : List ℕ) (fits : 8 * n ≡ blockBits c)
 pub key-des : (key tables schedule : List ℕ) → tables ≡ cipherTables → schedule ≡ roundKeys (tab (bit key) 64) → Engine 2 tables schedule
 key-des key tables schedule t s = rw s (forDes refl t (length-roundKeys (tab (bit key) 64)) (bits-roundKeys (tab (bit key) 64) (bits-of key 64)))
 
-pub key-aes : (key tables schedule : List ℕ) → IsSbox tables → length key ≡ 32 → schedule ≡ keyExpansion key → Engine 3 tables schedule
+pub key-aes : (key tables schedule : List ℕ) → IsColumns tables → length key ≡ 32 → schedule ≡ keyExpansion key → Engine 3 tables schedule
 key-aes key tables schedule t l s = rw s (forAes refl t (length-keyExpansion key l))
 
 -- output feedback by engines that agree

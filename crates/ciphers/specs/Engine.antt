@@ -7,14 +7,14 @@ use Rattle.octets.specs.Lists.{iterate}
 use Rattle.octets.specs.Bits.{bit, Bits}
 use Rattle.des.specs.Tables.{cipherTables}
 use Rattle.des.specs.Des.{byKeys, setOut}
-use Rattle.aes.specs.Field.{IsSbox}
 use Rattle.aes.specs.Cipher.{cipher}
+use Rattle.aes.specs.Columns.{IsColumns}
 use Rattle.ciphers.specs.Numbers.{byCipher}
 
 -- the tables are the cipher's, and the schedule has its size: DES's holds bits
 pub data Engine (c : ℕ) (tables schedule : List ℕ) : Type 0 where
   forDes : c ≡ 2 → tables ≡ cipherTables → length schedule ≡ 768 → Bits (λ k. getD schedule k 0) → Engine c tables schedule
-  forAes : c ≡ 3 → IsSbox tables → length schedule ≡ 240 → Engine c tables schedule
+  forAes : c ≡ 3 → IsColumns tables → length schedule ≡ 240 → Engine c tables schedule
 
 -- a block enciphered by a schedule
 unfoldable pub encipheredBy : ℕ → List ℕ → List ℕ → List ℕ

@@ -25,10 +25,11 @@ fn des_stream(key: [u8; 32], vector: [u8; 8], from: usize, out: &mut [u8])
 fn aes_stream(key: [u8; 32], vector: [u8; 8], from: usize, out: &mut [u8])
     ensures { λ _. ⌜ now (out .exit) ≡ octetsFrom (length (now (out .entry))) (λ k. feedback (aes key) (blockBits 3) (aesVector vector) (from + k)) ⌝ }
 {
-    let table = aes::table();
-    let schedule = aes::key_expansion(&table, &key);
+    let sbox = aes::sbox();
+    let schedule = aes::key_expansion(&sbox, &key);
+    let columns = aes::columns(&sbox);
     let mut block = generator::aes_vector(&vector);
-    feed_back(Aes::TYPE, &table, &schedule, &mut block, from, out);
+    feed_back(Aes::TYPE, &columns, &schedule, &mut block, from, out);
 }
 
 // The bits of a session from bit `from` on. The key's own octets come first in `key`.

@@ -5,7 +5,7 @@ use Prim.Native.Nat.{ℕ, zero, suc, _+_, _-_, _*_, _/_, _%_, _^_, _<_}
 use native.Mathlib.Nat.{add-mod, div-one, div-eq-of-lt, mod-eq-of-lt, div-div-eq-div-mul}
 use native.Mathlib.Decide.{decLt}
 use native.Mathlib.Omega.{arith}
-use lib.Bits.{bitXor, differ, xor-shr, xor-step}
+use lib.Bits.{bitXor, differ, xor-lt, xor-shr, xor-step}
 use lib.Pow.{field, mod-mod-pow}
 use lib.ListN.{length, getD}
 use Rattle.octets.specs.Bits.{bit, flip, octet, octetsFrom, Bits, Octets}
@@ -180,3 +180,15 @@ xor-low a b =
 -- a bit of an exclusive or
 pub xor-bit : (a b k : ℕ) → bitXor a b / 2 ^ k % 2 ≡ flip (a / 2 ^ k % 2) (b / 2 ^ k % 2)
 xor-bit a b k = ap (λ (x : ℕ). x % 2) (xor-shr a b k) ∙ xor-low (a / 2 ^ k) (b / 2 ^ k)
+
+pub xor-assoc : (a b c : ℕ) → a < 256 → b < 256 → c < 256 → bitXor (bitXor a b) c ≡ bitXor a (bitXor b c)
+xor-assoc a b c ha hb hc =
+    octet-ext _ _ (xor-lt 8 (bitXor a b) c (xor-lt 8 a b ha hb) hc) (xor-lt 8 a (bitXor b c) ha (xor-lt 8 b c hb hc)) (λ k h. same (7 - k))
+  where
+    same : (k : ℕ) → bitXor (bitXor a b) c / 2 ^ k % 2 ≡ bitXor a (bitXor b c) / 2 ^ k % 2
+    same k =
+        xor-bit (bitXor a b) c k
+        ∙ ap (λ (z : ℕ). flip z (c / 2 ^ k % 2)) (xor-bit a b k)
+        ∙ sym (flip-assoc (a / 2 ^ k % 2) (b / 2 ^ k % 2) (c / 2 ^ k % 2))
+        ∙ ap (flip (a / 2 ^ k % 2)) (sym (xor-bit b c k))
+        ∙ sym (xor-bit a (bitXor b c) k)

@@ -19,11 +19,12 @@ fn des_chain(key: &[u8], block: &mut [u8], n: usize)
 fn aes_chain(key: &[u8], block: &mut [u8], n: usize)
     requires { ⌜ (length (now key) ≡ 32) × (length (now block) ≡ 16) ⌝ }
 {
-    let table = aes::table();
-    let schedule = aes::key_expansion(&table, key);
+    let sbox = aes::sbox();
+    let schedule = aes::key_expansion(&sbox, key);
+    let columns = aes::columns(&sbox);
     let mut i = 0;
     while i < n {
-        aes::encipher(&table, &schedule, block);
+        aes::encipher(&columns, &schedule, block);
         i += 1;
     }
 }

@@ -16,9 +16,10 @@ fn by_des(key: &[u8], block: &mut [u8])
 fn by_aes(key: &[u8], block: &mut [u8])
     requires { ⌜ (length (now key) ≡ 32) × (length (now block) ≡ 16) ⌝ }
 {
-    let table = aes::table();
-    let schedule = aes::key_expansion(&table, key);
-    aes::encipher(&table, &schedule, block);
+    let sbox = aes::sbox();
+    let schedule = aes::key_expansion(&sbox, key);
+    let columns = aes::columns(&sbox);
+    aes::encipher(&columns, &schedule, block);
 }
 
 // Enciphers a block where it stands, by the cipher that has keys and blocks of these widths. Where there is none, the block stays.

@@ -1,15 +1,22 @@
 -- `aes::column` meets its contract. Assumes nothing.
-use mathlib.Core.Path.{_∙_}
 use borrow.Author.Needs.{needs}
-use Rattle.aes.proofs.StateLaws.{column-law}
+use Rattle.aes.proofs.FieldLaws.{sbox-lt}
+use Rattle.aes.proofs.ColumnLaws.{column-sum}
 use Rattle.aes.proofs.column.Statement.{statement}
 use Rattle.aes.proofs.column.Tie as tie
 
 returns : tie.Need-returns
 returns c =
-    let b = c .before in
-    c .mix-column .ensures
-    ∙ column-law _ _ _ _ _ _ (search needs) (b .before .before .before .sub-shifted .ensures) (b .before .before .sub-shifted2 .ensures) (b .before .sub-shifted3 .ensures) (b .sub-shifted4 .ensures)
+    let b3 = c .before in
+    let b2 = b3 .before .before .before in
+    let b1 = b2 .before .before .before in
+    let b0 = b1 .before .before in
+    column-sum _ _ _ _
+    (sbox-lt (b0 .before .shifted .result) (search needs)) (sbox-lt (b1 .before .shifted2 .result) (search needs)) (sbox-lt (b2 .before .shifted3 .result) (search needs)) (sbox-lt (b3 .before .shifted4 .result) (search needs))
+    _ _ _ _ _ _ _ _ _ (search needs)
+    (b0 .before .shifted .ensures) (b1 .before .shifted2 .ensures) (b2 .before .shifted3 .ensures) (b3 .before .shifted4 .ensures)
+    (b0 .entry .ensures) (b1 .entry2 .ensures) (b2 .entry3 .ensures) (b3 .entry4 .ensures)
+    (b2 .before .before .turned .ensures) (b3 .before .before .turned2 .ensures) (c .turned3 .ensures)
 
 pub column-spec : {M : Type 1} → statement M
 column-spec =
@@ -17,11 +24,21 @@ column-spec =
     (tie.spec
     (λ c. search needs)
     (λ c κs. search needs)
-    (λ c. search needs)
     (λ c κs. search needs)
     (λ c. search needs)
     (λ c κs. search needs)
+    (λ c κs. search needs)
+    (λ c κs. search needs)
     (λ c. search needs)
     (λ c κs. search needs)
     (λ c κs. search needs)
+    (λ c κs. search needs)
+    (λ c. search needs)
+    (λ c κs. search needs)
+    (λ c κs. search needs)
+    (λ c κs. search needs)
+    (λ c. search needs)
+    (λ c. search needs)
+    (λ c. search needs)
+    (λ c. search needs)
     returns)

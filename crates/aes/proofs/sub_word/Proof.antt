@@ -11,10 +11,10 @@ use Rattle.aes.proofs.sub_word.Statement.{statement}
 use Rattle.aes.proofs.sub_word.Tie as tie
 
 abbrev Inv-loop : tie.InvT-loop
-Inv-loop table t o₀ i₀ o i = Front (tab (λ k. sboxOf (getD t k 0)) 4) o₀ o i
+Inv-loop sbox t o₀ i₀ o i = Front (tab (λ k. sboxOf (getD t k 0)) 4) o₀ o i
 
 abbrev μ-loop : tie.MeasureT-loop
-μ-loop table t o₀ i₀ o i = 4 - i
+μ-loop sbox t o₀ i₀ o i = 4 - i
 
 pub sub-word-spec : {M : Type 1} → statement M
 unfolding subWord
@@ -29,5 +29,5 @@ sub-word-spec =
     (λ c. search needs)
     (λ c. search needs)
     (λ c. search needs)
-    (λ c. tab-more _ _ _ _ _ _ (c .before .before .before .loop .inv) (search needs) (c .sbox .ensures))
+    (λ c. tab-more _ _ _ _ _ _ (c .before .before .before .loop .inv) (search needs) (c .sub-byte .ensures))
     (λ c. tab-done _ _ _ _ _ (c .before .loop .inv) (c .loop-test .left)))

@@ -7,13 +7,10 @@ use Rattle.timed.proofs.aes_chain.Statement.{statement}
 use Rattle.timed.proofs.aes_chain.Tie as tie
 
 abbrev Inv-loop : tie.InvT-loop
-Inv-loop key block₀ n table schedule i₀ block i = (i ≤ n) × (length block ≡ length block₀)
+Inv-loop key block₀ n schedule columns i₀ block i = (i ≤ n) × (length block ≡ length block₀)
 
 abbrev μ-loop : tie.MeasureT-loop
-μ-loop key block₀ n table schedule i₀ block i = n - i
-
-encipher-requires : tie.Need-encipher-requires Inv-loop μ-loop
-encipher-requires c κs = (c .before .before .before .before .before .before .before .table .ensures, (search needs, search needs))
+μ-loop key block₀ n schedule columns i₀ block i = n - i
 
 pub aes-chain-spec : {M : Type 1} → statement M
 aes-chain-spec =
@@ -24,10 +21,12 @@ aes-chain-spec =
     (λ c κs. search needs)
     (λ c. search needs)
     (λ c κs. search needs)
+    (λ c. search needs)
+    (λ c κs. search needs)
     (λ c. (search needs, refl))
     (λ c. search needs)
     (λ c. search needs)
-    encipher-requires
+    (λ c κs. search needs)
     (λ c. search needs)
     (λ c. search needs)
     (λ c. (search needs, search needs))

@@ -1,0 +1,204 @@
+-- Laws of the columns: the four rows of each, a column as a number turned by rows and added, and that a mixed column is the sum of its four
+-- octets' columns, each turned to its row.
+-- Assumes nothing.
+use mathlib.Core.Path.{_≡_, refl, sym, ap, ap₂, _∙_}
+use mathlib.Core.List.{List, [], _∷_}
+use Prim.Native.Nat.{ℕ, zero, suc, _+_, _*_, _/_, _%_, _^_, _≤_, _<_}
+use native.Mathlib.Nat.{add-zero}
+use native.Mathlib.Omega.{arith}
+use lib.Bits.{bitOr, bitXor, or-shifted, xor-block, xor-comm, xor-lt, xor-zero-r}
+use lib.ListN.{length, getD, set}
+use Rattle.octets.specs.Lists.{tab}
+use Rattle.octets.proofs.BitLaws.{xor-assoc}
+use Rattle.octets.proofs.Front.{Front, front-start, front-four, front-to, front-done}
+use Rattle.octets.proofs.ListLaws.{length-tab, getD-tab, tab-same}
+use Rattle.aes.specs.Field.{xtime, reduce, digit, mulBits, mul, sboxOf}
+use Rattle.aes.specs.Cipher.{word, mixed, mixColumns}
+use Rattle.aes.specs.Columns.{mixedAlone, IsColumns, joined}
+use Rattle.aes.proofs.FieldLaws.{mul-two, mul-three}
+use Rattle.aes.proofs.StateLaws.{mixed-lt, octets-first, column-law}
+
+-- ---- the rows of a column
+
+module _ (v : ℕ) where
+  alone-0 : mixedAlone v 0 ≡ xtime v
+  unfolding mixedAlone mixed mul mulBits digit xtime reduce
+  alone-0 = xor-zero-r _ ∙ xor-zero-r _ ∙ xor-zero-r _ ∙ mul-two v
+
+  alone-1 : mixedAlone v 1 ≡ v
+  unfolding mixedAlone mixed mul mulBits digit xtime reduce
+  alone-1 = refl
+
+  alone-2 : mixedAlone v 2 ≡ v
+  unfolding mixedAlone mixed mul mulBits digit xtime reduce
+  alone-2 = xor-zero-r v
+
+  alone-3 : mixedAlone v 3 ≡ bitXor v (xtime v)
+  unfolding mixedAlone mixed mul mulBits digit xtime reduce
+  alone-3 = xor-zero-r _ ∙ xor-zero-r _ ∙ mul-three v
+
+alone-lt : (v r : ℕ) → v < 256 → mixedAlone v r < 256
+unfolding mixedAlone
+alone-lt v r h = mixed-lt _ r 0 (octets-first v h)
+
+-- ---- a column as a number
+
+module _ (f : ℕ → ℕ) (o : (r : ℕ) → f r < 256) where
+  joined-rows : joined f % 256 ∷ joined f / 256 % 256 ∷ joined f / 65536 % 256 ∷ joined f / 16777216 % 256 ∷ [] ≡ tab f 4
+  unfolding joined tab
+  joined-rows =
+      let p : joined f % 256 ≡ f 0 = omega (arith, o 0, o 1, o 2, o 3) in
+      let g : joined f / 256 ≡ f 1 + 256 * f 2 + 65536 * f 3 = omega (arith, o 0, o 1, o 2, o 3) in
+      let h : joined f / 65536 ≡ f 2 + 256 * f 3 = omega (arith, o 0, o 1, o 2, o 3) in
+      let q : joined f / 256 % 256 ≡ f 1 = rw g (omega (arith, o 1)) in
+      let r : joined f / 65536 % 256 ≡ f 2 = rw h (omega (arith, o 2)) in
+      let k : joined f / 16777216 ≡ f 3 = omega (arith, o 0, o 1, o 2, o 3) in
+      let s : joined f / 16777216 % 256 ≡ f 3 = rw k (omega (arith, o 3)) in
+      rw (p, q, r, s)
+
+  turned-8 : bitOr (joined f * 256 % 4294967296) (joined f / 16777216) ≡ joined (λ r. f ((r + 3) % 4))
+  unfolding joined
+  turned-8 =
+      let h : joined f * 256 % 4294967296 ≡ (f 0 + 256 * f 1 + 65536 * f 2) * 2 ^ 8 = omega (arith, o 0, o 1, o 2, o 3) in
+      let l : joined f / 16777216 ≡ f 3 = omega (arith, o 0, o 1, o 2, o 3) in
+      ap₂ bitOr h l ∙ or-shifted (f 0 + 256 * f 1 + 65536 * f 2) 8 (f 3) (o 3) ∙ omega arith
+
+  turned-16 : bitOr (joined f * 65536 % 4294967296) (joined f / 65536) ≡ joined (λ r. f ((r + 2) % 4))
+  unfolding joined
+  turned-16 =
+      let h : joined f * 65536 % 4294967296 ≡ (f 0 + 256 * f 1) * 2 ^ 16 = omega (arith, o 0, o 1, o 2, o 3) in
+      let l : joined f / 65536 ≡ f 2 + 256 * f 3 = omega (arith, o 0, o 1, o 2, o 3) in
+      ap₂ bitOr h l ∙ or-shifted (f 0 + 256 * f 1) 16 (f 2 + 256 * f 3) (omega (arith, o 2, o 3)) ∙ omega arith
+
+  turned-24 : bitOr (joined f * 16777216 % 4294967296) (joined f / 256) ≡ joined (λ r. f ((r + 1) % 4))
+  unfolding joined
+  turned-24 =
+      let h : joined f * 16777216 % 4294967296 ≡ f 0 * 2 ^ 24 = omega (arith, o 0, o 1, o 2, o 3) in
+      let l : joined f / 256 ≡ f 1 + 256 * f 2 + 65536 * f 3 = omega (arith, o 0, o 1, o 2, o 3) in
+      ap₂ bitOr h l ∙ or-shifted (f 0) 24 (f 1 + 256 * f 2 + 65536 * f 3) (omega (arith, o 1, o 2, o 3)) ∙ omega arith
+
+-- the sum of two columns
+joined-xor : (f g : ℕ → ℕ) → ((r : ℕ) → f r < 256) → ((r : ℕ) → g r < 256) → bitXor (joined f) (joined g) ≡ joined (λ r. bitXor (f r) (g r))
+unfolding joined
+joined-xor f g o p =
+    let split : (h : ℕ → ℕ) → joined h ≡ ((h 3 * 2 ^ 8 + h 2) * 2 ^ 8 + h 1) * 2 ^ 8 + h 0 = λ h. omega arith in
+    ap₂ bitXor (split f) (split g)
+    ∙ xor-block 8 ((f 3 * 2 ^ 8 + f 2) * 2 ^ 8 + f 1) ((g 3 * 2 ^ 8 + g 2) * 2 ^ 8 + g 1) (f 0) (g 0) (o 0) (p 0)
+    ∙ ap (λ (z : ℕ). z * 2 ^ 8 + bitXor (f 0) (g 0)) (xor-block 8 (f 3 * 2 ^ 8 + f 2) (g 3 * 2 ^ 8 + g 2) (f 1) (g 1) (o 1) (p 1))
+    ∙ ap (λ (z : ℕ). (z * 2 ^ 8 + bitXor (f 1) (g 1)) * 2 ^ 8 + bitXor (f 0) (g 0)) (xor-block 8 (f 3) (g 3) (f 2) (g 2) (o 2) (p 2))
+    ∙ sym (split (λ r. bitXor (f r) (g r)))
+
+-- ---- a mixed column
+
+row-0 : (a b c d : ℕ) → bitXor (bitXor (bitXor (mixedAlone a 0) (mixedAlone b 3)) (mixedAlone c 2)) (mixedAlone d 1) ≡ mixed (a ∷ b ∷ c ∷ d ∷ []) 0 0
+unfolding mixed
+row-0 a b c d = rw (alone-0, alone-3, alone-2, alone-1, mul-two, mul-three)
+
+-- the first of four goes last
+around : (a b c d : ℕ) → a < 256 → b < 256 → c < 256 → d < 256 → (i j k l : ℕ)
+    → bitXor (bitXor (bitXor (mixedAlone a i) (mixedAlone b j)) (mixedAlone c k)) (mixedAlone d l)
+    ≡ bitXor (bitXor (bitXor (mixedAlone b j) (mixedAlone c k)) (mixedAlone d l)) (mixedAlone a i)
+around a b c d ha hb hc hd i j k l =
+    let p = alone-lt a i ha in
+    let q = alone-lt b j hb in
+    let r = alone-lt c k hc in
+    ap (λ (z : ℕ). bitXor z (mixedAlone d l)) (xor-assoc _ _ _ p q r)
+    ∙ xor-assoc _ _ _ p (xor-lt 8 _ _ q r) (alone-lt d l hd)
+    ∙ xor-comm (mixedAlone a i) _
+
+module _ (a b c d : ℕ) (ha : a < 256) (hb : b < 256) (hc : c < 256) (hd : d < 256) where
+  -- a row of the sum of four octets' columns, each turned to its row
+  abbrev sumRow : ℕ → ℕ
+  sumRow r = bitXor (bitXor (bitXor (mixedAlone a r) (mixedAlone b ((r + 3) % 4))) (mixedAlone c ((r + 2) % 4))) (mixedAlone d ((r + 1) % 4))
+
+  sum-row : (r : ℕ) → r < 4 → sumRow r ≡ mixed (a ∷ b ∷ c ∷ d ∷ []) r 0
+  unfolding mixed
+  sum-row zero h = row-0 a b c d
+  sum-row (suc zero) h = around a b c d ha hb hc hd 1 0 3 2 ∙ row-0 b c d a
+  sum-row (suc (suc zero)) h = around a b c d ha hb hc hd 2 1 0 3 ∙ around b c d a hb hc hd ha 1 0 3 2 ∙ row-0 c d a b
+  sum-row (suc (suc (suc zero))) h =
+      around a b c d ha hb hc hd 3 2 1 0 ∙ around b c d a hb hc hd ha 2 1 0 3 ∙ around c d a b hc hd ha hb 1 0 3 2 ∙ row-0 d a b c
+  sum-row (suc (suc (suc (suc r)))) h = absurd (omega arith)
+
+  sum-lt : (r : ℕ) → sumRow r < 256
+  sum-lt r =
+      let x = xor-lt 8 in
+      x _ _ (x _ _ (x _ _ (alone-lt a r ha) (alone-lt b ((r + 3) % 4) hb)) (alone-lt c ((r + 2) % 4) hc)) (alone-lt d ((r + 1) % 4) hd)
+
+  -- the same sum of the columns as numbers
+  sum-joined : bitXor
+      (bitXor (bitXor (joined (mixedAlone a)) (joined (λ r. mixedAlone b ((r + 3) % 4)))) (joined (λ r. mixedAlone c ((r + 2) % 4))))
+      (joined (λ r. mixedAlone d ((r + 1) % 4))) ≡ joined sumRow
+  sum-joined =
+      let oa : (r : ℕ) → mixedAlone a r < 256 = λ r. alone-lt a r ha in
+      let ob : (r : ℕ) → mixedAlone b ((r + 3) % 4) < 256 = λ r. alone-lt b ((r + 3) % 4) hb in
+      let oc : (r : ℕ) → mixedAlone c ((r + 2) % 4) < 256 = λ r. alone-lt c ((r + 2) % 4) hc in
+      let od : (r : ℕ) → mixedAlone d ((r + 1) % 4) < 256 = λ r. alone-lt d ((r + 1) % 4) hd in
+      rw (joined-xor _ _ oa ob, joined-xor _ _ (λ r. xor-lt 8 _ _ (oa r) (ob r)) oc)
+      (joined-xor _ _ (λ r. xor-lt 8 _ _ (xor-lt 8 _ _ (oa r) (ob r)) (oc r)) od)
+
+  -- as `aes::column` makes it, of the column that four entries stand for
+  module _ (x : List ℕ) (q i j k l m n o : ℕ) (hq : q < 4)
+      (ea : a ≡ getD x (4 * q) 0) (eb : b ≡ getD x (4 * q + 1) 0) (ec : c ≡ getD x (4 * q + 2) 0) (ed : d ≡ getD x (4 * q + 3) 0)
+      (ei : i ≡ joined (mixedAlone a)) (ej : j ≡ joined (mixedAlone b)) (ek : k ≡ joined (mixedAlone c)) (el : l ≡ joined (mixedAlone d))
+      (em : m ≡ bitOr (j * 256 % 4294967296) (j / 16777216)) (en : n ≡ bitOr (k * 65536 % 4294967296) (k / 65536)) (eo : o ≡ bitOr (l * 16777216 % 4294967296) (l / 256)) where
+    summed : bitXor (bitXor (bitXor i m) n) o ≡ joined sumRow
+    summed =
+        rw
+        (em, en, eo, ei, ej, ek, el, turned-8 (mixedAlone b) (λ r. alone-lt b r hb), turned-16 (mixedAlone c) (λ r. alone-lt c r hc), turned-24 (mixedAlone d) (λ r. alone-lt d r hd))
+        sum-joined
+
+    pub column-sum : bitXor (bitXor (bitXor i m) n) o % 256 ∷ bitXor (bitXor (bitXor i m) n) o / 256 % 256
+        ∷ bitXor (bitXor (bitXor i m) n) o / 65536 % 256 ∷ bitXor (bitXor (bitXor i m) n) o / 16777216 % 256 ∷ [] ≡ word (mixColumns x) q
+    column-sum =
+        ap (λ (w : ℕ). w % 256 ∷ w / 256 % 256 ∷ w / 65536 % 256 ∷ w / 16777216 % 256 ∷ []) summed
+        ∙ joined-rows sumRow sum-lt
+        ∙ tab-same sumRow (λ r. mixed (a ∷ b ∷ c ∷ d ∷ []) r 0) 4 sum-row
+        ∙ column-law x q a b c d hq ea eb ec ed
+
+-- ---- the table, as `aes::columns` makes it
+
+unfoldable pub allColumns : List ℕ
+allColumns = tab (λ i. mixedAlone (sboxOf (i / 4)) (i % 4)) 1024
+
+length-allColumns : length allColumns ≡ 1024
+unfolding allColumns
+length-allColumns = length-tab _ 1024
+
+allColumns-at : (x r : ℕ) → x < 256 → r < 4 → getD allColumns (4 * x + r) 0 ≡ mixedAlone (sboxOf x) r
+unfolding allColumns
+allColumns-at x r hx hr =
+    let d : (4 * x + r) / 4 ≡ x = omega arith in
+    let m : (4 * x + r) % 4 ≡ r = omega arith in
+    getD-tab (λ i. mixedAlone (sboxOf (i / 4)) (i % 4)) 1024 (4 * x + r) (omega arith) ∙ rw (d, m)
+
+pub columns-start : (d : List ℕ) → length d ≡ 1024 → Front allColumns d d 0
+columns-start d e = front-start allColumns d (e ∙ sym length-allColumns)
+
+pub columns-more : (d₀ d : List ℕ) (x s t : ℕ) → x < 256 → s ≡ sboxOf x → t ≡ xtime s → Front allColumns d₀ d (4 * x)
+    → Front allColumns d₀ (set (set (set (set d (4 * x) t) (4 * x + 1) s) (4 * x + 2) s) (4 * x + 3) (bitXor s t)) (4 * (x + 1))
+columns-more d₀ d x s t h es et f =
+    let at : (r : ℕ) → r < 4 → getD allColumns (4 * x + r) 0 ≡ mixedAlone (sboxOf x) r = λ r. allColumns-at x r h in
+    front-to _ _ _ (4 * x + 4) (4 * (x + 1)) (omega arith)
+    (front-four _ _ d (4 * x) _ _ _ _ f (omega (arith, length-allColumns))
+    (et ∙ ap xtime es ∙ sym (simp add-zero at (at 0 (omega arith)) ∙ alone-0 (sboxOf x)))
+    (es ∙ sym (at 1 (omega arith) ∙ alone-1 (sboxOf x)))
+    (es ∙ sym (at 2 (omega arith) ∙ alone-2 (sboxOf x)))
+    (rw (et, es) (sym (at 3 (omega arith) ∙ alone-3 (sboxOf x)))))
+
+pub columns-done : (d₀ d : List ℕ) (x : ℕ) → Front allColumns d₀ d (4 * x) → 256 ≤ x → IsColumns d
+columns-done d₀ d x f h =
+    rw (front-done allColumns d₀ d (4 * x) f (omega (arith, length-allColumns))) (record { size = length-allColumns; rule = allColumns-at })
+
+-- ---- an entry, as `aes::entry` reads it
+
+pub entry-is : (t : List ℕ) (x : ℕ) → IsColumns t → x < 256
+    → getD t (4 * x) 0 + 256 * getD t (4 * x + 1) 0 + 65536 * getD t (4 * x + 2) 0 + 16777216 * getD t (4 * x + 3) 0 ≡ joined (mixedAlone (sboxOf x))
+unfolding joined
+entry-is t x c h =
+    let z : getD t (4 * x) 0 ≡ mixedAlone (sboxOf x) 0 = simp add-zero at (c .rule x 0 h (omega arith)) in
+    rw (z, c .rule x 1 h (omega arith), c .rule x 2 h (omega arith), c .rule x 3 h (omega arith))
+
+-- and the S-box's value in it
+pub entry-sub : (t : List ℕ) (x : ℕ) → IsColumns t → x < 256 → getD t (4 * x + 1) 0 ≡ sboxOf x
+entry-sub t x c h = c .rule x 1 h (omega arith) ∙ alone-1 (sboxOf x)

@@ -1,0 +1,21 @@
+-- `aes::entry` meets its contract. Assumes nothing.
+use mathlib.Core.Path.{_∙_}
+use borrow.Author.Needs.{needs}
+use Rattle.aes.proofs.ColumnLaws.{entry-is}
+use Rattle.aes.proofs.entry.Statement.{statement}
+use Rattle.aes.proofs.entry.Tie as tie
+
+pub entry-spec : {M : Type 1} → statement M
+entry-spec =
+    tie.close
+    (tie.spec
+    (λ c. search needs)
+    (λ c. search needs)
+    (λ c. search needs)
+    (λ c. search needs)
+    (λ c. search needs)
+    (λ c. search needs)
+    (λ c. search needs)
+    (λ c. search needs)
+    (λ c κs. search needs)
+    (λ c. c .join .ensures ∙ entry-is (c .before .before .before .before .before .before .args .columns .now) (c .before .before .before .before .before .before .args .x) (search needs) (search needs)))
