@@ -71,6 +71,10 @@ module _ (f : ℕ → Bool) where
   unfolding allBelow
   all-none = refl
 
+  pub all-step : (i : ℕ) → allBelow f (i + 1) ≡ (allBelow f i && f i)
+  unfolding allBelow
+  all-step i = rw add-one
+
   pub all-more : (i : ℕ) → allBelow f i ≡ true → f i ≡ true → allBelow f (i + 1) ≡ true
   unfolding allBelow
   all-more i h e = rw (add-one, h, e)

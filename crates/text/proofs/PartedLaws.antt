@@ -1,6 +1,6 @@
 -- Text parted by one octet: where a part ends, and what parts come of a text. Assumes nothing.
 use mathlib.Core.Path.{_≡_, refl, sym, ap, _∙_}
-use mathlib.Core.Bool.{Bool, true, false}
+use mathlib.Core.Bool.{Bool, true, false, not}
 use mathlib.Core.List.{List, [], _∷_, _++_}
 use Prim.Native.Nat.{ℕ, zero, suc, _+_, _-_, _≤_, _<_}
 use native.Mathlib.Decide.{decLt}
@@ -9,14 +9,30 @@ use native.Mathlib.Omega.{arith}
 use lib.Dec.{ltb, eqb}
 use lib.ListN.{length, getD, take, drop, length-drop, take-append-drop}
 use lib.Seq.{take-all, getD-drop, getD-take, drop-drop, drop-cons, length-take-le}
-use borrow.Author.Tests.{lt-ltb, le-ltb, eq-eqb, ne-eqb, eqb-true}
+use borrow.Author.Tests.{lt-ltb, le-ltb, eq-eqb, ne-eqb, eqb-true, not-true}
 use Rattle.octets.specs.Tests.{pick, firstBelow}
-use Rattle.octets.proofs.TestLaws.{first-is, first-none, first-le, first-holds, first-before}
-use Rattle.text.specs.Parted.{onto, parted, partEnd}
+use Rattle.octets.proofs.TestLaws.{all-at, all-intro, first-is, first-none, first-le, first-holds, first-before}
+use Rattle.text.specs.Parted.{onto, parted, isPart, partEnd}
 
 -- no element is the separator
 abbrev pub Lacks : ℕ → List ℕ → Type 0
 Lacks sep xs = (k : ℕ) → k < length xs → eqb (getD xs k 0) sep ≡ false
+
+-- the same by the test
+pub is-part : (sep : ℕ) (xs : List ℕ) → Lacks sep xs → isPart sep xs ≡ true
+unfolding isPart
+is-part sep xs h = all-intro (λ k. not (eqb (getD xs k 0) sep)) (length xs) (λ k l. rw (h k l))
+
+pub part-has-none : (sep : ℕ) (xs : List ℕ) → isPart sep xs ≡ true → Lacks sep xs
+unfolding isPart
+part-has-none sep xs t k l = not-true (eqb (getD xs k 0) sep) (all-at (λ k. not (eqb (getD xs k 0) sep)) (length xs) k l t)
+
+-- a part of a text from e to s, and its octets
+between-long : (xs : List ℕ) (e s : ℕ) → s ≤ length xs → length (take (s - e) (drop e xs)) ≡ s - e
+between-long xs e s l = length-take-le (s - e) (drop e xs) (omega (arith, length-drop e xs))
+
+between-at : (xs : List ℕ) (e s k : ℕ) → k < s - e → getD (take (s - e) (drop e xs)) k 0 ≡ getD xs (e + k) 0
+between-at xs e s k l = getD-take (s - e) (drop e xs) k 0 l ∙ getD-drop e xs k 0
 
 -- ---- the parts of a text
 
@@ -113,6 +129,24 @@ module _ (sep : ℕ) (xs : List ℕ) (at : ℕ) (within : at ≤ length xs) wher
       go k a m (yes h) = p .none k a h
       go k a m (no h) = let q : k ≡ e = omega arith in rw q (ne-eqb (getD xs e 0) sep n)
 
+  -- what was passed is one part, and one part more is passed
+  pub passed-part : (e : ℕ) → Passed sep xs at e → isPart sep (take (e - at) (drop at xs)) ≡ true
+  passed-part e p =
+      is-part sep (take (e - at) (drop at xs))
+      (λ k l.
+      let m : k < e - at = omega (arith, between-long xs at e (p .to)) in
+      rw (between-at xs at e k m) (p .none (at + k) (omega arith) (omega arith)))
+
+  pub passed-on : (e s : ℕ) → Passed sep xs at e → e ≤ s → s ≤ length xs → isPart sep (take (s - e) (drop e xs)) ≡ true → Passed sep xs at s
+  passed-on e s p h l t = record { from = omega (arith, p .from); to = l; none = λ k a m. go k a m (decLt k e) }
+    where
+      go : (k : ℕ) → at ≤ k → k < s → Dec (k < e) → eqb (getD xs k 0) sep ≡ false
+      go k a m (yes b) = p .none k a b
+      go k a m (no b) =
+          let q : e + (k - e) ≡ k = omega arith in
+          let f = part-has-none sep (take (s - e) (drop e xs)) t (k - e) (omega (arith, between-long xs e s l)) in
+          rw (between-at xs e s (k - e) (omega arith), q) at f
+
   -- the part ends at a separator, or at the end of the text
   pub passed-stop : (e : ℕ) → Passed sep xs at e → e < length xs → getD xs e 0 ≡ sep → e ≡ partEnd sep xs at
   unfolding partEnd
@@ -162,7 +196,7 @@ module _ (sep : ℕ) (xs : List ℕ) (at : ℕ) (within : at ≤ length xs) wher
           (parted-none sep (drop at xs) (λ k m. before k (omega (arith, length-drop at xs))))
 
   pub part-long : length (partAt sep xs at) ≡ partEnd sep xs at - at
-  part-long = length-take-le (partEnd sep xs at - at) (drop at xs) (omega (arith, end-within, length-drop at xs))
+  part-long = between-long xs at (partEnd sep xs at) end-within
 
   -- it has no separator
   pub part-lacks : Lacks sep (partAt sep xs at)

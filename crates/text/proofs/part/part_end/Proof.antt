@@ -2,7 +2,7 @@
 use Prim.Native.Nat.{_-_}
 use borrow.Author.Needs.{needs}
 use lib.ListN.{length}
-use Rattle.text.proofs.PartedLaws.{Passed, passed-start, passed-more, passed-stop, passed-all}
+use Rattle.text.proofs.PartedLaws.{Passed, passed-start, passed-on, passed-more, passed-stop, passed-all}
 use Rattle.text.proofs.part.part_end.Statement.{statement}
 use Rattle.text.proofs.part.part_end.Tie as tie
 
@@ -18,7 +18,8 @@ part-end-spec =
     (tie.spec
     Inv-loop
     μ-loop
-    (λ c. passed-start _ _ _ (search needs))
+    (λ c κs. search needs)
+    (λ c. passed-on _ _ _ (search needs) _ _ (passed-start _ _ _ (search needs)) (search needs) (search needs) (search needs))
     (λ c. search needs)
     (λ c. (passed-stop _ _ _ (search needs) _ (search needs) (search needs) (search needs), search needs, search needs))
     (λ c. search needs)
