@@ -4,7 +4,7 @@ ghost use mathlib.Core.Bool.{true};
 ghost use Prim.Native.Nat.{_≤_};
 ghost use lib.ListN.{length, drop};
 ghost use Rattle.text.specs.Decimal.{numberIn};
-ghost use Rattle.text.specs.Hex.{hexOctets};
+ghost use Rattle.text.specs.Hex.{mostOctets, hexOctets};
 ghost use Rattle.lines.specs.Record.{fieldAt};
 ghost use Rattle.lines.specs.Fields.{left, IsField, IsNamed, lastHex};
 use text::decimal::Number;
@@ -107,7 +107,7 @@ pub fn name(line: &[u8], cursor: Cursor) -> Named
 // Reads the last field into lent octets, and answers whether it is the hex of as many. It is the rest of the line, which is no hex where
 // other fields follow: a tab is no digit.
 pub fn last_hex(line: &[u8], cursor: Cursor, octets: &mut [u8]) -> bool
-    requires { ⌜ (cursor .at ≤ length (now line)) × (1 ≤ length (now octets)) ⌝ }
+    requires { ⌜ (cursor .at ≤ length (now line)) × (1 ≤ length (now octets)) × (length (now octets) ≤ mostOctets) ⌝ }
     ensures { λ r. ⌜ r ≡ lastHex (length (now (octets .entry))) (left (now (line .entry)) cursor) ⌝ }
     ensures { λ r. ⌜ (r ≡ true → now (octets .exit) ≡ hexOctets (fieldAt (left (now (line .entry)) cursor) 0) (length (now (octets .entry)))) ⌝ }
 {

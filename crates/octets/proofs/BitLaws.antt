@@ -1,13 +1,16 @@
 -- Laws of bits and octets. Assumes nothing.
 use mathlib.Core.Path.{_≡_, refl, sym, ap, ap₂, _∙_}
+use mathlib.Core.Bool.{Bool, true, false, _&&_}
 use mathlib.Core.List.{List, [], _∷_, _++_}
 use Prim.Native.Nat.{ℕ, zero, suc, _+_, _-_, _*_, _/_, _%_, _^_, _<_}
 use native.Mathlib.Nat.{add-mod, div-one, div-eq-of-lt, mod-eq-of-lt, div-div-eq-div-mul}
 use native.Mathlib.Decide.{decLt}
 use native.Mathlib.Omega.{arith}
-use lib.Bits.{bitXor, differ, xor-lt, xor-shr, xor-step}
+use lib.Bits.{bitOr, bitXor, differ, or-lt, or-add-and, and-le-l, and-le-r, xor-lt, xor-shr, xor-step}
+use lib.Dec.{ltb}
 use lib.Pow.{field, mod-mod-pow}
 use lib.ListN.{length, getD}
+use borrow.Author.Tests.{ltb-true, ltb-false, lt-ltb, le-ltb}
 use Rattle.octets.specs.Bits.{bit, flip, octet, octetsFrom, Bits, Octets}
 
 pub flip-flip : (a b : ℕ) → a < 2 → flip (flip a b) b ≡ a
@@ -192,3 +195,12 @@ xor-assoc a b c ha hb hc =
         ∙ sym (flip-assoc (a / 2 ^ k % 2) (b / 2 ^ k % 2) (c / 2 ^ k % 2))
         ∙ ap (flip (a / 2 ^ k % 2)) (sym (xor-bit b c k))
         ∙ sym (xor-bit a (bitXor b c) k)
+
+-- an or has w bits where both sides have
+pub or-below : (w a b : ℕ) → ltb (bitOr a b) (2 ^ w) ≡ (ltb a (2 ^ w) && ltb b (2 ^ w))
+or-below w a b = go (ltb a (2 ^ w)) (ltb b (2 ^ w)) refl refl
+  where
+    go : (s t : Bool) → ltb a (2 ^ w) ≡ s → ltb b (2 ^ w) ≡ t → ltb (bitOr a b) (2 ^ w) ≡ (s && t)
+    go true true e f = lt-ltb (bitOr a b) (2 ^ w) (or-lt w a b (ltb-true a (2 ^ w) e) (ltb-true b (2 ^ w) f))
+    go true false e f = le-ltb (bitOr a b) (2 ^ w) (omega (arith, ltb-false b (2 ^ w) f, or-add-and a b, and-le-l a b))
+    go false t e f = le-ltb (bitOr a b) (2 ^ w) (omega (arith, ltb-false a (2 ^ w) e, or-add-and a b, and-le-r a b))

@@ -1,20 +1,22 @@
 -- Octets in hex: what a digit is worth, hex read and written in a loop, and that reading takes back what writing made. Assumes nothing.
 use mathlib.Core.Path.{_≡_, refl, sym, ap, ap₂, _∙_}
-use mathlib.Core.Bool.{Bool, true, false, _&&_, _||_, and-assoc, true≢false, false≢true}
+use mathlib.Core.Bool.{Bool, true, false, _||_, true≢false, false≢true}
 use mathlib.Core.List.{List}
-use Prim.Native.Nat.{ℕ, suc, _+_, _-_, _*_, _/_, _%_, _≤_, _<_, max}
+use Prim.Native.Nat.{ℕ, _+_, _-_, _*_, _/_, _%_, _≤_, _<_}
 use native.Mathlib.Nat.{mod-eq-of-lt, div-one}
-use native.Mathlib.Decide.{ℕ-discrete}
-use native.Mathlib.Numerals.{add-one}
+use native.Mathlib.Decide.{ℕ-discrete, decLt}
 use native.Mathlib.Omega.{arith}
+use lib.Bits.{bitOr}
 use lib.Dec.{ltb, eqb}
-use lib.ListN.{length, getD, set}
+use lib.ListN.{length, getD, set, List·getD-eq-default}
 use lib.Seq.{ext-getD}
-use borrow.Author.Tests.{ltb-true, ltb-false, lt-ltb, le-ltb, eqb-true, eq-eqb, ne-eqb}
+use borrow.Author.Tests.{lt-ltb, le-ltb, eqb-true, eq-eqb, ne-eqb}
 use Rattle.octets.specs.Tests.{pick, allBelow}
+use Rattle.octets.specs.Lists.{tab}
 use Rattle.octets.specs.Bits.{Octets}
-use Rattle.octets.proofs.TestLaws.{and-left, and-right, all-at, all-intro, agree}
-use Rattle.octets.proofs.ListLaws.{length-tab, getD-tab, octets-tab}
+use Rattle.octets.proofs.TestLaws.{and-left, and-right, all-at, all-step, all-intro, agree}
+use Rattle.octets.proofs.ListLaws.{length-tab, getD-tab, tab-same, octets-tab}
+use Rattle.octets.proofs.BitLaws.{or-below}
 use Rattle.octets.proofs.Front.{Front, front-start, front-more, front-to, front-done}
 use Rattle.text.specs.Decimal.{isDigit}
 use Rattle.text.specs.Hex.{isLetterDigit, isHexDigit, hexValue, hexDigit, isHex, hexOctets, hexText, readHex}
@@ -82,32 +84,25 @@ module _ (x : ℕ) where
 
 -- ---- hex read
 
--- the greater of two is below n where both are
-max-lt : (n a b : ℕ) → ltb (max a b) n ≡ (ltb a n && ltb b n)
-max-lt n a b = go (ltb a n) (ltb b n) refl refl
-  where
-    go : (s t : Bool) → ltb a n ≡ s → ltb b n ≡ t → ltb (max a b) n ≡ (s && t)
-    go true true e f = lt-ltb (max a b) n (omega (arith, ltb-true a n e, ltb-true b n f))
-    go true false e f = le-ltb (max a b) n (omega (arith, ltb-false b n f))
-    go false t e f = le-ltb (max a b) n (omega (arith, ltb-false a n e))
-
 module _ (field : List ℕ) where
   abbrev pub digitAt : ℕ → Bool
   digitAt k = isHexDigit (getD field k 0)
 
-  -- the worst digit so far is one exactly where all are, two on
-  pub worst-more : (i worst high low both all : ℕ) → ltb worst 16 ≡ allBelow digitAt (2 * i)
-      → high ≡ pick (digitAt (2 * i)) (hexValue (getD field (2 * i) 0)) 16
-      → low ≡ pick (digitAt (2 * i + 1)) (hexValue (getD field (2 * i + 1) 0)) 16
-      → both ≡ max high low → all ≡ max worst both → ltb all 16 ≡ allBelow digitAt (2 * (i + 1))
-  unfolding allBelow
-  worst-more i worst high low both all e eh el eb ea =
-      let q : 2 * (i + 1) ≡ suc (suc (2 * i)) = omega arith in
-      rw (q, ea, max-lt 16 worst both, eb, max-lt 16 high low, e, worth-lt (getD field (2 * i) 0) high eh, worth-lt (getD field (2 * i + 1) 0) low el, add-one, and-assoc)
+  -- the digits so far are digits exactly where their values together are below 16, one on
+  pub digits-more : (i bits value : ℕ) → ltb bits 16 ≡ allBelow digitAt i → value ≡ pick (digitAt i) (hexValue (getD field i 0)) 16
+      → ltb (bitOr bits value) 16 ≡ allBelow digitAt (i + 1)
+  digits-more i bits value e v = or-below 4 bits value ∙ rw (e, worth-lt (getD field i 0) value v, all-step)
 
-  pub is-hex : (n i : ℕ) (b : Bool) → length field ≡ 2 * n → i ≡ n → b ≡ allBelow digitAt (2 * i) → b ≡ isHex n field
+  pub values-lt : (k : ℕ) → getD (tab (λ i. hexValue (getD field i 0)) (length field)) k 0 < 16
+  values-lt k = go (decLt k (length field))
+    where
+      go : Dec (k < length field) → getD (tab (λ i. hexValue (getD field i 0)) (length field)) k 0 < 16
+      go (yes l) = rw (getD-tab (λ i. hexValue (getD field i 0)) (length field) k l) (value-lt (getD field k 0))
+      go (no l) = rw (List·getD-eq-default (tab (λ i. hexValue (getD field i 0)) (length field)) 0 {n = k} (omega (arith, length-tab (λ i. hexValue (getD field i 0)) (length field)))) (omega arith)
+
+  pub is-hex : (n : ℕ) (b : Bool) → length field ≡ 2 * n → b ≡ allBelow digitAt (length field) → b ≡ isHex n field
   unfolding isHex
-  is-hex n i b l q e = rw (eq-eqb (length field) (2 * n) l) (e ∙ ap (λ (k : ℕ). allBelow digitAt (2 * k)) q)
+  is-hex n b l e = rw (eq-eqb (length field) (2 * n) l) (e ∙ ap (allBelow digitAt) l)
 
   pub not-hex : (n : ℕ) → (length field ≡ 2 * n → ⊥) → false ≡ isHex n field
   unfolding isHex
@@ -121,22 +116,16 @@ module _ (field : List ℕ) where
   unfolding hexOctets
   getD-hexOctets n i h = getD-tab (λ i. 16 * hexValue (getD field (2 * i) 0) + hexValue (getD field (2 * i + 1) 0)) n i h
 
-  -- one octet more
-  pub read-more : (n : ℕ) (d₀ d : List ℕ) (i high low : ℕ) → Front (hexOctets field n) d₀ d i → i < n
-      → high ≡ pick (digitAt (2 * i)) (hexValue (getD field (2 * i) 0)) 16
-      → low ≡ pick (digitAt (2 * i + 1)) (hexValue (getD field (2 * i + 1) 0)) 16
-      → Front (hexOctets field n) d₀ (set d i (16 * (high % 16) + low % 16)) (i + 1)
-  read-more n d₀ d i high low f l eh el =
-      front-more (hexOctets field n) d₀ d i (16 * (high % 16) + low % 16) f (omega (arith, length-hexOctets n))
-      (ap₂ (λ (a b : ℕ). 16 * a + b) (worth-mod (getD field (2 * i) 0) high eh) (worth-mod (getD field (2 * i + 1) 0) low el) ∙ sym (getD-hexOctets n i l))
-
-  pub read-start : (d : List ℕ) → Front (hexOctets field (length d)) d d 0
-  read-start d = front-start (hexOctets field (length d)) d (sym (length-hexOctets (length d)))
-
-  pub read-done : (d₀ d : List ℕ) (i : ℕ) → length field ≡ 2 * length d₀ → Front (hexOctets field (length d₀)) d₀ d i → length d₀ ≤ i → d ≡ readHex field d₀
-  unfolding readHex
-  read-done d₀ d i l f h =
-      rw (eq-eqb (length field) (2 * length d₀) l) (front-done (hexOctets field (length d₀)) d₀ d i f (omega (arith, length-hexOctets (length d₀))))
+  -- the octets of which vs has the digits' values
+  pub read-done : (d₀ d vs : List ℕ) → length field ≡ 2 * length d₀ → vs ≡ tab (λ i. hexValue (getD field i 0)) (length field)
+      → d ≡ tab (λ i. 16 * getD vs (2 * i) 0 + getD vs (2 * i + 1) 0) (length d₀) → d ≡ readHex field d₀
+  unfolding readHex hexOctets
+  read-done d₀ d vs l e h =
+      rw (eq-eqb (length field) (2 * length d₀) l)
+      (h ∙ tab-same _ _ (length d₀) (λ i b. ap₂ (λ (x y : ℕ). 16 * x + y) (value (2 * i) (omega arith)) (value (2 * i + 1) (omega arith))))
+    where
+      value : (k : ℕ) → k < length field → getD vs k 0 ≡ hexValue (getD field k 0)
+      value k b = rw e (getD-tab (λ i. hexValue (getD field i 0)) (length field) k b)
 
   pub read-not : (d₀ : List ℕ) → (length field ≡ 2 * length d₀ → ⊥) → d₀ ≡ readHex field d₀
   unfolding readHex

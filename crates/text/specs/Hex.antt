@@ -39,6 +39,10 @@ hexOctets xs n = tab (λ i. 16 * hexValue (getD xs (2 * i) 0) + hexValue (getD x
 unfoldable pub hexText : List ℕ → List ℕ
 hexText xs = tab (λ k. hexDigit (getD xs (k / 2) 0 / pick (eqb (k % 2) 0) 16 1 % 16)) (2 * length xs)
 
+-- the most octets that are read of a field
+abbrev pub mostOctets : ℕ
+mostOctets = 64
+
 -- what reading a field leaves in lent octets: as they were where the length is wrong
 unfoldable pub readHex : List ℕ → List ℕ → List ℕ
 readHex field out = pick (eqb (length field) (2 * length out)) (hexOctets field (length out)) out

@@ -1,9 +1,10 @@
 // Octets in upper-case hex.
 ghost use mathlib.Core.Path.{_≡_};
-ghost use Prim.Native.Nat.{_*_, _<_, max};
-ghost use lib.ListN.{length};
-ghost use Rattle.octets.specs.Tests.{pick};
-ghost use Rattle.text.specs.Hex.{isHexDigit, hexValue, hexDigit, isHex, readHex, hexText};
+ghost use Prim.Native.Nat.{ℕ, _+_, _*_, _≤_, _<_};
+ghost use lib.ListN.{length, getD};
+ghost use Rattle.octets.specs.Tests.{pick, allBelow};
+ghost use Rattle.octets.specs.Lists.{tab};
+ghost use Rattle.text.specs.Hex.{isHexDigit, hexValue, hexDigit, isHex, mostOctets, readHex, hexText};
 
 // What a digit is worth, and 16 for an octet that is none.
 fn hex_value(digit: u8) -> u8
@@ -16,38 +17,57 @@ fn hex_value(digit: u8) -> u8
     }
 }
 
-fn greater(a: u8, b: u8) -> u8
-    ensures { λ r. ⌜ r ≡ max a b ⌝ }
+// What each octet of a field is worth as a digit, into lent octets: one that is none counts as 0. Answers whether all are digits.
+fn read_digits(field: &[u8], values: &mut [u8]) -> bool
+    requires { ⌜ length (now values) ≡ length (now field) ⌝ }
+    ensures { λ r. ⌜ r ≡ allBelow (λ i. isHexDigit (getD (now (field .entry)) i 0)) (length (now (field .entry))) ⌝ }
+    ensures { λ _. ⌜ now (values .exit) ≡ tab (λ i. hexValue (getD (now (field .entry)) i 0)) (length (now (field .entry))) ⌝ }
 {
-    if a < b {
-        return b;
+    // A value below 16 has none of the bits of 16.
+    let mut bits: u8 = 0;
+    let mut i = 0;
+    while i < field.len() {
+        let value = hex_value(field[i]);
+        values[i] = value % 16;
+        bits = bits | value;
+        i += 1;
     }
-    a
+    bits < 16
 }
 
+// Each octet from two digits, the high one first.
+fn join_digits(values: &[u8], out: &mut [u8])
+    requires { ⌜ (length (now values) ≡ 2 * length (now out)) × ((k : ℕ) → getD (now values) k 0 < 16) ⌝ }
+    ensures { λ _. ⌜ now (out .exit) ≡ tab (λ i. 16 * getD (now (values .entry)) (2 * i) 0 + getD (now (values .entry)) (2 * i + 1) 0) (length (now (out .entry))) ⌝ }
+{
+    let mut i = 0;
+    while i < out.len() {
+        out[i] = 16 * values[2 * i] + values[2 * i + 1];
+        i += 1;
+    }
+}
+
+// The most octets that are read of a field.
+pub const MOST_OCTETS: usize = 64;
+
 // Reads a field into lent octets, and answers whether it is the hex of as many octets. Where its length is wrong they stay as they are;
-// a digit that is none counts as 0.
+// a digit that is none counts as 0. All digits first, and then the octets: so the compiler takes many at a time.
 pub fn read_hex(field: &[u8], out: &mut [u8]) -> bool
+    requires { ⌜ length (now out) ≤ mostOctets ⌝ }
     ensures { λ r. ⌜ r ≡ isHex (length (now (out .entry))) (now (field .entry)) ⌝ }
     ensures { λ _. ⌜ now (out .exit) ≡ readHex (now (field .entry)) (now (out .entry)) ⌝ }
 {
-    if field.len() % 2 != 0 {
+    let n = field.len();
+    if n % 2 != 0 {
         return false;
     }
-    if field.len() / 2 != out.len() {
+    if n / 2 != out.len() {
         return false;
     }
-    // The worst digit so far: 16 where one was none.
-    let mut worst: u8 = 0;
-    let mut i = 0;
-    while i < out.len() {
-        let high = hex_value(field[2 * i]);
-        let low = hex_value(field[2 * i + 1]);
-        worst = greater(worst, greater(high, low));
-        out[i] = 16 * (high % 16) + low % 16;
-        i += 1;
-    }
-    worst < 16
+    let mut values = [0; 2 * MOST_OCTETS];
+    let all = read_digits(field, &mut values[..n]);
+    join_digits(&values[..n], out);
+    all
 }
 
 fn hex_digit(n: u8) -> u8

@@ -2,6 +2,7 @@
 use check::same;
 use text::decimal::Number;
 use text::decimal::read_number;
+use text::hex::MOST_OCTETS;
 use text::hex::read_hex;
 use text::part::TAB;
 use text::part::part_end;
@@ -40,6 +41,9 @@ pub fn number(row: &[u8], n: usize) -> u8 {
 
 // Takes the octets that field n of a row has in hex, or answers false where they are not just as many as asked.
 pub fn octets_of(row: &[u8], n: usize, out: &mut [u8]) -> bool {
+    if out.len() > MOST_OCTETS {
+        return false;
+    }
     read_hex(field(row, n), out)
 }
 
@@ -67,6 +71,6 @@ fn reads_as(row: &[u8], n: usize, octets: &[u8], room: &mut [u8]) -> bool {
 
 // The same of at most as many octets as a row has.
 pub fn has_octets(row: &[u8], n: usize, octets: &[u8]) -> bool {
-    let mut room = [0u8; 64];
+    let mut room = [0u8; MOST_OCTETS];
     reads_as(row, n, octets, &mut room)
 }

@@ -1,60 +1,62 @@
 -- `text::hex::read_hex` meets its contract. Assumes nothing.
-use mathlib.Core.Path.{_≡_, sym}
-use Prim.Native.Nat.{_-_, _*_, _≤_}
+use mathlib.Core.Path.{_≡_, refl, sym, ap, _∙_}
+use mathlib.Core.List.{List, _++_}
+use Prim.Native.Nat.{ℕ, _*_, _≤_, _<_}
 use native.Mathlib.Omega.{arith}
 use borrow.Author.Needs.{needs}
-use lib.Dec.{ltb}
-use lib.ListN.{length, length-set}
-use Rattle.octets.specs.Tests.{allBelow}
-use Rattle.octets.proofs.TestLaws.{all-none}
-use Rattle.octets.proofs.Front.{Front}
-use Rattle.text.specs.Hex.{hexOctets}
-use Rattle.text.proofs.HexLaws.{digitAt, worst-more, is-hex, not-hex, read-start, read-more, read-done, read-not}
+use lib.ListN.{length, getD, take, drop, replicate, length-append}
+use lib.Seq.{length-take-le, take-at}
+use Rattle.octets.specs.Lists.{tab}
+use Rattle.octets.proofs.ListLaws.{length-tab}
+use Rattle.text.specs.Hex.{hexValue, mostOctets}
+use Rattle.text.proofs.HexLaws.{is-hex, not-hex, values-lt, read-done, read-not}
 use Rattle.text.proofs.hex.read_hex.Statement.{statement}
 use Rattle.text.proofs.hex.read_hex.Tie as tie
 
-abbrev Inv-loop : tie.InvT-loop
-Inv-loop field out₀ worst₀ i₀ out worst i =
-    (i ≤ length out₀) × (length out ≡ length out₀) × (ltb worst 16 ≡ allBelow (digitAt field) (2 * i)) × Front (hexOctets field (length out₀)) out₀ out i
+-- the values, lent as the first of the local octets
+abbrev lent : List ℕ → List ℕ → List ℕ
+lent field vs = vs ++ drop (length field) (replicate (2 * mostOctets) 0)
 
-abbrev μ-loop : tie.MeasureT-loop
-μ-loop field out₀ worst₀ i₀ out worst i = length out₀ - i
+-- and lent again
+module _ (field vs : List ℕ) (e : vs ≡ tab (λ i. hexValue (getD field i 0)) (length field)) where
+  long : length vs ≡ length field
+  long = ap length e ∙ length-tab (λ i. hexValue (getD field i 0)) (length field)
 
-again : tie.Need-loop-again Inv-loop μ-loop
-again c =
-    let low = c .before .before in
-    let high = low .before .before in
-    let at = high .before .before .before in
-    let field = at .before .before .before .before .before .args .field .now in (
-      search needs,
-      simp length-set (at .loop .inv .1),
-      worst-more field (at .loop .i) _ _ _ _ _ (at .loop .inv .2) (high .hex-value .ensures) (low .hex-value2 .ensures) (c .before .greater .ensures) (c .greater2 .ensures),
-      read-more field _ _ _ _ _ _ (at .loop .inv .3) (search needs) (high .hex-value .ensures) (low .hex-value2 .ensures),
-    )
+  fits : length field ≤ length (lent field vs)
+  fits = omega (arith, length-append vs (drop (length field) (replicate (2 * mostOctets) 0)), long)
+
+  again : take (length field) (lent field vs) ≡ vs
+  again = take-at vs (drop (length field) (replicate (2 * mostOctets) 0)) (length field) long
+
+  again-long : (n : ℕ) → length field ≡ n → length (take (length field) (lent field vs)) ≡ n
+  again-long n l = ap length again ∙ long ∙ l
+
+  small : (k : ℕ) → getD (take (length field) (lent field vs)) k 0 < 16
+  small k = rw (again, e) (values-lt field k)
 
 pub read-hex-spec : {M : Type 1} → statement M
 read-hex-spec =
     tie.close
     (tie.spec
-    Inv-loop
-    μ-loop
     (λ c. (not-hex _ _ (λ e. omega arith), read-not _ _ (λ e. omega arith)))
     (λ c. (not-hex _ _ (λ e. omega arith), read-not _ _ (λ e. omega arith)))
-    (λ c. (search needs, search needs, sym (all-none _), read-start _ _))
     (λ c. search needs)
+    (λ c. sym (length-take-le _ _ (search needs)))
+    (λ c κs. length-take-le _ _ (search needs))
+    (λ c.
+    let read = c .before in
+    fits (read .before .before .before .before .before .before .args .field .now) _ (read .read-digits .ensures .1))
+    (λ c.
+    let read = c .before .before in
+    sym (again-long (read .before .before .before .before .before .before .args .field .now) _ (read .read-digits .ensures .1) _ refl))
+    (λ c κs.
+    let read = c .before .before .before in
+    let field = read .before .before .before .before .before .before .args .field .now in
+    (again-long field _ (read .read-digits .ensures .1) _ (omega arith), small field _ (read .read-digits .ensures .1)))
     (λ c. search needs)
-    (λ c κs. search needs)
-    (λ c. search needs)
-    (λ c. search needs)
-    (λ c. search needs)
-    (λ c κs. search needs)
-    (λ c κs. search needs)
-    (λ c κs. search needs)
-    (λ c. search needs)
-    (λ c. search needs)
-    (λ c. search needs)
-    (λ c. search needs)
-    (λ c. search needs)
-    again
-    (λ c. search needs)
-    (λ c. (is-hex _ _ _ _ (search needs) (omega arith) (c .before .loop .inv .2), read-done _ _ _ _ (search needs) (c .before .loop .inv .3) (search needs))))
+    (λ c.
+    let read = c .before .before .before .before .before .before in
+    let field = read .before .before .before .before .before .before .args .field .now in (
+      is-hex field _ _ (omega arith) (read .read-digits .ensures .0),
+      read-done field _ _ _ (omega arith) (again field _ (read .read-digits .ensures .1) ∙ read .read-digits .ensures .1) (c .before .before .join-digits .ensures),
+    )))
