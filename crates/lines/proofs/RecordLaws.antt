@@ -13,7 +13,7 @@ use Rattle.octets.specs.Tests.{pick}
 use Rattle.octets.proofs.TestLaws.{and-left, and-right, and-false-r}
 use Rattle.text.specs.declared.decimal.Number.the-variants as Number
 use Rattle.text.specs.Decimal.{isDecimal, decimalValue, numberIn}
-use Rattle.text.specs.Hex.{isHex, hexOctets}
+use Rattle.text.specs.Hex.{isHex, mostOctets, hexOctets}
 use Rattle.text.proofs.DecimalLaws.{number-of, number-not}
 use Rattle.text.proofs.HexLaws.{hex-size, length-hexOctets}
 use Rattle.keyentry.specs.Entry.{keyRoom}
@@ -61,6 +61,9 @@ module _ (room : List ℕ) (n : ℕ) (whole : length room ≡ recordRoom) (fits 
 
   pub part-some : 1 ≤ n → 1 ≤ length (take n room)
   part-some h = omega (arith, part-size)
+
+  pub part-most : length (take n room) ≤ mostOctets
+  part-most = omega (arith, part-size)
 
   pub last-lent : (line : List ℕ) (cursor : Cursor) (b : Bool) (m : List ℕ)
       → (b ≡ lastHex (length (take n room)) (left line cursor)) × (b ≡ true → m ≡ hexOctets (fieldAt (left line cursor) 0) (length (take n room))) → Last line cursor n b m

@@ -23,7 +23,7 @@ fn read_digits(field: &[u8], values: &mut [u8]) -> bool
     ensures { λ r. ⌜ r ≡ allBelow (λ i. isHexDigit (getD (now (field .entry)) i 0)) (length (now (field .entry))) ⌝ }
     ensures { λ _. ⌜ now (values .exit) ≡ tab (λ i. hexValue (getD (now (field .entry)) i 0)) (length (now (field .entry))) ⌝ }
 {
-    // A value below 16 has none of the bits of 16.
+    // 16 has a bit that no digit's value has.
     let mut bits: u8 = 0;
     let mut i = 0;
     while i < field.len() {

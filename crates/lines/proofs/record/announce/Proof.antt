@@ -2,7 +2,7 @@
 use native.Mathlib.Omega.{arith}
 use borrow.Author.Needs.{needs}
 use Rattle.session.specs.Session.{vectorOctets}
-use Rattle.lines.proofs.RecordLaws.{part-size, part-some, last-lent, announce-done, announce-not}
+use Rattle.lines.proofs.RecordLaws.{part-size, part-some, part-most, last-lent, announce-done, announce-not}
 use Rattle.lines.proofs.record.announce.Statement.{statement}
 use Rattle.lines.proofs.record.announce.Tie as tie
 
@@ -12,7 +12,7 @@ announce-spec =
     (tie.spec
     (λ c. search needs)
     (λ c. part-size (c .before .before .before .args .octets .now) vectorOctets (search needs) (omega arith))
-    (λ c κs. (search needs, part-some (c .before .before .before .args .octets .now) vectorOctets (search needs) (omega arith) (omega arith)))
+    (λ c κs. (search needs, part-some (c .before .before .before .args .octets .now) vectorOctets (search needs) (omega arith) (omega arith), part-most (c .before .before .before .args .octets .now) vectorOctets (search needs) (omega arith)))
     (λ c. search needs)
     (λ c. (announce-done _ _ _ _ (last-lent (c .before .before .before .before .before .before .before .args .octets .now) vectorOctets (search needs) (omega arith) _ _ _ _ (c .before .before .before .last-hex .ensures)) (c .if1 .taken) _, search needs))
     (λ c. search needs)

@@ -2,7 +2,7 @@
 use mathlib.Core.Path.{refl}
 use native.Mathlib.Omega.{arith}
 use borrow.Author.Needs.{needs}
-use Rattle.lines.proofs.RecordLaws.{part-size, part-some, last-lent, name-within, load-no-name, load-none, load-long, load-done, load-not}
+use Rattle.lines.proofs.RecordLaws.{part-size, part-some, part-most, last-lent, name-within, load-no-name, load-none, load-long, load-done, load-not}
 use Rattle.lines.proofs.record.load.Statement.{statement}
 use Rattle.lines.proofs.record.load.Tie as tie
 
@@ -29,6 +29,7 @@ requires c κs =
     let named = c .before .before .before .before in (
       name-within _ _ _ (named .before .before .name .ensures) _ _ _ (named .named .given .1),
       part-some (named .before .before .before .before .before .args .octets .now) _ (search needs) (c .before .if2 .left) (omega arith),
+      part-most (named .before .before .before .before .before .args .octets .now) _ (search needs) (c .before .if2 .left),
     )
 
 pub load-spec : {M : Type 1} → statement M

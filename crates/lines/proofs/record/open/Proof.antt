@@ -2,7 +2,7 @@
 use native.Mathlib.Omega.{arith}
 use borrow.Author.Needs.{needs}
 use Rattle.session.specs.Session.{vectorOctets}
-use Rattle.lines.proofs.RecordLaws.{part-size, part-some, last-lent, name-within, open-no-name, open-done, open-not}
+use Rattle.lines.proofs.RecordLaws.{part-size, part-some, part-most, last-lent, name-within, open-no-name, open-done, open-not}
 use Rattle.lines.proofs.record.open.Statement.{statement}
 use Rattle.lines.proofs.record.open.Tie as tie
 
@@ -19,6 +19,7 @@ open-spec =
     (λ c κs. (
       name-within _ _ _ (c .before .before .before .before .name .ensures) _ _ _ (c .before .before .named .given .1),
       part-some (c .before .before .before .before .before .before .before .args .octets .now) vectorOctets (search needs) (omega arith) (omega arith),
+      part-most (c .before .before .before .before .before .before .before .args .octets .now) vectorOctets (search needs) (omega arith),
     ))
     (λ c. search needs)
     (λ c. (

@@ -3,7 +3,7 @@ use mathlib.Core.Path.{sym, _∙_}
 use native.Mathlib.Omega.{arith}
 use borrow.Author.Needs.{needs}
 use Rattle.voice.specs.Frame.{frameOctets}
-use Rattle.lines.proofs.RecordLaws.{part-size, part-some, last-lent, voice-no-mask, voice-done, voice-not}
+use Rattle.lines.proofs.RecordLaws.{part-size, part-some, part-most, last-lent, voice-no-mask, voice-done, voice-not}
 use Rattle.lines.proofs.record.voice.Statement.{statement}
 use Rattle.lines.proofs.record.voice.Tie as tie
 
@@ -17,7 +17,7 @@ voice-spec =
     (λ c. (voice-no-mask _ _ (sym (c .before .before .before .next-number .ensures .0) ∙ c .enum-told .given .1), search needs))
     (λ c. search needs)
     (λ c. part-size (c .before .before .before .before .before .before .before .before .args .octets .now) frameOctets (search needs) (omega arith))
-    (λ c κs. (search needs, part-some (c .before .before .before .before .before .before .before .before .args .octets .now) frameOctets (search needs) (omega arith) (omega arith)))
+    (λ c κs. (search needs, part-some (c .before .before .before .before .before .before .before .before .args .octets .now) frameOctets (search needs) (omega arith) (omega arith), part-most (c .before .before .before .before .before .before .before .before .args .octets .now) frameOctets (search needs) (omega arith)))
     (λ c. search needs)
     (λ c.
     let number = c .before .before .before .before .before .before .before .before .before .next-number .ensures in (
