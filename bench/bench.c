@@ -1,5 +1,5 @@
 /* Times the proved functions beside OpenSSL's in one run, and first sees that both give the same octets.
-   The least of several batches is printed, in nanoseconds of processor time. */
+   The least of several batches is printed, in nanoseconds of processor time; a packet's messages are timed once, in milliseconds. */
 #define OPENSSL_API_COMPAT 0x10100000L
 #define OPENSSL_SUPPRESS_DEPRECATED
 #include <openssl/aes.h>

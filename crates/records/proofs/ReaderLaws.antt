@@ -1,4 +1,4 @@
--- However an input is cut into pieces, feeding them one after the other and then its end comes to what its lines come to. Assumes nothing.
+-- Feeding an input, in two parts or whole, and then its end comes to what its lines come to. Assumes nothing.
 use mathlib.Core.Path.{_≡_, refl, sym, ap, _∙_}
 use mathlib.Core.Bool.{Bool, true, false}
 use mathlib.Core.List.{List, [], _∷_, _++_, append-assoc, append-nil}
@@ -14,7 +14,7 @@ use Rattle.voice.specs.declared.call.Call.{Call}
 use Rattle.text.specs.Parted.{lineEnd, onto, parted}
 use Rattle.lines.specs.Record.{lineOctets, lineOf}
 use Rattle.records.specs.Answered.{Answered, answered}
-use Rattle.records.specs.Reader.{withoutLast, linesOf, andThen, allAnswered, Reading, fresh, keptOctets, kept, ended, afresh, Fed, following, fed, fedAll, finished, closing}
+use Rattle.records.specs.Reader.{withoutLast, linesOf, andThen, allAnswered, Reading, fresh, keptOctets, kept, ended, afresh, Fed, following, fed, finished, closing}
 
 -- ---- what is kept of a line is as good as the whole
 
@@ -61,17 +61,6 @@ fed-append (x ∷ xs) s ys = go (eqb x lineEnd) (fed-append xs)
         (fed (pick b (following (ended s .output) (fed (afresh (ended s)) xs)) (fed (kept s (x ∷ [])) xs) .after) ys)
     go true more = ap (following (ended s .output)) (more (afresh (ended s)) ys) ∙ following-following (ended s .output) _ _
     go false more = more (kept s (x ∷ [])) ys
-
--- all pieces joined
-abbrev pub joined : List (List ℕ) → List ℕ
-joined [] = []
-joined (p ∷ ps) = p ++ joined ps
-
--- however an input is cut
-pub cut : (ps : List (List ℕ)) (s : Reading) → fedAll s ps ≡ fed s (joined ps)
-unfolding fed fedAll
-cut [] s = refl
-cut (p ∷ ps) s = ap (following (fed s p .output)) (cut ps (fed s p .after)) ∙ sym (fed-append p s (joined ps))
 
 -- ---- the whole input
 
@@ -146,7 +135,3 @@ whole-after (x ∷ xs) p book call = go (eqb x lineEnd) (whole-after xs)
 pub whole : (xs book : List ℕ) (call : Call) → closing (fed (fresh book call) xs) ≡ allAnswered (linesOf xs) book call
 unfolding linesOf
 whole xs book call = rw (← after-none xs) (whole-after xs [] book call)
-
--- an input in pieces
-pub in-pieces : (ps : List (List ℕ)) (book : List ℕ) (call : Call) → closing (fedAll (fresh book call) ps) ≡ allAnswered (linesOf (joined ps)) book call
-in-pieces ps book call = rw (cut ps (fresh book call)) (whole (joined ps) book call)

@@ -11,14 +11,16 @@ use Rattle.octets.specs.Bits.{bit}
 use Rattle.answers.specs.declared.Answer.{Answer}
 use Rattle.answers.specs.declared.Answer.the-variants as answer
 use Rattle.answers.specs.Numbers.{isDone}
+use Rattle.answers.proofs.OutcomeLaws.{Refusal}
 use Rattle.session.specs.Session.{vectorOctets, scrambles}
 use Rattle.voice.specs.declared.call.Call.{Call}
-use Rattle.voice.specs.Call.{standing, endOf}
+use Rattle.voice.specs.Call.{goodCall, standing, endOf}
 use Rattle.voice.specs.Frame.{frameOctets}
 use Rattle.voice.specs.Opening.{openOf, joinOf}
-use Rattle.voice.specs.Slot.{lostOf, voiceOf, voiceByOctets, knows, sessionStreamOf, IsSession}
+use Rattle.voice.specs.Slot.{lostOf, voiceOf, voiceByOctets, withoutFrame, knows, sessionStreamOf}
 use Rattle.voice.specs.Vector.{announceOf}
-use Rattle.voice.proofs.SessionOnce.{voice-by-is-voice, session-made, session-kept, session-kept-lost, voice-unknown, voice-done-knows}
+use Rattle.voice.proofs.SessionOnce.{knows-yes, voice-by-is-voice, session-made, session-kept, session-kept-lost, voice-unknown, voice-done-knows}
+use Rattle.voice.proofs.Settled.{voice-by-keeps}
 use Rattle.lines.specs.declared.record.Parsed.{Parsed}
 use Rattle.lines.specs.declared.record.Parsed.the-variants as code
 use Rattle.lines.specs.Record.{recordRoom, recordIn, countIn}
@@ -28,41 +30,56 @@ use Rattle.records.specs.Step.{Stepped, ofBook, ofCall, ofSlot, stepOf, 
 
 -- ---- the session's octets
 
--- they hold the call's session, if it has one whose vector is known
-abbrev pub Holds : Call → List ℕ → Type 0
-Holds c session = knows (standing c) ≡ true → IsSession c session
-
-pub made-holds : (c : Call) (session after : List ℕ) → length session ≡ sessionOctets → after ≡ sessionStreamOf c session → Holds c after
-made-holds c session after l e k = rw e (session-made c k session (omega arith))
-
 -- nothing holds what is not made
 pub unmade : (c : Call) (session : List ℕ) → length session ≡ sessionOctets → Cached false c session
 unmade c session l = record { long = l; holds = λ e. absurd (false≢true e) }
 
-module _ (c : Call) (session : List ℕ) (h : Holds c session) (mask : ℕ) (frame : List ℕ) where
+-- a session made is held, if the call is good
+pub made-holds : (c : Call) (session after : List ℕ) {good : Bool} → length session ≡ sessionOctets → after ≡ sessionStreamOf c session
+    → length after ≡ sessionOctets → c .known ≡ true → good ≡ goodCall c → (good ≡ knows (standing c)) × Cached good c after
+made-holds c session after l e la k g =
+    let h = g ∙ sym (knows-yes c k) in
+    (h, record { long = la; holds = λ t. rw e (session-made c (sym h ∙ t) session (omega arith)) })
+
+-- a refusal leaves the call, so it is still in its session
+pub refused-cached : (c : Call) (session : List ℕ) {made stays : Bool} {a : Answer} {call after : Call} {o : Answer × Call} → Cached made c session → (a, call) ≡ o
+    → (Refusal (o .0) → o .1 ≡ c) → after ≡ call → (stays ≡ true → (made ≡ true) × Refusal a) → Cached stays after session
+refused-cached c session {after = after} {o = o} h q keeps e s =
+    let same : Refusal (o .0) → after ≡ c = λ r. e ∙ ap (λ (x : Answer × Call). x .1) q ∙ keeps r in
+    record {
+      long = h .long;
+      holds = λ t. rw (same (rw (ap (λ (x : Answer × Call). x .0) q) at (s t .1))) (h .holds (s t .0));
+    }
+
+module _ (c : Call) (session : List ℕ) {held : Bool} (k : held ≡ knows (standing c)) (h : Cached held c session) (mask : ℕ) (frame : List ℕ) where
   -- a slot turned by them is the slot of the call
   pub voice-held : voiceByOctets session c mask frame ≡ voiceOf c mask frame
   voice-held = go (knows (standing c)) refl
     where
       go : (b : Bool) → knows (standing c) ≡ b → voiceByOctets session c mask frame ≡ voiceOf c mask frame
-      go true k = voice-by-is-voice c session (h k) mask frame
-      go false k = voice-unknown (λ n k v. bit session) _ mask frame c k
+      go true e = voice-by-is-voice c session (h .holds (k ∙ e)) mask frame
+      go false e = voice-unknown (λ n k v. bit session) _ mask frame c e
 
   -- after a slot that is done, the call is in their session if it goes on
-  pub voice-cached : {a : Answer} {after : Call} {f : List ℕ} {goes : Bool} → (a, (after, f)) ≡ voiceByOctets session c mask frame → length session ≡ sessionOctets
+  pub voice-cached : {a : Answer} {after : Call} {f : List ℕ} {goes : Bool} → (a, (after, f)) ≡ voiceByOctets session c mask frame
       → isDone a ≡ true → (goes ≡ true → after .position ≡ 0 → scrambles (c .cipher) ≡ true) → Cached goes after session
-  voice-cached {a} {after} {f} q l d g =
+  voice-cached {a} {after} {f} q d g =
       let e : after ≡ voiceByOctets session c mask frame .1 .0 = ap (λ (o : Answer × (Call × List ℕ)). o .1 .0) q in
       let done : isDone (voiceByOctets session c mask frame .0) ≡ true = sym (ap (λ (o : Answer × (Call × List ℕ)). isDone (o .0)) q) ∙ d in
       record {
-        long = l;
+        long = h .long;
         holds = λ t.
             rw e
-            (session-kept c session (h (voice-done-knows (λ n k v. bit session) mask frame c done)) (λ n k v. bit session) mask frame
+            (session-kept c session (h .holds (k ∙ voice-done-knows (λ n k v. bit session) mask frame c done)) (λ n k v. bit session) mask frame
             (λ p. g t (ap (λ (x : Call). x .position) e ∙ p)));
       }
 
--- and so it is after a lost one
+  -- after one that is refused, it is in the session that it was in
+  pub voice-refused : {a : Answer} {call after : Call} {f : List ℕ} {stays : Bool} → (a, (call, f)) ≡ voiceByOctets session c mask frame → after ≡ call
+      → (stays ≡ true → (held ≡ true) × Refusal a) → Cached stays after session
+  voice-refused q = refused-cached c session h (ap withoutFrame q) (λ r. ap (λ (o : Call × List ℕ). o .0) (voice-by-keeps c (λ n k v. bit session) mask frame r))
+
+-- after a lost slot it is in their session if it goes on
 pub lost-cached : (c : Call) (session : List ℕ) {made goes : Bool} {a : Answer} {after : Call} → Cached made c session → (a, after) ≡ lostOf c
     → (goes ≡ true → (made ≡ true) × (after .position ≡ 0 → scrambles (c .cipher) ≡ true)) → Cached goes after session
 lost-cached c session {made} {goes} {a} {after} h q g =

@@ -34,7 +34,7 @@ shown frame = pick (eqb (length frame) 0) dash (hexText frame)
 unfoldable pub answerLine : Answer → Call → List ℕ → List ℕ
 answerLine answer call frame = decimal (numberOf answer) ++ (tabOctet ∷ (place call ++ (tabOctet ∷ (shown frame ++ (lineEnd ∷ [])))))
 
--- the most octets of a number below 1,000, and of an output line: two numbers, a frame, two tabs and a line end
+-- room for any number below 1,000, and for any output line: two numbers, a frame, two tabs and a line end
 abbrev pub numberRoom : ℕ
 numberRoom = 3
 

@@ -77,11 +77,6 @@ fed s (x ∷ xs) =
     (following (ended s .output) (fed (afresh (ended s)) xs))
     (fed (kept s (x ∷ [])) xs)
 
--- one piece after the other
-unfoldable pub fedAll : Reading → List (List ℕ) → Fed
-fedAll s [] = record { output = []; after = s }
-fedAll s (p ∷ ps) = following (fed s p .output) (fedAll (fed s p .after) ps)
-
 -- the end of the input: a last line may lack its line end
 unfoldable pub finished : Reading → Answered
 finished s = pick (eqb (length (s .line)) 0) (silent (s .book) (s .call)) (ended s)

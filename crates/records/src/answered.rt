@@ -8,7 +8,7 @@ use voice::frame::FRAME_OCTETS;
 
 const NUMBER_ROOM: usize = 3;
 
-// The most octets of an output line.
+// Room for any output line.
 pub const ANSWER_ROOM: usize = NUMBER_ROOM + 1 + NUMBER_ROOM + 1 + 2 * FRAME_OCTETS + 1;
 
 // How long the output line is, and the call after it.

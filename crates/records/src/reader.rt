@@ -130,9 +130,9 @@ fn take_from(
             return Took { used, wrote, carry };
         }
         let end = part_end(piece, used, LINE_END);
-        let octets = &piece[used..end];
+        let rest = &piece[used..end];
         if end == piece.len() {
-            count = keep(&mut kept, count, octets);
+            count = keep(&mut kept, count, rest);
             let carry = carry_on(kept, count, call);
             return Took {
                 used: end,
@@ -141,16 +141,7 @@ fn take_from(
             };
         }
         let room = &mut out[wrote..];
-        let done = end_line(
-            &mut kept,
-            count,
-            octets,
-            book,
-            call,
-            &mut session,
-            made,
-            room,
-        );
+        let done = end_line(&mut kept, count, rest, book, call, &mut session, made, room);
         wrote += done.length;
         call = done.call;
         made = done.made;

@@ -4,13 +4,13 @@ ghost use mathlib.Core.Bool.{true, false};
 ghost use Prim.Native.Nat.{_≤_};
 ghost use lib.ListN.{length, take};
 ghost use Rattle.octets.specs.Tests.{pick};
-ghost use Rattle.answers.specs.Numbers.{isDone};
+ghost use Rattle.answers.specs.Numbers.{numberOf, isDone};
 ghost use Rattle.session.specs.Session.{scrambles};
 ghost use Rattle.voice.specs.Call.{standing};
 ghost use Rattle.voice.specs.Frame.{frameOctets};
-ghost use Rattle.voice.specs.Slot.{lostOf, voiceOf, knows, IsSession};
+ghost use Rattle.voice.specs.Slot.{lostOf, voiceOf, knows};
 ghost use Rattle.lines.specs.Record.{recordRoom, recordIn, countIn};
-ghost use Rattle.records.specs.Step.{sessionOctets, Cached, asStepped, stepOf};
+ghost use Rattle.records.specs.Step.{Cached, asStepped, stepOf};
 use crate::load::load;
 use answers::Answer;
 use ciphers::cipher::Scramble;
@@ -18,6 +18,7 @@ use lines::record::Parsed;
 use session::VECTOR_OCTETS;
 use voice::call::Call;
 use voice::call::end;
+use voice::call::good_call;
 use voice::frame::FRAME_OCTETS;
 use voice::frame::SLOT_BITS;
 use voice::opening::join;
@@ -40,16 +41,19 @@ pub struct Outcome {
 
 // ---- the session's keystream, made once
 
-// Where the call has a session whose vector is known, the lent octets hold it afterwards.
-fn hold_session(call: Call, session: &mut [u8], made: bool)
+// Whether the call has a session whose vector is known. If so, the lent octets hold it afterwards.
+fn hold_session(call: Call, session: &mut [u8], made: bool) -> bool
     requires { ⌜ Cached made call (now session) ⌝ }
-    ensures { λ _. ⌜ (knows (standing call) ≡ true → IsSession call (now (session .exit))) ⌝ }
-    ensures { λ _. ⌜ length (now (session .exit)) ≡ sessionOctets ⌝ }
+    ensures { λ r. ⌜ (r ≡ knows (standing call)) × Cached r call (now (session .exit)) ⌝ }
 {
     if made {
-        return;
+        return true;
+    }
+    if !call.known {
+        return false;
     }
     session_stream(call, session);
+    good_call(call)
 }
 
 // Whether a call of this cipher at this position is in the session that it was in a slot ago. Every session of scramble is the same.
@@ -64,24 +68,44 @@ fn goes_on(cipher: u8, position: u8) -> bool
 
 // ---- the kinds of records
 
+// No frame is shown.
+fn no_frame(answer: Answer, call: Call, made: bool) -> Outcome
+    ensures { λ r. ⌜ (r .answer ≡ answer) × (r .call ≡ call) × (r .shown ≡ 0) × (r .made ≡ made) ⌝ }
+{
+    Outcome {
+        answer,
+        call,
+        shown: 0,
+        made,
+    }
+}
+
+// A record after which the session's keystream is to be made anew. A refusal leaves the call, and its session as it was.
+fn anew(stepped: voice::call::Stepped, made: bool) -> Outcome
+    ensures { λ r. ⌜ (r .answer ≡ stepped .answer) × (r .call ≡ stepped .call) × (r .shown ≡ 0) ⌝ }
+    ensures { λ r. ⌜ (r .made ≡ true → (made ≡ true) × (2 ≤ numberOf (stepped .answer))) ⌝ }
+{
+    let answer = stepped.answer;
+    let call = stepped.call;
+    if answer.number() > 1 {
+        return no_frame(answer, call, made);
+    }
+    no_frame(answer, call, false)
+}
+
 fn voice_slot(call: Call, mask: u8, frame: &mut [u8], session: &mut [u8], made: bool) -> Outcome
     requires { ⌜ Cached made call (now session) ⌝ }
     ensures { λ r. ⌜ (r .answer, (r .call, now (frame .exit))) ≡ voiceOf call mask (now (frame .entry)) ⌝ }
     ensures { λ r. ⌜ r .shown ≡ pick (isDone (r .answer)) frameOctets 0 ⌝ }
     ensures { λ r. ⌜ Cached (r .made) (r .call) (now (session .exit)) ⌝ }
 {
-    hold_session(call, session, made);
+    let held = hold_session(call, session, made);
     let stepped = voice_by(call, mask, frame, session);
     let answer = stepped.answer;
-    let after = stepped.call;
     if answer.number() != 0 {
-        return Outcome {
-            answer,
-            call: after,
-            shown: 0,
-            made: false,
-        };
+        return anew(stepped, held);
     }
+    let after = stepped.call;
     Outcome {
         answer,
         call: after,
@@ -114,32 +138,6 @@ fn lost_slot(call: Call, made: bool) -> Outcome
     }
 }
 
-// A record that leaves the call and its session as they were.
-fn kept(answer: Answer, call: Call, made: bool) -> Outcome
-    ensures { λ r. ⌜ (r .answer ≡ answer) × (r .call ≡ call) × (r .shown ≡ 0) × (r .made ≡ made) ⌝ }
-{
-    Outcome {
-        answer,
-        call,
-        shown: 0,
-        made,
-    }
-}
-
-// One that may begin a call or a session, or end it.
-fn anew(stepped: voice::call::Stepped) -> Outcome
-    ensures { λ r. ⌜ (r .answer ≡ stepped .answer) × (r .call ≡ stepped .call) × (r .shown ≡ 0) × (r .made ≡ false) ⌝ }
-{
-    let answer = stepped.answer;
-    let call = stepped.call;
-    Outcome {
-        answer,
-        call,
-        shown: 0,
-        made: false,
-    }
-}
-
 // A record whose octets stand beside it: the frame of a voice slot is turned there.
 pub fn step(
     parsed: Parsed,
@@ -154,13 +152,16 @@ pub fn step(
     ensures { λ r. ⌜ (r .shown ≤ frameOctets) × Cached (r .made) (r .call) (now (session .exit)) ⌝ }
 {
     match parsed {
-        Parsed::Load { cipher, id, count } => kept(
+        Parsed::Load { cipher, id, count } => no_frame(
             load(book, cipher, id, &octets[..count]),
             call,
             made,
         ),
-        Parsed::Open { cipher, id } => anew(open(call, cipher, id, &octets[..VECTOR_OCTETS], book)),
-        Parsed::Join { cipher, id } => anew(join(call, cipher, id, book)),
+        Parsed::Open { cipher, id } => anew(
+            open(call, cipher, id, &octets[..VECTOR_OCTETS], book),
+            made,
+        ),
+        Parsed::Join { cipher, id } => anew(join(call, cipher, id, book), made),
         Parsed::Voice { mask } => voice_slot(
             call,
             mask,
@@ -168,9 +169,9 @@ pub fn step(
             session,
             made,
         ),
-        Parsed::Announce => anew(announce(call, &octets[..VECTOR_OCTETS])),
+        Parsed::Announce => anew(announce(call, &octets[..VECTOR_OCTETS]), made),
         Parsed::Lost => lost_slot(call, made),
-        Parsed::End => anew(end(call)),
-        Parsed::Malformed => kept(Answer::Malformed, call, made),
+        Parsed::End => anew(end(call), made),
+        Parsed::Malformed => no_frame(Answer::Malformed, call, made),
     }
 }

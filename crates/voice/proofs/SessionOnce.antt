@@ -96,6 +96,21 @@ module _ (c : Call) where
       go (sender o e s) = ap knows s ∙ sym (sender-known (c .cipher) (c .known) (allZero (c .vector)) (rw e at (open-vector c o)))
       go (receiver o e s) = ap knows s
 
+  -- of any call that says no, or that says yes
+  pub knows-no : c .known ≡ false → knows (standing c) ≡ false
+  knows-no e = go (goodCall c) refl
+    where
+      go : (g : Bool) → goodCall c ≡ g → knows (standing c) ≡ false
+      go true g = knows-is g ∙ e
+      go false g = knows-not g
+
+  pub knows-yes : c .known ≡ true → knows (standing c) ≡ goodCall c
+  knows-yes e = go (goodCall c) refl
+    where
+      go : (g : Bool) → goodCall c ≡ g → knows (standing c) ≡ goodCall c
+      go true g = knows-is g ∙ e ∙ sym g
+      go false g = knows-not g ∙ sym g
+
   pub knows-ranged : knows (standing c) ≡ true → (1 ≤ c .cipher) × (c .cipher ≤ 3)
   knows-ranged k = go (good-stands c (knows-good k))
     where
