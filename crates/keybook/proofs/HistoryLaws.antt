@@ -14,9 +14,9 @@ use Rattle.ciphers.specs.Numbers.{keyOctets}
 use Rattle.ciphers.specs.Keys.{keyAllowed}
 use Rattle.answers.specs.declared.Answer.the-variants.{Done}
 use Rattle.answers.proofs.OutcomeLaws.{NoneHolds, none-settles}
-use Rattle.keyentry.specs.Entry.{cipherIn, keyRoom, keyIn, keyLoaded, named}
+use Rattle.keyentry.specs.Entry.{cipherIn, keyRoom, keyIn, named}
 use Rattle.keyentry.proofs.RightLaws.{used-of, for-name}
-use Rattle.keyentry.proofs.WriteLaws.{loaded-count, ready-whole}
+use Rattle.keyentry.proofs.WriteLaws.{keyLoaded, loaded-count, ready-whole}
 use Rattle.keybook.specs.Book.{entries, bookOctets, findEntry, bookRefusals}
 use Rattle.keybook.specs.Operations.{has, entryFor, noKey, notReady, readyRefusals, readyKeyOf}
 use Rattle.keybook.specs.History.{Operation, History, finished, telling, bookAfter, history, padded, Told}

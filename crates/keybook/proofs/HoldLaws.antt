@@ -19,9 +19,9 @@ use Rattle.answers.specs.declared.Answer.the-variants.{Done}
 use Rattle.answers.specs.Numbers.{isDone}
 use Rattle.answers.specs.Outcomes.{Refusals, outcome}
 use Rattle.answers.proofs.OutcomeLaws.{NoneHolds, neverDone, among-not-done, by-refusals}
-use Rattle.keyentry.specs.Entry.{entryOctets, cipherIn, idIn, countIn, isReady, keyRoom, keyIn, keyLoaded, keyRest, entryRight, isFor, blank, newEntry, loaded, completed}
+use Rattle.keyentry.specs.Entry.{entryOctets, cipherIn, idIn, countIn, isReady, keyRoom, keyIn, keyRest, entryRight, isFor, blank, newEntry, loaded, completed}
 use Rattle.keyentry.proofs.RightLaws.{Used, for-name, name-for, not-for}
-use Rattle.keyentry.proofs.WriteLaws.{key-length, loaded-count, blank-cipher, new-cipher, new-id, new-octets, new-not-ready, load-cipher, load-id, load-octets, load-not-ready, complete-cipher, complete-id, complete-octets, complete-ready}
+use Rattle.keyentry.proofs.WriteLaws.{keyLoaded, key-length, loaded-count, blank-cipher, new-cipher, new-id, new-octets, new-not-ready, load-cipher, load-id, load-octets, load-not-ready, complete-cipher, complete-id, complete-octets, complete-ready}
 use Rattle.keybook.specs.Book.{entries, bookOctets, entryOf, withEntry, apart, goodBook, findEntry, freeEntry}
 use Rattle.keybook.specs.Operations.{entryFor, withFor, beginRefusals, beginAfter, beginOf, addRefusals, addOf, finishRefusals, finishOf, eraseRefusals, eraseOf}
 use Rattle.keybook.specs.History.{Operation, Begin, Add, Finish, Erase, Progress, nothing, loading, finished, tells, names, telling, step, bookAfter, history, padded}

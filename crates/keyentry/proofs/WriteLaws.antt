@@ -16,8 +16,12 @@ use Rattle.octets.specs.Tests.{allBelow}
 use Rattle.octets.proofs.TestLaws.{all-intro, and-left, and-right}
 use Rattle.ciphers.specs.Numbers.{keyOctets}
 use Rattle.ciphers.specs.Keys.{keyAllowed}
-use Rattle.keyentry.specs.Entry.{entryOctets, cipherIn, idIn, countPlace, countIn, readyPlace, readyIn, isReady, keyPlace, keyRoom, keyIn, keyLoaded, keyRest, named, lacks, readyRight, usedRight, entryRight, blank, newEntry, loaded, completed}
+use Rattle.keyentry.specs.Entry.{entryOctets, cipherIn, idIn, countPlace, countIn, readyPlace, readyIn, isReady, keyPlace, keyRoom, keyIn, keyRest, named, lacks, readyRight, usedRight, entryRight, blank, newEntry, loaded, completed}
 use Rattle.keyentry.proofs.RightLaws.{zero-at, Used}
+
+-- the octets of the key that are loaded
+abbrev pub keyLoaded : List ℕ → List ℕ
+keyLoaded e = take (countIn e) (keyIn e)
 
 -- ---- a free entry, and a new one
 

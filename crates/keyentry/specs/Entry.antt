@@ -51,10 +51,7 @@ keyRoom = 32
 abbrev pub keyIn : List ℕ → List ℕ
 keyIn e = take keyRoom (drop keyPlace e)
 
--- the octets that are loaded, and those past the count
-abbrev pub keyLoaded : List ℕ → List ℕ
-keyLoaded e = take (countIn e) (keyIn e)
-
+-- the octets past the count
 abbrev pub keyRest : List ℕ → List ℕ
 keyRest e = drop (countIn e) (keyIn e)
 
