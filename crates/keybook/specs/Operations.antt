@@ -23,10 +23,11 @@ entryFor b c i = entryOf b (findEntry b c i)
 abbrev pub withFor : List ℕ → ℕ → ℕ → List ℕ → List ℕ
 withFor b c i e = withEntry b (findEntry b c i) e
 
--- begin takes the free entry nearest the start; refused by 2, 3, 4 of the book, 11, 12
+-- what begin asks of the book's places: no entry for these yet, and a free one
 abbrev pub placeRefusals : List ℕ → ℕ → ℕ → Refusals
 placeRefusals b c i = (has b c i, Already) ∷ (not (ltb (freeEntry b) entries), Full) ∷ []
 
+-- begin takes the free entry nearest the start; refused by 2, 3, 4 of the book, 11, 12
 unfoldable pub beginRefusals : List ℕ → ℕ → ℕ → Refusals
 beginRefusals b c i = bookRefusals b c i ++ placeRefusals b c i
 

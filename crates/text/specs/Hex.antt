@@ -39,7 +39,7 @@ hexOctets xs n = tab (λ i. 16 * hexValue (getD xs (2 * i) 0) + hexValue (getD x
 unfoldable pub hexText : List ℕ → List ℕ
 hexText xs = tab (λ k. hexDigit (getD xs (k / 2) 0 / pick (eqb (k % 2) 0) 16 1 % 16)) (2 * length xs)
 
--- the most octets that are read of a field
+-- the most octets that are read of a field: a record has at most 32, a published vector 64
 abbrev pub mostOctets : ℕ
 mostOctets = 64
 
