@@ -82,23 +82,25 @@ word-octets w frame h i = go (decLt i wordOctets)
 word-long : (w : ℕ) (frame : List ℕ) → w < 4 → length frame ≡ frameOctets → length (word w frame) ≡ wordOctets
 word-long w frame h l = simp (length-take, length-drop, l) (omega arith)
 
+-- a word is what its bits say
+pub word-ext : (w : ℕ) → w < 4 → (f g : List ℕ) → IsFrame f → IsFrame g → ((j : ℕ) → j < wordBits → bit f (wordBits * w + j) ≡ bit g (wordBits * w + j))
+    → word w f ≡ word w g
+word-ext w h f g a b e =
+    octets-ext (word w f) (word w g) (word-octets w f (a .octets)) (word-octets w g (b .octets)) (long ∙ sym (word-long w g h (b .long)))
+    (λ j l.
+    let l′ : j < wordBits = omega (arith, long) in
+    word-bit w f j l′ ∙ e j l′ ∙ sym (word-bit w g j l′))
+  where
+    long : length (word w f) ≡ wordOctets
+    long = word-long w f h (a .long)
+
 -- a word that the mask does not have stays as it is
 pub word-stays : (slot : ℕ → ℕ) (mask w : ℕ) (frame : List ℕ) → IsFrame frame → w < 4 → has mask w ≡ false → word w (protect slot mask frame) ≡ word w frame
 word-stays slot mask w frame f h e =
-    octets-ext (word w (protect slot mask frame)) (word w frame) (word-octets w (protect slot mask frame) (g .octets)) (word-octets w frame (f .octets))
-    (long ∙ sym (word-long w frame h (f .long)))
-    (λ k l.
-    let l′ : k < wordBits = omega (arith, long) in
-    let q : (wordBits * w + k) / wordBits ≡ w = omega arith in
-    word-bit w (protect slot mask frame) k l′
-    ∙ protect-stays slot mask frame (wordBits * w + k) (omega arith) (keyBit-other slot mask (wordBits * w + k) (rw q e))
-    ∙ sym (word-bit w frame k l′))
-  where
-    g : IsFrame (protect slot mask frame)
-    g = protect-frame slot mask frame
-
-    long : length (word w (protect slot mask frame)) ≡ wordOctets
-    long = word-long w (protect slot mask frame) h (g .long)
+    word-ext w h (protect slot mask frame) frame (protect-frame slot mask frame) f
+    (λ j l.
+    let q : (wordBits * w + j) / wordBits ≡ w = omega arith in
+    protect-stays slot mask frame (wordBits * w + j) (omega arith) (keyBit-other slot mask (wordBits * w + j) (rw q e)))
 
 picked : (t : Bool) (x y : ℕ) → (t ≡ true → x ≡ y) → pick t x 0 ≡ pick t y 0
 picked true x y h = h refl
