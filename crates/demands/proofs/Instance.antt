@@ -11,7 +11,7 @@ use Rattle.demands.specs.Log.{talkLog}
 use Rattle.demands.specs.Demand3.{ours}
 use Rattle.demands.specs.OurSender.{Said, Saying, talkMade, SaidKept}
 use Rattle.demands.proofs.ReceiverMeets.{ours-meets-3}
-use Rattle.demands.proofs.LogComplete.{answers, answers-settled}
+use Rattle.demands.proofs.Settled.{answers, answers-settled}
 use Rattle.demands.proofs.SenderKeeps.{ours-keeps}
 use Rattle.demands.specs.Marked.{bookOfTwo}
 use Rattle.demands.proofs.Samples.{keyABCD, has-des, silence, silence-frame, seed-kept, seed-octets}
@@ -41,13 +41,14 @@ mixed-kept =
     ours-keeps bookOfTwo 2 0 keyABCD has-des refl seed seed-kept seed-octets three
     (record { each = (quietly-kept eight, (quietly-kept eight, (quietly-kept (true ∷ []), tt))); full = (refl, (refl, omega arith)) })
 
--- by the opening: handed out, held, handed out
-pub mixed-opened : answers (talkLog ours bookOfTwo 0 mixed opening) ≡ 0 ∷ 0 ∷ 0 ∷ 0 ∷ 1 ∷ 1 ∷ 1 ∷ 1 ∷ 0 ∷ []
+-- by the opening: handed out, held, handed out. The opening, a lost slot and the announcement are 0
+pub mixed-opened : answers (talkLog ours bookOfTwo 0 mixed opening)
+    ≡ 0 ∷ (0 ∷ 0 ∷ 0 ∷ 0 ∷ 0 ∷ 0 ∷ 0 ∷ 0 ∷ (1 ∷ 0 ∷ 1 ∷ 0 ∷ 1 ∷ 0 ∷ 1 ∷ 0 ∷ (0 ∷ 0 ∷ [])))
 mixed-opened = answers-settled ours ours-meets-3 mixed mixed-kept bookOfTwo 0 has-des opening
 
 -- joining in the first session, of which two more slots arrive, and in the second
-pub mixed-joined : answers (talkLog ours bookOfTwo 0 mixed (joining 0)) ≡ 1 ∷ 1 ∷ 1 ∷ 1 ∷ 1 ∷ 1 ∷ 0 ∷ []
+pub mixed-joined : answers (talkLog ours bookOfTwo 0 mixed (joining 0)) ≡ 0 ∷ (1 ∷ 0 ∷ 1 ∷ 0 ∷ (1 ∷ 0 ∷ 1 ∷ 0 ∷ 1 ∷ 0 ∷ 1 ∷ 0 ∷ (0 ∷ 0 ∷ [])))
 mixed-joined = answers-settled ours ours-meets-3 mixed mixed-kept bookOfTwo 0 has-des (joining 0)
 
-pub mixed-joined-later : answers (talkLog ours bookOfTwo 0 mixed (joining 1)) ≡ 1 ∷ 1 ∷ 0 ∷ []
+pub mixed-joined-later : answers (talkLog ours bookOfTwo 0 mixed (joining 1)) ≡ 0 ∷ (1 ∷ 0 ∷ 1 ∷ 0 ∷ (0 ∷ 0 ∷ []))
 mixed-joined-later = answers-settled ours ours-meets-3 mixed mixed-kept bookOfTwo 0 has-des (joining 1)

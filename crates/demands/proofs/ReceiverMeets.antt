@@ -1,6 +1,6 @@
 -- Our receiver meets demand 3. Assumes nothing.
-use mathlib.Core.Path.{_≡_, refl, sym, ap, _∙_}
-use mathlib.Core.Bool.{Bool, true, false, true≢false}
+use mathlib.Core.Path.{_≡_, refl, sym, _∙_}
+use mathlib.Core.Bool.{Bool, true, false, _&&_, _||_, not, true≢false}
 use mathlib.Core.Logic.{_⊎_, inl, inr}
 use mathlib.Core.List.{List, [], _∷_, _++_}
 use Prim.Native.Nat.{ℕ, zero, suc, _+_, _≤_, _<_}
@@ -8,22 +8,21 @@ use native.Mathlib.Nat.{add-zero, zero-add}
 use native.Mathlib.Numerals.{add-one}
 use native.Mathlib.Omega.{arith}
 use lib.ListN.{length, drop, length-drop}
-use Rattle.answers.specs.declared.Answer.{Answer}
 use Rattle.answers.specs.Numbers.{numberOf}
 use Rattle.ciphers.specs.Numbers.{keyOctets, sessionSlots}
 use Rattle.ciphers.specs.Keystream.{stream}
 use Rattle.voice.specs.declared.call.Call.{Call}
-use Rattle.voice.specs.Frame.{word}
+use Rattle.voice.specs.Frame.{word, has}
+use Rattle.voice.specs.Call.{noCall}
+use Rattle.session.specs.Session.{noVector, scrambles}
 use Rattle.voice.specs.Opening.{superframeSlots}
 use Rattle.octets.specs.Lists.{Each}
 use Rattle.demands.specs.Talk.{Slot, Session, WayIn, opening, joining, SlotKept, SlotsKept, VectorKept, SessionKept, Full, slotCounts, HasKey}
-use Rattle.demands.specs.Log.{Report, counts, reports, next, slotsLog, slotsEnd, sessionsLog, firstLog, firstVector, talkLog}
-use Rattle.demands.specs.Demand3.{Right, Meets3, ours}
-use Rattle.demands.proofs.Standing.{key-ranged, slots-some, place, fresh, place-end, place-lost, place-heard, place-held, place-opened, place-joined, place-started}
-
-pub each-append : {A : Type 0} (P : A → Type 0) (xs ys : List A) → Each P xs → Each P ys → Each P (xs ++ ys)
-each-append P [] ys h k = k
-each-append P (x ∷ xs) ys h k = (h .0, each-append P xs ys (h .1) k)
+use Rattle.demands.specs.Notices.{Notice, join, counts, slotNotice, slotNotices, startNotices, sessionNotices, firstNotices}
+use Rattle.demands.specs.Log.{Report, Event, event, events, talkLog}
+use Rattle.demands.specs.Demand3.{RightSlot, Right, Meets3, ours}
+use Rattle.demands.proofs.AirLaws.{opened-word}
+use Rattle.demands.proofs.Standing.{key-ranged, slots-some, place, fresh, place-end, place-lost, place-heard, place-held, place-opened, place-joined, place-announced, place-untold}
 
 each-drop : {A : Type 0} (P : A → Type 0) (n : ℕ) (xs : List A) → Each P xs → Each P (drop n xs)
 each-drop P zero xs h = h
@@ -47,16 +46,20 @@ full-drop c (suc n) [] f = f
 full-drop c (suc n) (x ∷ xs) f = full-drop c n xs (full-tail c x xs f)
 
 -- handed out as it was spoken, in a session that counts as reached; held as it came, in another
-right-handed : (r : Report) → r .reached ≡ true → numberOf (r .answer) ≡ 0 → r .frame ≡ r .spoken → Right r
-right-handed r e a f = record { opened = λ z w l m. ap (word w) f; handed = λ z. a; held = λ n. absurd (true≢false (sym e ∙ n)) }
+right-handed : (r : Report) → r .reached ≡ true → numberOf (r .answer) ≡ 0 → ((w : ℕ) → w < 4 → has (r .mask) w ≡ true → word w (r .frame) ≡ word w (r .spoken))
+    → RightSlot r
+right-handed r e a f = record { opened = λ z. f; handed = λ z. a; held = λ n. absurd (true≢false (sym e ∙ n)) }
 
-right-held : (r : Report) → r .reached ≡ false → numberOf (r .answer) ≡ 1 → r .frame ≡ r .came → Right r
+right-held : (r : Report) → r .reached ≡ false → numberOf (r .answer) ≡ 1 → r .frame ≡ r .came → RightSlot r
 right-held r e a f =
     record { opened = λ z. absurd (let q : 1 ≡ 0 = sym a ∙ z in omega arith); handed = λ n. absurd (true≢false (sym n ∙ e)); held = λ z. (a, f) }
 
 module _ (b : List ℕ) (c i : ℕ) (key : List ℕ) (h : HasKey b c i key) (long : length key ≡ keyOctets c) where
   abbrev at : Bool → List ℕ → ℕ → Call
   at = place b c i key h
+
+  abbrev log : Call → List Notice → List Event
+  log = events ours b c i
 
   -- ---- the slots of a session
 
@@ -65,49 +68,50 @@ module _ (b : List ℕ) (c i : ℕ) (key : List ℕ) (h : HasKey b c i key) (lon
     known = counts c told
 
     module _ (p : ℕ) (l : p < sessionSlots c) (x : Slot) (s : SlotKept (stream c key v) p x) where
-      slot-next : (arrived : Bool) → next ours arrived (at known v p) x ≡ at known v (p + 1)
-      slot-next true = go known refl
-        where
-          go : (t : Bool) → known ≡ t → next ours true (at known v p) x ≡ at known v (p + 1)
-          go true e = ap (λ (o : Answer × (Call × List ℕ)). o .1 .0) (place-heard b c i key h long told v kept e p l x s)
-          go false e = ap (λ (o : Answer × (Call × List ℕ)). o .1 .0) (place-held b c i key h told v kept e p l (stream c key v) x s)
-      slot-next false = ap (λ (o : Answer × Call). o .1) (place-lost b c i key h told v kept p l)
+      abbrev answer : Bool → Event × Call
+      answer arrived = event ours b c i (slotNotice known arrived x) (at known v p)
 
-      slot-right : (arrived : Bool) → Each Right (reports ours known arrived (at known v p) x)
-      slot-right true = go known refl
+      abbrev Steps : Event × Call → Type 0
+      Steps out = Right (out .0) × (out .1 ≡ at known v (p + 1))
+
+      slot-steps : (arrived : Bool) → Steps (answer arrived)
+      slot-steps true = go known refl
         where
-          go : (t : Bool) → known ≡ t → Each Right (reports ours known true (at known v p) x)
+          go : (t : Bool) → known ≡ t → Steps (answer true)
           go true e =
               let o = place-heard b c i key h long told v kept e p l x s in
-              (right-handed _ e (ap (λ (r : Answer × (Call × List ℕ)). numberOf (r .0)) o) (ap (λ (r : Answer × (Call × List ℕ)). r .1 .1) o), tt)
+              rw o (right-handed _ e refl (opened-word (stream c key v) p x s), refl)
           go false e =
               let o = place-held b c i key h told v kept e p l (stream c key v) x s in
-              (right-held _ e (ap (λ (r : Answer × (Call × List ℕ)). numberOf (r .0)) o) (ap (λ (r : Answer × (Call × List ℕ)). r .1 .1) o), tt)
-      slot-right false = tt
+              rw o (right-held _ e refl refl, refl)
+      slot-steps false = rw (place-lost b c i key h told v kept p l) (refl, refl)
 
-    slots-end : (p : ℕ) (xs : List Slot) → p + length xs ≤ sessionSlots c → SlotsKept (stream c key v) p xs
-        → slotsEnd ours (at known v p) xs ≡ at known v (p + length xs)
-    slots-end p [] l s = ap (at known v) (sym (add-zero p))
-    slots-end p (x ∷ xs) l s =
-        rw (slot-next p (omega arith) x (s .0) (x .arrived), add-one) (slots-end (suc p) xs (omega arith) (s .1) ∙ ap (at known v) (omega arith))
-
+    -- the slots from slot p on, and then whatever is right after them
     slots-right : (p : ℕ) (xs : List Slot) → p + length xs ≤ sessionSlots c → SlotsKept (stream c key v) p xs
-        → Each Right (slotsLog ours known (at known v p) xs)
-    slots-right p [] l s = tt
-    slots-right p (x ∷ xs) l s =
-        each-append Right (reports ours known (x .arrived) (at known v p) x) (slotsLog ours known (next ours (x .arrived) (at known v p) x) xs)
-        (slot-right p (omega arith) x (s .0) (x .arrived))
-        (rw (slot-next p (omega arith) x (s .0) (x .arrived), add-one) (slots-right (suc p) xs (omega arith) (s .1)))
+        → (ns : List Notice) → Each Right (log (at known v (p + length xs)) ns) → Each Right (log (at known v p) (slotNotices known xs ++ ns))
+    slots-right p [] l s ns r = rw add-zero at r
+    slots-right p (x ∷ xs) l s ns r =
+        let o = slot-steps p (omega arith) x (s .0) (x .arrived) in
+        let e : p + suc (length xs) ≡ suc p + length xs = omega arith in
+        (o .0, rw (o .1, add-one) (slots-right (suc p) xs (omega arith) (s .1) ns (rw e at r)))
 
-    -- from slot p on, and then whatever is right from the start of a session on
+    -- the rest of a session, whole or the call's last, and those after it
     part-right : (p : ℕ) (xs : List Slot) → p + length xs ≤ sessionSlots c → SlotsKept (stream c key v) p xs
-        → (ys : List Session) → (p + length xs ≡ sessionSlots c → Each Right (sessionsLog ours c (fresh b c i key h) ys))
-        → ((ys ≡ []) ⊎ (p + length xs ≡ sessionSlots c))
-        → Each Right (slotsLog ours known (at known v p) xs ++ sessionsLog ours c (slotsEnd ours (at known v p) xs) ys)
-    part-right p xs l s ys r (inl e) = rw e (each-append Right (slotsLog ours known (at known v p) xs) [] (slots-right p xs l s) tt)
-    part-right p xs l s ys r (inr e) =
-        each-append Right (slotsLog ours known (at known v p) xs) (sessionsLog ours c (slotsEnd ours (at known v p) xs) ys) (slots-right p xs l s)
-        (rw (slots-end p xs l s ∙ place-end b c i key h known v (p + length xs) e) (r e))
+        → (ys : List Session) → ((ys ≡ []) ⊎ (p + length xs ≡ sessionSlots c)) → Each Right (log (fresh b c i key h) (sessionNotices c ys))
+        → Each Right (log (at known v p) (slotNotices known xs ++ sessionNotices c ys))
+    part-right p xs l s ys (inl e) r = rw e (slots-right p xs l s [] tt)
+    part-right p xs l s ys (inr e) r = slots-right p xs l s (sessionNotices c ys) (rw (place-end b c i key h known v (p + length xs) e) r)
+
+  -- told of the vector as the session starts, if the announcement arrived
+  start-right : (told : Bool) (v : List ℕ) → VectorKept c v → (ns : List Notice) → Each Right (log (at (counts c told) v 0) ns)
+      → Each Right (log (fresh b c i key h) (startNotices (not (scrambles c) && told) v ++ ns))
+  start-right told v kept ns r = go (scrambles c) refl told r
+    where
+      go : (t : Bool) → scrambles c ≡ t → (told : Bool) → Each Right (log (at (t || told) v 0) ns)
+          → Each Right (log (fresh b c i key h) (startNotices (not t && told) v ++ ns))
+      go true e told r = rw (place-untold b c i key h v true e) r
+      go false e true r = rw (place-announced b c i key h v kept e) (refl, r)
+      go false e false r = rw (place-untold b c i key h v false e) r
 
   -- ---- the sessions
 
@@ -120,38 +124,40 @@ module _ (b : List ℕ) (c i : ℕ) (key : List ℕ) (h : HasKey b c i key) (lon
   full-within x [] f = f
   full-within x (y ∷ ys) f = omega (arith, f .0)
 
-  sessions-right : (xs : List Session) → Each (SessionKept c key) xs → Full c (slotCounts xs) → Each Right (sessionsLog ours c (fresh b c i key h) xs)
-  sessions-right [] k f = tt
-  sessions-right (x ∷ ys) k f =
-      rw (place-started b c i key h (x .announced) (x .vector) (k .0 .vector))
-      (part-right (x .announced) (x .vector) (k .0 .vector) 0 (x .slots) (omega (arith, full-within x ys f)) (k .0 .slots) ys
-      (λ e. sessions-right ys (k .1) (full-tail c x ys f)) (last (full-or-last x ys f)))
-    where
-      last : (ys ≡ []) ⊎ (length (x .slots) ≡ sessionSlots c) → (ys ≡ []) ⊎ (0 + length (x .slots) ≡ sessionSlots c)
-      last (inl e) = inl e
-      last (inr e) = inr (omega arith)
-
-  -- the first session that is heard, from slot p on
-  first-right : (told : Bool) (p : ℕ) → p ≤ sessionSlots c → (xs : List Session) → Each (SessionKept c key) xs → Full c (slotCounts xs)
-      → Each Right (firstLog ours c told p (at (counts c told) (firstVector xs) p) xs)
-  first-right told p l [] k f = tt
-  first-right told p l (x ∷ ys) k f =
-      part-right told (x .vector) (k .0 .vector) p (drop p (x .slots)) (omega (arith, length-drop p (x .slots), full-within x ys f))
-      (rw zero-add at (slots-drop (stream c key (x .vector)) p 0 (x .slots) (k .0 .slots))) ys
-      (λ e. sessions-right ys (k .1) (full-tail c x ys f)) (last (full-or-last x ys f))
+  -- a session from slot p on, and then the sessions after it
+  session-right : (told : Bool) (p : ℕ) → p ≤ sessionSlots c → (x : Session) (ys : List Session) → SessionKept c key x → Full c (slotCounts (x ∷ ys))
+      → Each Right (log (fresh b c i key h) (sessionNotices c ys)) → Each Right (log (at (counts c told) (x .vector) p) (firstNotices c told p (x ∷ ys)))
+  session-right told p l x ys k f r =
+      part-right told (x .vector) (k .vector) p (drop p (x .slots)) (omega (arith, length-drop p (x .slots), full-within x ys f))
+      (rw zero-add at (slots-drop (stream c key (x .vector)) p 0 (x .slots) (k .slots))) ys (last (full-or-last x ys f)) r
     where
       last : (ys ≡ []) ⊎ (length (x .slots) ≡ sessionSlots c) → (ys ≡ []) ⊎ (p + length (drop p (x .slots)) ≡ sessionSlots c)
       last (inl e) = inl e
       last (inr e) = inr (omega (arith, length-drop p (x .slots)))
 
+  sessions-right : (xs : List Session) → Each (SessionKept c key) xs → Full c (slotCounts xs) → Each Right (log (fresh b c i key h) (sessionNotices c xs))
+  sessions-right [] k f = tt
+  sessions-right (x ∷ ys) k f =
+      start-right (x .announced) (x .vector) (k .0 .vector) (firstNotices c (x .announced) 0 (x ∷ ys))
+      (session-right (x .announced) 0 (omega arith) x ys (k .0) f (sessions-right ys (k .1) (full-tail c x ys f)))
+
+  -- the first session that is heard, from slot p on
+  first-right : (told : Bool) (p : ℕ) → p ≤ sessionSlots c → (x : Session) (ys : List Session) → Each (SessionKept c key) (x ∷ ys)
+      → Full c (slotCounts (x ∷ ys)) → Each Right (log (at (counts c told) (x .vector) p) (firstNotices c told p (x ∷ ys)))
+  first-right told p l x ys k f = session-right told p l x ys (k .0) f (sessions-right ys (k .1) (full-tail c x ys f))
+
+  joined-right : (xs : List Session) → Each (SessionKept c key) xs → Full c (slotCounts xs)
+      → Each Right (log noCall (join ∷ firstNotices c false superframeSlots xs))
+  joined-right [] k f = rw (place-joined b c i key h noVector) (refl, tt)
+  joined-right (x ∷ xs) k f =
+      rw (place-joined b c i key h (x .vector)) (refl, first-right false superframeSlots (slots-some c (key-ranged b c i key h)) x xs k f)
+
   talk-right : (e : WayIn) (xs : List Session) → Each (SessionKept c key) xs → Full c (slotCounts xs)
       → Each Right (talkLog ours b i (record { cipher = c; key = key; sessions = xs }) e)
   talk-right opening [] k f = tt
   talk-right opening (x ∷ xs) k f =
-      rw (place-opened b c i key h (x .vector) (k .0 .vector)) (first-right true 0 (omega arith) (x ∷ xs) k f)
-  talk-right (joining n) xs k f =
-      rw (place-joined b c i key h (firstVector (drop n xs)))
-      (first-right false superframeSlots (slots-some c (key-ranged b c i key h)) (drop n xs) (each-drop (SessionKept c key) n xs k) (full-drop c n xs f))
+      rw (place-opened b c i key h (x .vector) (k .0 .vector)) (refl, first-right true 0 (omega arith) x xs k f)
+  talk-right (joining n) xs k f = joined-right (drop n xs) (each-drop (SessionKept c key) n xs k) (full-drop c n xs f)
 
 pub ours-meets-3 : Meets3 ours
 ours-meets-3 t k b i h e = talk-right b (t .cipher) i (t .key) h (k .key) e (t .sessions) (k .each) (k .full)

@@ -12,7 +12,6 @@ use Rattle.ciphers.proofs.Cases.{by-range}
 use Rattle.octets.specs.Tests.{pick}
 use Rattle.octets.specs.Lists.{allZero}
 use Rattle.octets.proofs.TestLaws.{and-left, and-right}
-use Rattle.answers.specs.declared.Answer.{Answer}
 use Rattle.answers.specs.declared.Answer.the-variants.{Done, Held}
 use Rattle.ciphers.specs.Numbers.{keyOctets, sessionSlots}
 use Rattle.ciphers.specs.Keystream.{stream}
@@ -29,15 +28,13 @@ use Rattle.voice.specs.Call.{vectorRight, noCall, Standing, closed, receiving, 
 use Rattle.voice.specs.Opening.{superframeSlots, joinRefusals, openRefusals, openOf, joined, joinOf}
 use Rattle.voice.specs.Slot.{received, lostRefusals, lostOf, voiceOf}
 use Rattle.voice.specs.Vector.{announceRefusals, announceOf}
-use Rattle.voice.proofs.FrameLaws.{protect-same, protect-twice}
+use Rattle.voice.proofs.FrameLaws.{protect-same}
 use Rattle.session.proofs.SessionLaws.{no-vector-zero}
 use Rattle.session.proofs.ReadyLaws.{key-right}
 use Rattle.voice.proofs.GoodLaws.{closed-good, good-open, read-written, fresh-right}
 use Rattle.voice.proofs.SlotSteps.{voice-heard, voice-held}
 use Rattle.demands.specs.Talk.{Slot, SlotKept, VectorKept, HasKey}
-use Rattle.demands.specs.Log.{counts, started}
-use Rattle.demands.specs.Demand3.{ours}
-use Rattle.demands.proofs.AirLaws.{air-protected}
+use Rattle.demands.specs.Notices.{counts}
 
 -- ---- a book that has the key
 
@@ -144,19 +141,15 @@ module _ (b : List ℕ) (c i : ℕ) (key : List ℕ) (h : HasKey b c i key) wher
     same-stream v n = ap (λ (l : List ℕ). stream c l v n) (h .same) ∙ stream-rest c (key-ranged b c i key h) key v long n
 
     pub place-heard : (told : Bool) (v : List ℕ) → VectorKept c v → counts c told ≡ true → (p : ℕ) → p < sessionSlots c → (x : Slot) → SlotKept (stream c key v) p x
-        → voiceOf (place (counts c told) v p) (x .mask) (x .sent) ≡ (Done, (place (counts c told) v (p + 1), x .spoken))
+        → voiceOf (place (counts c told) v p) (x .mask) (x .sent)
+        ≡ (Done, (place (counts c told) v (p + 1), protect (ofSlot (stream c key v) p) (x .mask) (x .sent)))
     place-heard told v kept e p l x s =
         voice-heard (place (counts c told) v p) (x .mask) (x .sent) (s .mask) (s .sent .long) c k p (sessionVector c v)
         (place-read told v kept p l ∙ ap (λ (t : Bool). receiving c k p t (pick t (sessionVector c v) noVector)) e)
-        ∙ ap (λ (f : List ℕ). (Done, (place true v (p + 1), f))) opened
-        ∙ ap (λ (t : Bool). (Done, (place t v (p + 1), x .spoken))) (sym e)
-      where
-        opened : protect (ofSlot (stream c k (sessionVector c v)) p) (x .mask) (x .sent) ≡ x .spoken
-        opened =
-            protect-same (ofSlot (stream c k (sessionVector c v)) p) (ofSlot (stream c key v) p) (x .mask)
-            (λ n r. session-stream k v (196 * p + n) c (key-ranged b c i key h) ∙ same-stream v (196 * p + n)) (x .sent)
-            ∙ ap (protect (ofSlot (stream c key v) p) (x .mask)) (air-protected (stream c key v) p x s)
-            ∙ protect-twice (ofSlot (stream c key v) p) (x .mask) (x .spoken) (s .spoken)
+        ∙ ap (λ (f : List ℕ). (Done, (place true v (p + 1), f)))
+        (protect-same (ofSlot (stream c k (sessionVector c v)) p) (ofSlot (stream c key v) p) (x .mask)
+        (λ n r. session-stream k v (196 * p + n) c (key-ranged b c i key h) ∙ same-stream v (196 * p + n)) (x .sent))
+        ∙ ap (λ (t : Bool). (Done, (place t v (p + 1), protect (ofSlot (stream c key v) p) (x .mask) (x .sent)))) (sym e)
 
   pub place-held : (told : Bool) (v : List ℕ) → VectorKept c v → counts c told ≡ false → (p : ℕ) → p < sessionSlots c → (ks : ℕ → ℕ) (x : Slot) → SlotKept ks p x
       → voiceOf (place (counts c told) v p) (x .mask) (x .sent) ≡ (Held, (place (counts c told) v (p + 1), x .sent))
@@ -192,16 +185,15 @@ module _ (b : List ℕ) (c i : ℕ) (key : List ℕ) (h : HasKey b c i key) wher
   unfolding announceOf announceRefusals
   announced v kept e = rw (fresh-read, eq-eqb _ _ (kept .long), kept .some e, e)
 
-  -- as a session starts: told of its vector, if the announcement arrived
-  pub place-started : (told : Bool) (v : List ℕ) → VectorKept c v → started ours (not (scrambles c) && told) v fresh ≡ place (counts c told) v 0
-  place-started told v kept = go (scrambles c) refl told
-    where
-      go : (t : Bool) → scrambles c ≡ t → (told : Bool) → started ours (not t && told) v fresh ≡ place (t || told) v 0
-      go true e told =
-          ap (λ (t : Bool). written (receiving c k 0 t noVector)) e
-          ∙ ap (λ (t : Bool). written (receiving c k 0 true (pick t noVector v))) (sym e)
-          ∙ sym (place-in true v 0 some)
-      go false e true =
-          ap (λ (o : Answer × Call). o .1) (announced v kept e) ∙ ap (λ (t : Bool). written (receiving c k 0 true (pick t noVector v))) (sym e)
-          ∙ sym (place-in true v 0 some)
-      go false e false = ap (λ (t : Bool). written (receiving c k 0 t noVector)) e ∙ sym (place-in false v 0 some)
+  -- as a session starts: told of its vector
+  pub place-announced : (v : List ℕ) → VectorKept c v → scrambles c ≡ false → announceOf fresh v ≡ (Done, place true v 0)
+  place-announced v kept e =
+      announced v kept e ∙ ap (λ (t : Bool). (Done, written (receiving c k 0 true (pick t noVector v)))) (sym e)
+      ∙ ap (λ (d : Call). (Done, d)) (sym (place-in true v 0 some))
+
+  -- or not; scramble needs none
+  pub place-untold : (v : List ℕ) (t : Bool) → scrambles c ≡ t → fresh ≡ place t v 0
+  place-untold v true e =
+      ap (λ (t : Bool). written (receiving c k 0 t noVector)) e
+      ∙ ap (λ (t : Bool). written (receiving c k 0 true (pick t noVector v))) (sym e) ∙ sym (place-in true v 0 some)
+  place-untold v false e = ap (λ (t : Bool). written (receiving c k 0 t noVector)) e ∙ sym (place-in false v 0 some)

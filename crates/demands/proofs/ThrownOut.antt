@@ -25,7 +25,8 @@ use Rattle.voice.proofs.SlotSteps.{voice-heard}
 use Rattle.session.specs.Samples.{seed}
 use Rattle.demands.specs.Marked.{key0001, bookOfTwo}
 use Rattle.demands.specs.Talk.{Session, Talk, opening, joining, SlotKept, VectorKept, SessionKept, Full, slotCounts, Kept}
-use Rattle.demands.specs.Log.{Receiver, counts, sessionsLog, talkLog}
+use Rattle.demands.specs.Notices.{counts, sessionNotices}
+use Rattle.demands.specs.Log.{Receiver, events, talkLog}
 use Rattle.demands.specs.Demand3.{Right, Meets3}
 use Rattle.demands.specs.Others.{upTo, upToSlots, upToSession, fourOn, atOnce, Sending, turning, identity, restarting, saving}
 use Rattle.demands.proofs.Standing.{place, place-read, place-lost, place-opened}
@@ -62,15 +63,15 @@ module _ (R : Receiver) where
   -- it opens no slot: it refuses all, or holds all
   pub never-opens-fails : ((mask : ℕ) (frame : List ℕ) (s : R .State) → 1 ≤ numberOf (R .voice mask frame s .0)) → Meets3 R → ⊥
   never-opens-fails h m =
-      let z : numberOf (R .voice 1 (turning ks 0 1 silence) begun .0) ≡ 0 = one-slot R m silence silent-kept .0 .handed refl in
+      let z : numberOf (R .voice 1 (turning ks 0 1 silence) begun .0) ≡ 0 = one-slot R m silence silent-kept .1 .0 .handed refl in
       let l = h 1 (turning ks 0 1 silence) begun in
       omega arith
 
   -- it leaves one frame, whatever came
   pub fixed-fails : (g : List ℕ) → ((mask : ℕ) (frame : List ℕ) (s : R .State) → R .voice mask frame s .1 .1 ≡ g) → Meets3 R → ⊥
   fixed-fails g h m =
-      let r = one-slot R m silence silent-kept .0 in
-      let q = one-slot R m click (saying-kept click click-frame ks 0 true) .0 in
+      let r = one-slot R m silence silent-kept .1 .0 in
+      let q = one-slot R m click (saying-kept click click-frame ks 0 true) .1 .0 in
       let a : word 0 g ≡ word 0 silence = ap (word 0) (sym (h 1 (turning ks 0 1 silence) begun)) ∙ r .opened (r .handed refl) 0 (omega arith) refl in
       let b : word 0 g ≡ word 0 click = ap (word 0) (sym (h 1 (turning ks 0 1 click) begun)) ∙ q .opened (q .handed refl) 0 (omega arith) refl in
       let z : _≡_ {A = ℕ} 0 1 = ap (λ (xs : List ℕ). getD xs 0 0) (sym a ∙ b) in
@@ -79,7 +80,7 @@ module _ (R : Receiver) where
   -- it leaves speech as it came
   pub leaves-fails : ((mask : ℕ) (frame : List ℕ) (s : R .State) → R .voice mask frame s .1 .1 ≡ frame) → Meets3 R → ⊥
   leaves-fails h m =
-      let r = one-slot R m silence silent-kept .0 in
+      let r = one-slot R m silence silent-kept .1 .0 in
       not-silent (ap (word 0) (sym (h 1 (turning ks 0 1 silence) begun)) ∙ r .opened (r .handed refl) 0 (omega arith) refl)
 
 -- ---- any other for its first slots: sessions of which every slot is lost, as many as may be, and one more slot
@@ -108,18 +109,19 @@ longTalk m = record { cipher = 1; key = key0001; sessions = quietFor m }
 
 module _ (first : ℕ → ℕ) (a : Answer) (R : Receiver) where
   -- past its slots it leaves the frame as it came
-  late : (m : ℕ) (s : ℕ × ℕ × R .State) → s .1 ≤ s .0 + 4 * m → Each Right (sessionsLog (upTo first a R) 1 s (quietFor m)) → ⊥
+  late : (m : ℕ) (s : ℕ × ℕ × R .State) → s .1 ≤ s .0 + 4 * m
+      → Each Right (events (upTo first a R) bookOfTwo 1 0 s (sessionNotices 1 (quietFor m))) → ⊥
   late zero s l h =
       let e = le-ltb (s .0) (s .1) (omega arith) in
       let h′ = rw e at (h .0) in
       not-silent (h′ .opened (h′ .handed refl) 0 (omega arith) refl)
-  late (suc m) s l h = late m (suc (suc (suc (suc (s .0)))), s .1, R .lost (R .lost (R .lost (R .lost (s .2) .1) .1) .1) .1) (omega arith) h
+  late (suc m) s l h = late m (suc (suc (suc (suc (s .0)))), s .1, R .lost (R .lost (R .lost (R .lost (s .2) .1) .1) .1) .1) (omega arith) (h .1 .1 .1 .1)
 
   -- whatever the number of slots, whatever it answers then, and whatever the receiver before
   pub upTo-fails : Meets3 (upTo first a R) → ⊥
   upTo-fails m =
       late (first 1) (4, first 1, R .lost (R .lost (R .lost (R .lost (R .hear 1 0 noVector bookOfTwo (R .idle) .1) .1) .1) .1) .1) (omega arith)
-      (m (longTalk (suc (first 1))) (record { key = refl; each = quietFor-each (suc (first 1)); full = quietFor-full (suc (first 1)) }) bookOfTwo 0 has-scramble opening)
+      (m (longTalk (suc (first 1))) (record { key = refl; each = quietFor-each (suc (first 1)); full = quietFor-full (suc (first 1)) }) bookOfTwo 0 has-scramble opening .1 .1 .1 .1 .1)
 
 pub upToSlots-fails : (n : ℕ) (a : Answer) (R : Receiver) → Meets3 (upToSlots n a R) → ⊥
 upToSlots-fails n = upTo-fails (λ c. n)
@@ -168,7 +170,7 @@ module _ (w : List ℕ) (k : VectorKept 2 w) where
       let came = turning (stream 2 keyABCD seed) 4 1 silence in
       let z : _≡_ {A = ℕ} 0 1 =
       sym (ap numberOf (ap (λ (s : Call). voiceOf s 1 came .0) four-on ∙ opens came (protect-frame (ofSlot (stream 2 keyABCD seed) 4) 1 silence .long)))
-      ∙ m (announcing w) kept bookOfTwo 0 has-des (joining 0) .0 .held refl .0 in
+      ∙ m (announcing w) kept bookOfTwo 0 has-des (joining 0) .1 .0 .held refl .0 in
       omega arith
 
 -- ---- senders: two slots of silence

@@ -12,15 +12,20 @@ use Rattle.voice.specs.Slot.{lostOf, voiceOf}
 use Rattle.voice.specs.Vector.{announceOf}
 use Rattle.octets.specs.Lists.{Each}
 use Rattle.demands.specs.Talk.{Talk, WayIn, Kept, HasKey}
-use Rattle.demands.specs.Log.{Receiver, Report, talkLog}
+use Rattle.demands.specs.Log.{Receiver, Report, Event, answered, arrived, talkLog}
 
-pub record Right (r : Report) : Type 0 where
+pub record RightSlot (r : Report) : Type 0 where
   -- every word handed out as opened is the word the sender spoke, whole
   pub opened : numberOf (r .answer) ≡ 0 → (w : ℕ) → w < 4 → has (r .mask) w ≡ true → word w (r .frame) ≡ word w (r .spoken)
   -- each word that arrives in a session whose vector reached the receiver is handed out
   pub handed : r .reached ≡ true → numberOf (r .answer) ≡ 0
   -- each word that arrives in another session is held as it came
   pub held : r .reached ≡ false → (numberOf (r .answer) ≡ 1) × (r .frame ≡ r .came)
+
+-- the opening or joining, a lost slot and a timely announcement are done
+abbrev pub Right : Event → Type 0
+Right (answered a) = numberOf a ≡ 0
+Right (arrived r) = RightSlot r
 
 -- one call of a sender that keeps the rules, a receiver with the same key, and either way in
 abbrev pub Meets3 : Receiver → Type 0

@@ -41,14 +41,13 @@ pub data WayIn : Type 0 where
 
 -- ---- the sender keeps the rules
 
--- what goes on the air in slot p of a session with keystream ks
+-- what goes on the air in slot p of a session with keystream ks. Nothing is asked of a word that the mask doesn't have: it gave way to signalling
 pub record OnAir (ks : ℕ → ℕ) (p : ℕ) (x : Slot) : Type 0 where
-  -- bit j of word w, where it is speech and the mask has the word: the spoken bit xor stream bit 196 p + 49 w + j
+  -- bit j of word w, where it is speech: the spoken bit xor stream bit 196 p + 49 w + j
   pub speech : (w j : ℕ) → w < 4 → j < 49 → has (x .mask) w ≡ true
       → bit (x .sent) (56 * w + j) ≡ flip (bit (x .spoken) (56 * w + j)) (ks (196 * p + 49 * w + j))
-  -- everything else as spoken: the last seven bits of each word, and the words that the mask doesn't have
-  pub spare : (w j : ℕ) → w < 4 → 49 ≤ j → j < 56 → bit (x .sent) (56 * w + j) ≡ bit (x .spoken) (56 * w + j)
-  pub other : (w j : ℕ) → w < 4 → j < 56 → has (x .mask) w ≡ false → bit (x .sent) (56 * w + j) ≡ bit (x .spoken) (56 * w + j)
+  -- the last seven bits of the word, as spoken
+  pub spare : (w j : ℕ) → w < 4 → 49 ≤ j → j < 56 → has (x .mask) w ≡ true → bit (x .sent) (56 * w + j) ≡ bit (x .spoken) (56 * w + j)
 
 pub record SlotKept (ks : ℕ → ℕ) (p : ℕ) (x : Slot) : Type 0 where
   pub mask : x .mask ≤ 15
