@@ -8,7 +8,9 @@ pub mod ReceiverMeets
 pub mod Settled
 pub mod Samples
 pub mod ThrownOut
+pub mod Refusing
 pub mod SenderKeeps
+pub mod SenderLeaves
 pub mod Instance
 pub mod Meets2
 pub mod DeviceLaws

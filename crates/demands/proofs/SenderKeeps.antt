@@ -1,4 +1,4 @@
--- Our sender keeps the rules: the call that it makes is one of those that demand 3 is about. Assumes nothing.
+-- Our sender keeps the rules: the call that it makes is one of those that demand 3 is about. And its sessions' vectors follow one another. Assumes nothing.
 use mathlib.Core.Path.{_≡_, refl, sym, ap, ap₂, _∙_}
 use mathlib.Core.Bool.{Bool, true, false, _&&_, not}
 use mathlib.Core.List.{List, [], _∷_, map}
@@ -6,7 +6,7 @@ use Prim.Native.Nat.{ℕ, suc, _+_, _*_, _≤_, _<_}
 use native.Mathlib.Nat.{add-zero}
 use native.Mathlib.Numerals.{add-one}
 use native.Mathlib.Omega.{arith}
-use lib.ListN.{length}
+use lib.ListN.{length, getD}
 use borrow.Author.Tests.{eq-eqb, le-ltb, lt-ltb}
 use Rattle.demands.proofs.Zeros.{zeros-octets, next-not-zero}
 use Rattle.octets.specs.Tests.{pick}
@@ -15,6 +15,7 @@ use Rattle.octets.specs.Lists.{allZero, Each}
 use Rattle.octets.proofs.TestLaws.{and-false-r}
 use Rattle.generator.specs.Generator.{nextVector}
 use Rattle.generator.proofs.VectorLaws.{length-nextVector, octets-nextVector}
+use Rattle.generator.proofs.Examples.{example-second}
 use Rattle.ciphers.specs.Numbers.{keyOctets, sessionSlots}
 use Rattle.ciphers.specs.Keystream.{stream}
 use Rattle.answers.specs.declared.Answer.{Answer}
@@ -32,13 +33,15 @@ use Rattle.voice.proofs.FrameLaws.{protect-same, protect-frame}
 use Rattle.session.proofs.SessionLaws.{no-vector-zero}
 use Rattle.voice.proofs.GoodLaws.{good-open, read-written}
 use Rattle.voice.proofs.SlotSteps.{voice-sent}
-use Rattle.demands.specs.Talk.{Slot, SlotKept, SlotsKept, VectorKept, SessionKept, Full, slotCounts, Kept, HasKey, WayIn}
+use Rattle.session.specs.Samples.{seed}
+use Rattle.demands.specs.Talk.{Slot, Session, SlotKept, SlotsKept, VectorKept, SessionKept, Full, slotCounts, Kept, HasKey, WayIn}
 use Rattle.demands.specs.Log.{talkLog}
 use Rattle.demands.specs.Demand3.{Right, ours}
-use Rattle.demands.specs.OurSender.{Said, Saying, slotsMade, afterwards, sessionsMade, talkMade, SaidKept, AllSaid}
+use Rattle.demands.specs.OurSender.{Said, Saying, slotsMade, afterwards, sessionsMade, talkMade, SaidKept, AllSaid, Follows}
 use Rattle.demands.proofs.AirLaws.{protected-air}
 use Rattle.demands.proofs.Standing.{key-named, key-ranged, has-key-right, slots-some, closed-read, not-zero-for, same-stream}
 use Rattle.demands.proofs.ReceiverMeets.{ours-meets-3}
+use Rattle.demands.proofs.Samples.{seed-kept, seed-octets}
 
 -- a sender's vector: the generator makes no zeros of one that isn't
 pub record Sound (c : ℕ) (v : List ℕ) : Type 0 where
@@ -82,6 +85,15 @@ not-zero-after c p v k = go (scrambles c) refl
     go false e =
         let z : allZero (nextVector v) ≡ false = rw e at (k .zeros) in
         rw (e, z, and-false-r)
+
+-- the vector that is gone on with is the next one's
+going-next : (c : ℕ) (v : List ℕ) → goingOn c (sessionVector c v) ≡ sessionVector c (nextVector v)
+unfolding goingOn
+going-next c v = go (scrambles c)
+  where
+    go : (t : Bool) → pick t noVector (nextVector (pick t noVector v)) ≡ pick t noVector (nextVector v)
+    go true = refl
+    go false = refl
 
 module _ (b : List ℕ) (c i : ℕ) (key : List ℕ) (h : HasKey b c i key) (long : length key ≡ keyOctets c) where
   abbrev k : List ℕ
@@ -182,6 +194,14 @@ module _ (b : List ℕ) (c i : ℕ) (key : List ℕ) (h : HasKey b c i key) (lon
         rw e (sessions-made (goingOn c v) (going-sound c v a) (y ∷ ys) (s .1) (f .1)),
       )
 
+  sessions-follow : (v : List ℕ) → Sound c (sessionVector c v) → (xs : List Saying) → Each (λ x. Each SaidKept (x .slots)) xs
+      → Full c (map (λ x. length (x .slots)) xs) → Follows c v (sessionsMade (from (sessionVector c v)) xs)
+  sessions-follow v a [] s f = tt
+  sessions-follow v a (x ∷ []) s f = (refl, tt)
+  sessions-follow v a (x ∷ y ∷ ys) s f =
+      let a′ : Sound c (sessionVector c (nextVector v)) = rw (going-next c v) at (going-sound c (sessionVector c v) a) in
+      (refl, rw (session-after (sessionVector c v) a x (f .0) (s .0) ∙ ap from (going-next c v)) (sessions-follow (nextVector v) a′ (y ∷ ys) (s .1) (f .1)))
+
   -- what next vector writes at any slot of a session is the vector of the next one
   pub next-announced : (v : List ℕ) → Sound c v → scrambles c ≡ false → (p : ℕ) → p < sessionSlots c → (lent : List ℕ) → length lent ≡ 8
       → (x : Saying) → length (x .slots) ≡ sessionSlots c → Each SaidKept (x .slots)
@@ -208,6 +228,27 @@ module _ (b : List ℕ) (c i : ℕ) (key : List ℕ) (h : HasKey b c i key) (lon
         each = rw e (sessions-made (sessionVector c v) (starts-sound c v s o) said (a .each) (a .full));
         full = rw (counts-made (startOf noCall c i v b .1) said) (a .full);
       }
+
+  pub ours-follows : (v : List ℕ) → VectorKept c v → Octets v → (said : List Saying) → AllSaid c said → Follows c v (talkMade c key i v b said .sessions)
+  ours-follows v s o said a =
+      let e = ap (λ (r : Answer × Call). r .1) (started-at v s) in
+      rw e (sessions-follow v (starts-sound c v s o) said (a .each) (a .full))
+
+  -- with DES or AES, the first two sessions have one vector only where L(v) is v
+  pub one-vector : (v : List ℕ) → VectorKept c v → Octets v → scrambles c ≡ false → (said : List Saying) → AllSaid c said
+      → (x y : Session) (zs : List Session) → talkMade c key i v b said .sessions ≡ x ∷ y ∷ zs → x .vector ≡ y .vector → nextVector v ≡ v
+  one-vector v s o e said a x y zs made same =
+      let f : Follows c v (x ∷ y ∷ zs) = rw made at (ours-follows v s o said a) in
+      let at : (u : List ℕ) → sessionVector c u ≡ u = λ u. ap (λ (t : Bool). pick t noVector u) e in
+      sym (at (nextVector v)) ∙ sym (f .1 .0) ∙ sym same ∙ f .0 ∙ at v
+
+  -- so a sender that uses one vector for every session is not ours: it is not so of the seed of example 4
+  pub one-vector-not-ours : scrambles c ≡ false → (said : List Saying) → AllSaid c said
+      → (x y : Session) (zs : List Session) → talkMade c key i seed b said .sessions ≡ x ∷ y ∷ zs → x .vector ≡ y .vector → ⊥
+  one-vector-not-ours e said a x y zs made same =
+      let kept : VectorKept c seed = record { long = refl; some = λ z. seed-kept .some refl } in
+      let z : _≡_ {A = ℕ} 0x8B 0xAB = ap (λ (u : List ℕ). getD u 0 0) (sym example-second ∙ one-vector seed kept seed-octets e said a x y zs made same) in
+      omega arith
 
   -- our sender to our receiver, whose book has the key under an ID of its own
   pub ours-to-ours : (v : List ℕ) → VectorKept c v → Octets v → (said : List Saying) → AllSaid c said

@@ -1,11 +1,14 @@
 -- The call that our sender makes of what is said (document 01, "Voice", the sender): what its operations write goes on the air, and each session's vector is the one it stands with.
+use mathlib.Core.Path.{_≡_}
 use mathlib.Core.List.{List, [], _∷_, map}
-use mathlib.Core.Bool.{Bool}
-use Prim.Native.Nat.{ℕ, _≤_}
+use mathlib.Core.Bool.{Bool, false}
+use Prim.Native.Nat.{ℕ, _≤_, _<_}
 use lib.ListN.{length}
 use Rattle.octets.specs.Lists.{Each}
+use Rattle.generator.specs.Generator.{nextVector}
+use Rattle.session.specs.Session.{sessionVector}
 use Rattle.voice.specs.declared.call.Call.{Call}
-use Rattle.voice.specs.Frame.{IsFrame}
+use Rattle.voice.specs.Frame.{IsFrame, word, has}
 use Rattle.voice.specs.Call.{noCall}
 use Rattle.voice.specs.Opening.{startOf}
 use Rattle.voice.specs.Slot.{voiceOf}
@@ -52,3 +55,14 @@ pub record SaidKept (x : Said) : Type 0 where
 pub record AllSaid (c : ℕ) (said : List Saying) : Type 0 where
   pub each : Each (λ x. Each SaidKept (x .slots)) said
   pub full : Full c (map (λ x. length (x .slots)) said)
+
+-- ---- what our sender does besides keeping the rules
+
+-- the vectors of the sessions are v, L(v), L(L(v)), ..; scramble's are zeros
+abbrev pub Follows : ℕ → List ℕ → List Session → Type 0
+Follows c v [] = Unit {0}
+Follows c v (x ∷ xs) = (x .vector ≡ sessionVector c v) × Follows c (nextVector v) xs
+
+-- a word that the mask doesn't have goes out as it was spoken
+abbrev pub OthersAsSpoken : Slot → Type 0
+OthersAsSpoken x = (w : ℕ) → w < 4 → has (x .mask) w ≡ false → word w (x .sent) ≡ word w (x .spoken)

@@ -13,7 +13,7 @@ use lib.Seq.{getD-take, getD-drop}
 use Rattle.octets.specs.Tests.{pick}
 use Rattle.octets.specs.Bits.{bit, flip, Octets}
 use Rattle.octets.proofs.TestLaws.{and-false-r, and-left}
-use Rattle.octets.proofs.BitLaws.{flip-flip, flip-lt, flip-zero, bit-lt, bit-octetsFrom, length-octetsFrom, octets-octetsFrom, octets-ext}
+use Rattle.octets.proofs.BitLaws.{flip-lt, flip-zero, bit-lt, bit-octetsFrom, length-octetsFrom, octets-octetsFrom, octets-ext}
 use Rattle.voice.specs.Frame.{wordOctets, wordBits, speechBits, frameOctets, slotBits, IsFrame, word, has, keyBit, protect}
 
 module _ (slot : ℕ → ℕ) (mask : ℕ) where
@@ -32,15 +32,6 @@ module _ (slot : ℕ → ℕ) (mask : ℕ) where
   -- a frame is what its bits say
   pub frame-ext : (f g : List ℕ) → IsFrame f → IsFrame g → ((k : ℕ) → k < 8 * frameOctets → bit f k ≡ bit g k) → f ≡ g
   frame-ext f g a b e = octets-ext f g (a .octets) (b .octets) (a .long ∙ sym (b .long)) (λ k l. e k (omega (arith, a .long)))
-
-  -- protecting is its own inverse
-  pub protect-twice : (frame : List ℕ) → IsFrame frame → protect slot mask (protect slot mask frame) ≡ frame
-  protect-twice frame h =
-      frame-ext (protect slot mask (protect slot mask frame)) frame (protect-frame (protect slot mask frame)) h
-      (λ k l.
-      protect-bit (protect slot mask frame) k l
-      ∙ ap (λ (b : ℕ). flip b (keyBit slot mask k)) (protect-bit frame k l)
-      ∙ flip-flip (bit frame k) (keyBit slot mask k) (bit-lt frame k))
 
   -- spare bits are turned by nothing, nor are words outside the mask
   pub keyBit-spare : (k : ℕ) → speechBits ≤ k % wordBits → keyBit slot mask k ≡ 0
