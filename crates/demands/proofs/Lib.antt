@@ -1,4 +1,5 @@
 pub mod Zeros
+pub mod OwnNext
 pub mod MarkedVoice
 pub mod MarkedData
 pub mod MarkedHold

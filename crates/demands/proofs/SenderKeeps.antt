@@ -1,21 +1,21 @@
 -- Our sender keeps the rules: the call that it makes is one of those that demand 3 is about. And its sessions' vectors follow one another. Assumes nothing.
 use mathlib.Core.Path.{_≡_, refl, sym, ap, ap₂, _∙_}
-use mathlib.Core.Bool.{Bool, true, false, _&&_, not}
+use mathlib.Core.Bool.{Bool, true, false, _&&_, not, true≢false}
 use mathlib.Core.List.{List, [], _∷_, map}
 use Prim.Native.Nat.{ℕ, suc, _+_, _*_, _≤_, _<_}
 use native.Mathlib.Nat.{add-zero}
 use native.Mathlib.Numerals.{add-one}
 use native.Mathlib.Omega.{arith}
-use lib.ListN.{length, getD}
+use lib.ListN.{length}
 use borrow.Author.Tests.{eq-eqb, le-ltb, lt-ltb}
 use Rattle.demands.proofs.Zeros.{zeros-octets, next-not-zero}
+use Rattle.demands.proofs.OwnNext.{own-next-zero}
 use Rattle.octets.specs.Tests.{pick}
 use Rattle.octets.specs.Bits.{Octets}
 use Rattle.octets.specs.Lists.{allZero, Each}
 use Rattle.octets.proofs.TestLaws.{and-false-r}
 use Rattle.generator.specs.Generator.{nextVector}
 use Rattle.generator.proofs.VectorLaws.{length-nextVector, octets-nextVector}
-use Rattle.generator.proofs.Examples.{example-second}
 use Rattle.ciphers.specs.Numbers.{keyOctets, sessionSlots}
 use Rattle.ciphers.specs.Keystream.{stream}
 use Rattle.answers.specs.declared.Answer.{Answer}
@@ -33,7 +33,6 @@ use Rattle.voice.proofs.FrameLaws.{protect-same, protect-frame}
 use Rattle.session.proofs.SessionLaws.{no-vector-zero}
 use Rattle.voice.proofs.GoodLaws.{good-open, read-written}
 use Rattle.voice.proofs.SlotSteps.{voice-sent}
-use Rattle.session.specs.Samples.{seed}
 use Rattle.demands.specs.Talk.{Slot, Session, SlotKept, SlotsKept, VectorKept, SessionKept, Full, slotCounts, Kept, HasKey, WayIn}
 use Rattle.demands.specs.Log.{talkLog}
 use Rattle.demands.specs.Demand3.{Right, ours}
@@ -41,7 +40,6 @@ use Rattle.demands.specs.OurSender.{Said, Saying, slotsMade, afterwards,
 use Rattle.demands.proofs.AirLaws.{protected-air}
 use Rattle.demands.proofs.Standing.{key-named, key-ranged, has-key-right, slots-some, closed-read, not-zero-for, same-stream}
 use Rattle.demands.proofs.ReceiverMeets.{ours-meets-3}
-use Rattle.demands.proofs.Samples.{seed-kept, seed-octets}
 
 -- a sender's vector: the generator makes no zeros of one that isn't
 pub record Sound (c : ℕ) (v : List ℕ) : Type 0 where
@@ -234,21 +232,14 @@ module _ (b : List ℕ) (c i : ℕ) (key : List ℕ) (h : HasKey b c i key) (lon
       let e = ap (λ (r : Answer × Call). r .1) (started-at v s) in
       rw e (sessions-follow v (starts-sound c v s o) said (a .each) (a .full))
 
-  -- with DES or AES, the first two sessions have one vector only where L(v) is v
-  pub one-vector : (v : List ℕ) → VectorKept c v → Octets v → scrambles c ≡ false → (said : List Saying) → AllSaid c said
-      → (x y : Session) (zs : List Session) → talkMade c key i v b said .sessions ≡ x ∷ y ∷ zs → x .vector ≡ y .vector → nextVector v ≡ v
-  one-vector v s o e said a x y zs made same =
+  -- with DES or AES no vector is its own next, so a sender that uses one vector for every session is not ours
+  pub one-vector-not-ours : (v : List ℕ) → VectorKept c v → Octets v → scrambles c ≡ false → (said : List Saying) → AllSaid c said
+      → (x y : Session) (zs : List Session) → talkMade c key i v b said .sessions ≡ x ∷ y ∷ zs → x .vector ≡ y .vector → ⊥
+  one-vector-not-ours v s o e said a x y zs made same =
       let f : Follows c v (x ∷ y ∷ zs) = rw made at (ours-follows v s o said a) in
       let at : (u : List ℕ) → sessionVector c u ≡ u = λ u. ap (λ (t : Bool). pick t noVector u) e in
-      sym (at (nextVector v)) ∙ sym (f .1 .0) ∙ sym same ∙ f .0 ∙ at v
-
-  -- so a sender that uses one vector for every session is not ours: it is not so of the seed of example 4
-  pub one-vector-not-ours : scrambles c ≡ false → (said : List Saying) → AllSaid c said
-      → (x y : Session) (zs : List Session) → talkMade c key i seed b said .sessions ≡ x ∷ y ∷ zs → x .vector ≡ y .vector → ⊥
-  one-vector-not-ours e said a x y zs made same =
-      let kept : VectorKept c seed = record { long = refl; some = λ z. seed-kept .some refl } in
-      let z : _≡_ {A = ℕ} 0x8B 0xAB = ap (λ (u : List ℕ). getD u 0 0) (sym example-second ∙ one-vector seed kept seed-octets e said a x y zs made same) in
-      omega arith
+      let zeros = own-next-zero v (s .long) o (sym (at (nextVector v)) ∙ sym (f .1 .0) ∙ sym same ∙ f .0 ∙ at v) in
+      true≢false (sym no-vector-zero ∙ sym (ap allZero zeros) ∙ s .some e)
 
   -- our sender to our receiver, whose book has the key under an ID of its own
   pub ours-to-ours : (v : List ℕ) → VectorKept c v → Octets v → (said : List Saying) → AllSaid c said

@@ -43,7 +43,7 @@ zeros-bit n k = rw (zeros-at n (k / 8), zero-div (2 ^ (7 - k % 8)))
 
 -- ---- the shift loses nothing, so no vector but zeros is followed by zeros
 
-abbrev NoStage : (ℕ → ℕ) → Type 0
+abbrev pub NoStage : (ℕ → ℕ) → Type 0
 NoStage b = (i : ℕ) → i < 64 → b i ≡ 0
 
 shift-back : (b : ℕ → ℕ) → Bits b → NoStage (shifted b) → NoStage b
@@ -72,7 +72,7 @@ announced-zero b h z i l =
     ∙ ap (λ (xs : List ℕ). bit xs (63 - i)) (zeros-are (octetsFrom 8 (λ k. b (63 - k))) 8 (length-octetsFrom 8 (λ k. b (63 - k))) z)
     ∙ zeros-bit 8 (63 - i))
 
-loaded-zero : (s : List ℕ) → length s ≡ 8 → Octets s → NoStage (loaded s) → s ≡ replicate 8 0
+pub loaded-zero : (s : List ℕ) → length s ≡ 8 → Octets s → NoStage (loaded s) → s ≡ replicate 8 0
 unfolding loaded
 loaded-zero s l o z =
     octets-ext s (replicate 8 0) o (zeros-octets 8) l
