@@ -6,6 +6,7 @@ pub mod MarkedHold
 pub mod AirLaws
 pub mod Standing
 pub mod ReceiverMeets
+pub mod LogComplete
 pub mod Settled
 pub mod Samples
 pub mod ThrownOut

@@ -2,6 +2,7 @@ pub mod Marked
 pub mod Talk
 pub mod Notices
 pub mod Log
+pub mod Arrivals
 pub mod Demand3
 pub mod Others
 pub mod OurSender
