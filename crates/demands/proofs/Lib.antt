@@ -23,3 +23,5 @@ pub mod Meets1
 pub mod ThrownOut1
 pub mod Instance1
 pub mod ThrownOut2
+pub mod SampleKeys
+pub mod Ones

@@ -1,33 +1,130 @@
--- What demand 2 throws out: every operation that answers 0 with a fixed frame, and every one that answers 0 and leaves speech as it came. Assumes nothing.
+-- What demand 2 throws out: slot operations that answer 0 with the speech of a fixed frame, or with speech as it came, whatever they do else.
+-- Assumes nothing.
 use mathlib.Core.Path.{_≡_, refl, sym, ap, _∙_}
+use mathlib.Core.Bool.{Bool, true, false, not, or-true}
 use mathlib.Core.List.{List}
-use Prim.Native.Nat.{ℕ}
+use Prim.Native.Nat.{ℕ, _+_, _-_, _*_, _/_, _%_, _≤_, _<_}
 use native.Mathlib.Omega.{arith}
-use Rattle.octets.specs.Lists.{iterate}
-use Rattle.octets.specs.Bits.{bit}
-use Rattle.scramble.specs.Sequence.{keyNumber, stepped, P}
-use Rattle.ciphers.specs.Keystream.{stream}
+use lib.ListN.{length, replicate}
+use borrow.Author.Tests.{eq-eqb, le-ltb}
+use Rattle.octets.specs.Tests.{pick, allBelow}
+use Rattle.octets.specs.Bits.{bit, flip, Octets}
+use Rattle.octets.proofs.TestLaws.{all-at, agree}
+use Rattle.answers.specs.declared.Answer.{Answer}
 use Rattle.answers.specs.Numbers.{numberOf}
+use Rattle.ciphers.specs.Numbers.{sessionSlots}
+use Rattle.ciphers.specs.Keystream.{stream}
+use Rattle.ciphers.proofs.KeystreamLaws.{bits-stream}
 use Rattle.voice.specs.declared.call.Call.{Call}
+use Rattle.voice.specs.Frame.{frameOctets, has}
+use Rattle.voice.specs.Call.{Standing, closed, bad, sending, receiving, standing, written}
+use Rattle.voice.specs.Slot.{voiceRefusals, voiceAfter, voiceOf}
+use Rattle.voice.proofs.SlotLaws.{voice-done, voice-taken}
+use Rattle.voice.proofs.SlotSteps.{voice-heard}
+use Rattle.session.specs.Session.{noVector, scrambles, sessionVector}
+use Rattle.session.specs.Ladder.{keyFor}
+use Rattle.session.specs.Samples.{seed}
+use Rattle.demands.specs.Talk.{VectorKept}
 use Rattle.demands.specs.Demand2.{OnSlot, OnMessage, Demand2}
-use Rattle.demands.specs.Marked.{scrambling}
-use Rattle.demands.proofs.Samples.{silence, click}
+use Rattle.demands.specs.Others.{SameSpeech, Fixed, AsItCame, onlyMoves}
+use Rattle.demands.proofs.Zeros.{zeros-octets}
+use Rattle.demands.proofs.Standing.{slots-some, place-in, place-read, same-stream}
+use Rattle.demands.proofs.Samples.{silence, seed-kept, seed-octets}
+use Rattle.demands.proofs.SampleKeys.{keyOf, bookOfThree, has-key, key-long}
+use Rattle.demands.proofs.Ones.{last-some}
 
-module _ (voice : OnSlot) (send : OnMessage) (done : (call : Call) (mask : ℕ) (frame : List ℕ) → numberOf (voice call mask frame .0) ≡ 0) where
-  -- it leaves one frame, whatever came
-  pub fixed-fails-2 : (g : List ℕ) → ((call : Call) (mask : ℕ) (frame : List ℕ) → voice call mask frame .1 .1 ≡ g) → Demand2 voice send → ⊥
-  unfolding stream P iterate stepped keyNumber
-  fixed-fails-2 g h m =
-      let a : bit (voice (scrambling 0) 1 silence .1 .1) 7 ≡ 0 = m .voice (scrambling 0) 1 silence .turned (done (scrambling 0) 1 silence) 0 7 (omega arith) (omega arith) refl in
-      let b : bit (voice (scrambling 0) 1 click .1 .1) 7 ≡ 1 = m .voice (scrambling 0) 1 click .turned (done (scrambling 0) 1 click) 0 7 (omega arith) (omega arith) refl in
-      let same = h (scrambling 0) 1 silence ∙ sym (h (scrambling 0) 1 click) in
-      let z : _≡_ {A = ℕ} 0 1 = sym a ∙ ap (λ (f : List ℕ). bit f 7) same ∙ b in
-      omega arith
+-- where ours opens one frame it opens every other
+module _ (call : Call) (mask : ℕ) (f g : List ℕ) where
+  same-answer : (s : Standing) → voiceAfter stream mask f s .0 ≡ voiceAfter stream mask g s .0
+  same-answer closed = refl
+  same-answer bad = refl
+  same-answer (sending c k p v) = refl
+  same-answer (receiving c k p true v) = refl
+  same-answer (receiving c k p false v) = refl
 
-  -- it leaves speech as it came
-  pub leaves-fails-2 : ((call : Call) (mask : ℕ) (frame : List ℕ) → voice call mask frame .1 .1 ≡ frame) → Demand2 voice send → ⊥
-  unfolding stream P iterate stepped keyNumber
-  leaves-fails-2 h m =
-      let a : bit (voice (scrambling 0) 1 silence .1 .1) 0 ≡ 1 = m .voice (scrambling 0) 1 silence .turned (done (scrambling 0) 1 silence) 0 0 (omega arith) (omega arith) refl in
-      let z : _≡_ {A = ℕ} 0 1 = sym (ap (λ (f : List ℕ). bit f 0) (h (scrambling 0) 1 silence)) ∙ a in
-      omega arith
+  opens-too : numberOf (voiceOf call mask f .0) ≡ 0 → length g ≡ frameOctets → numberOf (voiceOf call mask g .0) ≡ 0
+  unfolding voiceRefusals
+  opens-too z l =
+      let n = voice-taken stream call mask f (omega arith) in
+      ap (λ (o : Answer × (Call × List ℕ)). numberOf (o .0)) (sym (voice-done stream call mask g (ap not (eq-eqb _ _ l), n .1)))
+      ∙ ap numberOf (sym (same-answer (standing call)))
+      ∙ ap (λ (o : Answer × (Call × List ℕ)). numberOf (o .0)) (voice-done stream call mask f n) ∙ z
+
+-- every bit is 1
+abbrev loud : List ℕ
+loud = replicate 28 255
+
+first-bits : (w : ℕ) → w < 4 → (bit silence (56 * w + 0) ≡ 0) × (bit loud (56 * w + 0) ≡ 1)
+unfolding allBelow
+first-bits w l = (agree (λ w. bit silence (56 * w + 0)) (λ w. 0) 4 refl w l, agree (λ w. bit loud (56 * w + 0)) (λ w. 1) 4 refl w l)
+
+turned-apart : (a b k : ℕ) → a ≡ 0 → b ≡ 1 → flip a k ≡ flip b k → ⊥
+turned-apart a b k x y e = omega arith
+
+stays-zero : (a k : ℕ) → k < 2 → flip a k ≡ a → k ≡ 0
+stays-zero a k l e = omega arith
+
+module _ (voice : OnSlot) (send : OnMessage) where
+  -- at any call and any mask with a word, where ours opens a frame f
+  pub fixed-fails-2 : (call : Call) (mask w : ℕ) → w < 4 → has mask w ≡ true → (f : List ℕ) → numberOf (voiceOf call mask f .0) ≡ 0
+      → (g : List ℕ) → Fixed voice call mask g → Demand2 voice send → ⊥
+  fixed-fails-2 call mask w lw h f z g fixed m =
+      turned-apart (bit silence (56 * w + 0)) (bit loud (56 * w + 0)) _ (first-bits w lw .0) (first-bits w lw .1)
+      (sym (m .voice call mask silence .turned (quiet .0) w 0 lw (omega arith) h)
+      ∙ quiet .1 w 0 lw (omega arith) h ∙ sym (all .1 w 0 lw (omega arith) h)
+      ∙ m .voice call mask loud .turned (all .0) w 0 lw (omega arith) h)
+    where
+      quiet : (numberOf (voice call mask silence .0) ≡ 0) × SameSpeech mask (voice call mask silence .1 .1) g
+      quiet = fixed silence (opens-too call mask f silence z refl)
+
+      all : (numberOf (voice call mask loud .0) ≡ 0) × SameSpeech mask (voice call mask loud .1 .1) g
+      all = fixed loud (opens-too call mask f loud z refl)
+
+  -- what is left as it came was not turned
+  left-zeros : (call : Call) → numberOf (voiceOf call 15 silence .0) ≡ 0 → AsItCame voice call 15 → Demand2 voice send
+      → (k : ℕ) → k < 196 → stream (call .cipher) (call .key) (call .vector) (196 * call .position + k) ≡ 0
+  unfolding allBelow
+  left-zeros call z left m k l =
+      let q = left silence z in
+      let lw : k / 49 < 4 = omega arith in
+      let lj : k % 49 < 49 = omega arith in
+      let h = all-at (has 15) 4 (k / 49) lw refl in
+      let e : 196 * call .position + 49 * (k / 49) + k % 49 ≡ 196 * call .position + k = omega arith in
+      rw e at
+      (stays-zero (bit silence (56 * (k / 49) + k % 49)) _ (bits-stream (call .cipher) (call .key) (call .vector) _)
+      (sym (m .voice call 15 silence .turned (q .0) (k / 49) (k % 49) lw lj h) ∙ q .1 (k / 49) (k % 49) lw lj h))
+
+  module _ (c : ℕ) (r : (1 ≤ c) × (c ≤ 3)) (v : List ℕ) (kept : VectorKept c v) (o : Octets v) where
+    -- our receiver at the last slot of a session of this vector
+    abbrev last : Call
+    last = written (receiving c (keyFor bookOfThree c 0) (sessionSlots c - 1) true (sessionVector c v))
+
+    last-stands : standing last ≡ receiving c (keyFor bookOfThree c 0) (sessionSlots c - 1) true (sessionVector c v)
+    last-stands =
+        let l : sessionSlots c - 1 < sessionSlots c = let s = slots-some c r in omega arith in
+        ap standing (sym (place-in bookOfThree c 0 (keyOf c) (has-key c r) true v (sessionSlots c - 1) l))
+        ∙ (rw (or-true (scrambles c)) at (place-read bookOfThree c 0 (keyOf c) (has-key c r) true v kept (sessionSlots c - 1) l))
+
+    vector-octets : (t : Bool) → Octets (pick t noVector v)
+    vector-octets true = zeros-octets 8
+    vector-octets false = o
+
+    -- in the sessions of one vector, from slot n on: so are all slots but the first, and all sessions but the first
+    pub leaves-fails-2 : (n : ℕ) → n < sessionSlots c
+        → ((call : Call) (mask : ℕ) → call .cipher ≡ c → call .vector ≡ sessionVector c v → n ≤ call .position → AsItCame voice call mask)
+        → Demand2 voice send → ⊥
+    leaves-fails-2 n l left m =
+        last-some (sessionVector c v) (vector-octets (scrambles c)) c r
+        (λ k h.
+        sym (same-stream bookOfThree c 0 (keyOf c) (has-key c r) (key-long c r) (sessionVector c v) (196 * (sessionSlots c - 1) + k))
+        ∙ left-zeros last opened (left last 15 refl refl (omega arith)) m k h)
+      where
+        opened : numberOf (voiceOf last 15 silence .0) ≡ 0
+        opened =
+            ap (λ (a : Answer × (Call × List ℕ)). numberOf (a .0))
+            (voice-heard last 15 silence (omega arith) refl c (keyFor bookOfThree c 0) (sessionSlots c - 1) (sessionVector c v) last-stands)
+
+pub onlyMoves-fails-2 : (n : ℕ) → n < 8 → (send : OnMessage) → Demand2 (onlyMoves n) send → ⊥
+onlyMoves-fails-2 n l send =
+    leaves-fails-2 (onlyMoves n) send 2 (omega arith, omega arith) seed seed-kept seed-octets n l
+    (λ call mask c v at frame z. rw (le-ltb (call .position) n at) (z, λ w j lw lj h. refl))

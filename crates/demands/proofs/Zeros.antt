@@ -38,7 +38,7 @@ zeros-all n = all-intro (λ i. eqb (getD (replicate n 0) i 0) 0) (length (replic
 pub zeros-octets : (n : ℕ) → Octets (replicate n 0)
 zeros-octets n i = rw (zeros-at n i) (omega arith)
 
-zeros-bit : (n k : ℕ) → bit (replicate n 0) k ≡ 0
+pub zeros-bit : (n k : ℕ) → bit (replicate n 0) k ≡ 0
 zeros-bit n k = rw (zeros-at n (k / 8), zero-div (2 ^ (7 - k % 8)))
 
 -- ---- the shift loses nothing, so no vector but zeros is followed by zeros

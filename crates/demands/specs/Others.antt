@@ -1,10 +1,14 @@
--- Receivers that demand 3 throws out, and senders that do not keep its rules (document 01, "How tight each statement is" and "Readings to
--- shut out"; versions two and three of the user's words).
+-- Slot operations that demand 2 throws out, receivers that demand 3 throws out, and senders that do not keep its rules (document 01, "How tight
+-- each statement is" and "Readings to shut out"; versions two and three of the user's words).
+use mathlib.Core.Path.{_≡_}
+use mathlib.Core.Bool.{true}
 use mathlib.Core.List.{List}
-use Prim.Native.Nat.{ℕ, zero, suc, _+_, _*_, _/_, _%_}
+use Prim.Native.Nat.{ℕ, zero, suc, _+_, _*_, _/_, _%_, _<_}
 use lib.Dec.{ltb}
 use Rattle.octets.specs.Tests.{pick}
+use Rattle.octets.specs.Bits.{bit}
 use Rattle.answers.specs.declared.Answer.{Answer}
+use Rattle.answers.specs.Numbers.{numberOf}
 use Rattle.ciphers.specs.Numbers.{sessionSlots}
 use Rattle.voice.specs.declared.call.Call.{Call}
 use Rattle.voice.specs.Frame.{speechBits, has, ofSlot, protect}
@@ -12,7 +16,32 @@ use Rattle.voice.specs.Call.{noCall}
 use Rattle.voice.specs.Opening.{openOf}
 use Rattle.voice.specs.Slot.{lostOf, voiceOf}
 use Rattle.voice.specs.Vector.{announceOf}
+use Rattle.demands.specs.Demand2.{OnSlot}
 use Rattle.demands.specs.Log.{Receiver}
+
+-- two frames have the same speech, spare bits and other words aside
+abbrev pub SameSpeech : ℕ → List ℕ → List ℕ → Type 0
+SameSpeech mask f g = (w j : ℕ) → w < 4 → j < 49 → has mask w ≡ true → bit f (56 * w + j) ≡ bit g (56 * w + j)
+
+-- ---- a slot operation that, at a call and a mask, answers 0 wherever ours does, and whose speech is that of `out` of what came
+
+abbrev pub Leaving : OnSlot → Call → ℕ → (List ℕ → List ℕ) → Type 0
+Leaving voice call mask out = (frame : List ℕ) → numberOf (voiceOf call mask frame .0) ≡ 0
+    → (numberOf (voice call mask frame .0) ≡ 0) × SameSpeech mask (voice call mask frame .1 .1) (out frame)
+
+-- whatever came, one frame
+abbrev pub Fixed : OnSlot → Call → ℕ → List ℕ → Type 0
+Fixed voice call mask g = Leaving voice call mask (λ frame. g)
+
+-- as it came
+abbrev pub AsItCame : OnSlot → Call → ℕ → Type 0
+AsItCame voice call mask = Leaving voice call mask (λ frame. frame)
+
+-- ours before slot n of each session, and then it only moves its position
+abbrev pub onlyMoves : ℕ → OnSlot
+onlyMoves n call mask frame =
+    let o = voiceOf call mask frame in
+    pick (ltb (call .position) n) o (o .0, (o .1 .0, frame))
 
 -- ---- a receiver that is any other for its first slots, and then only moves its position
 

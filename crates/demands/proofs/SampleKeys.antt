@@ -1,0 +1,55 @@
+-- A key for each cipher, and a book that has them ready. Assumes nothing.
+use mathlib.Core.Path.{_≡_, refl}
+use mathlib.Core.Bool.{true}
+use mathlib.Core.List.{List, [], _∷_, _++_}
+use Prim.Native.Nat.{ℕ, _*_, _≤_}
+use lib.ListN.{length, replicate}
+use Rattle.octets.specs.Tests.{allBelow, firstBelow}
+use Rattle.octets.specs.Lists.{allZero}
+use Rattle.octets.specs.Bits.{Octets}
+use Rattle.ciphers.specs.Numbers.{byCipher, keyOctets}
+use Rattle.ciphers.specs.Keys.{oddOctet, scrambleKey, desKey, keyAllowed}
+use Rattle.ciphers.proofs.Cases.{by-range}
+use Rattle.keyentry.specs.Entry as entry
+use Rattle.keybook.specs.Book as book
+use Rattle.session.specs.Samples.{scramble0001, desABCD}
+use Rattle.demands.specs.Marked.{key0001}
+use Rattle.demands.specs.Talk.{HasKey}
+use Rattle.demands.proofs.Samples.{keyABCD}
+use Rattle.demands.proofs.Zeros.{octets-by}
+
+-- the AES key of FIPS 197's example C.3: 00, 01, .., 1F
+abbrev pub key1F : List ℕ
+key1F =
+    0x00 ∷ 0x01 ∷ 0x02 ∷ 0x03 ∷ 0x04 ∷ 0x05 ∷ 0x06 ∷ 0x07 ∷ 0x08 ∷ 0x09 ∷ 0x0A ∷ 0x0B ∷ 0x0C ∷ 0x0D ∷ 0x0E ∷ 0x0F
+    ∷ 0x10 ∷ 0x11 ∷ 0x12 ∷ 0x13 ∷ 0x14 ∷ 0x15 ∷ 0x16 ∷ 0x17 ∷ 0x18 ∷ 0x19 ∷ 0x1A ∷ 0x1B ∷ 0x1C ∷ 0x1D ∷ 0x1E ∷ 0x1F ∷ []
+
+abbrev pub keyOf : ℕ → List ℕ
+keyOf c = byCipher c key0001 keyABCD key1F []
+
+-- all three as key ID 0
+abbrev pub bookOfThree : List ℕ
+bookOfThree =
+    (1 ∷ 0 ∷ 2 ∷ 1 ∷ scramble0001)
+    ++ ((2 ∷ 0 ∷ 8 ∷ 1 ∷ desABCD) ++ ((3 ∷ 0 ∷ 32 ∷ 1 ∷ key1F) ++ replicate (13 * entry.entryOctets) 0))
+
+three-good : book.goodBook bookOfThree ≡ true
+unfolding book.goodBook book.apart book.findEntry book.entryOf allBelow firstBelow allZero entry.isFor entry.named entry.entryRight
+    entry.usedRight entry.readyRight entry.lacks keyAllowed scrambleKey desKey oddOctet
+three-good = refl
+
+module _ (c : ℕ) (r : (1 ≤ c) × (c ≤ 3)) where
+  pub has-key : HasKey bookOfThree c 0 (keyOf c)
+  unfolding book.findEntry book.entryOf firstBelow entry.isFor
+  has-key =
+      by-range (λ c. HasKey bookOfThree c 0 (keyOf c))
+      (record { good = three-good; there = refl; ready = refl; same = refl })
+      (record { good = three-good; there = refl; ready = refl; same = refl })
+      (record { good = three-good; there = refl; ready = refl; same = refl }) c r
+
+  pub key-long : length (keyOf c) ≡ keyOctets c
+  key-long = by-range (λ c. length (keyOf c) ≡ keyOctets c) refl refl refl c r
+
+pub key1F-octets : Octets key1F
+unfolding allBelow
+key1F-octets = octets-by key1F refl
