@@ -38,7 +38,7 @@ mixed = talkMade 2 keyABCD 0 seed bookOfTwo three
 
 pub mixed-kept : Kept mixed
 mixed-kept =
-    ours-keeps bookOfTwo 2 0 keyABCD has-des refl seed seed-kept seed-octets three
+    ours-keeps bookOfTwo 2 0 keyABCD has-des refl seed (seed-kept 2) seed-octets three
     (record { each = (quietly-kept eight, (quietly-kept eight, (quietly-kept (true ∷ []), tt))); full = (refl, (refl, omega arith)) })
 
 -- by the opening: handed out, held, handed out. The opening, a lost slot and the announcement are 0

@@ -1,12 +1,15 @@
 -- Under the sample keys no session of any vector has zeros for the keystream of its first slot, or of its last: a block of zeros is followed
 -- by the encipherment of zeros, which has a 1. Assumes nothing.
 use mathlib.Core.Path.{_≡_, refl, sym, ap, _∙_}
+use mathlib.Core.Bool.{true}
 use mathlib.Core.List.{List}
 use Prim.Native.Nat.{ℕ, zero, suc, _+_, _-_, _*_, _/_, _%_, _≤_, _<_}
 use native.Mathlib.Omega.{arith}
 use lib.ListN.{length, replicate, length-replicate}
+use Rattle.octets.specs.Tests.{allBelow}
 use Rattle.octets.specs.Lists.{tab, iterate}
-use Rattle.octets.specs.Bits.{bit, octet, octetsFrom, Octets}
+use Rattle.octets.specs.Bits.{bit, flip, octet, octetsFrom, Bits, Octets}
+use Rattle.octets.proofs.TestLaws.{all-at}
 use Rattle.octets.proofs.BitLaws.{octets-ext}
 use Rattle.scramble.specs.Sequence.{keyNumber, stepped, P}
 use Rattle.des.specs.Tables.{ipTable, fpTable, eTable, pTable, pc1Table, pc2Table, shifts, sboxes}
@@ -21,12 +24,29 @@ use Rattle.generator.proofs.VectorLaws.{octets-aesVector}
 use Rattle.ciphers.specs.Numbers.{sessionSlots}
 use Rattle.ciphers.specs.Keystream.{stream}
 use Rattle.ciphers.proofs.Cases.{by-range}
-use Rattle.demands.specs.Demand2.{Keystreams}
+use Rattle.voice.specs.Frame.{has}
 use Rattle.demands.specs.Marked.{key0001}
 use Rattle.demands.proofs.Zeros.{zeros-octets, zeros-bit}
 use Rattle.demands.proofs.Samples.{keyABCD}
 use Rattle.demands.proofs.SampleKeys.{key1F, keyOf, key1F-octets}
 use Rattle.demands.proofs.Meets2.{keystreams}
+
+-- ---- a slot that is left as it came has zeros for its keystream
+
+pub all-words : (w : ℕ) → w < 4 → has 15 w ≡ true
+unfolding allBelow
+all-words w l = all-at (has 15) 4 w l refl
+
+unturned-bit : (a k : ℕ) → k < 2 → flip a k ≡ a → k ≡ 0
+unturned-bit a k l e = omega arith
+
+pub unturned : (ks : ℕ → ℕ) → Bits ks → (p : ℕ) (f : List ℕ)
+    → ((w j : ℕ) → w < 4 → j < 49 → flip (bit f (56 * w + j)) (ks (196 * p + 49 * w + j)) ≡ bit f (56 * w + j)) → (k : ℕ) → k < 196 → ks (196 * p + k) ≡ 0
+unturned ks b p f h k l =
+    let lw : k / 49 < 4 = omega arith in
+    let lj : k % 49 < 49 = omega arith in
+    let e : 196 * p + 49 * (k / 49) + k % 49 ≡ 196 * p + k = omega arith in
+    rw e at (unturned-bit (bit f (56 * (k / 49) + k % 49)) (ks (196 * p + 49 * (k / 49) + k % 49)) (b (196 * p + 49 * (k / 49) + k % 49)) (h (k / 49) (k % 49) lw lj))
 
 -- ---- zeros enciphered: bit 1 is 1
 

@@ -1,10 +1,10 @@
 -- The book of two ready keys, and slots of silence, for the calls that show what is thrown out and what can be met. Assumes nothing.
-use mathlib.Core.Path.{_≡_, refl}
+use mathlib.Core.Path.{_≡_, refl, ap}
 use mathlib.Core.Bool.{Bool, true, true≢false}
 use mathlib.Core.List.{List, [], _∷_}
 use Prim.Native.Nat.{ℕ, suc, _+_, _*_}
 use native.Mathlib.Omega.{arith}
-use lib.ListN.{replicate}
+use lib.ListN.{length, replicate}
 use Rattle.demands.proofs.Zeros.{octets-by, zeros-octets}
 use Rattle.octets.specs.Tests.{allBelow, firstBelow}
 use Rattle.octets.specs.Lists.{allZero}
@@ -45,24 +45,24 @@ silence = replicate 28 0
 pub silence-frame : IsFrame silence
 silence-frame = record { long = refl; octets = zeros-octets 28 }
 
--- another frame: its first octet is 1
-abbrev pub click : List ℕ
-click = 1 ∷ replicate 27 0
+-- every bit is 1
+abbrev pub loud : List ℕ
+loud = replicate 28 255
 
-pub click-frame : IsFrame click
+pub loud-frame : IsFrame loud
 unfolding allBelow
-click-frame = record { long = refl; octets = octets-by click refl }
+loud-frame = record { long = refl; octets = octets-by loud refl }
 
--- slot p, of which only the first word is voice, as a sender sends it
+-- slot p, of which every word is voice, as a sender sends it
 abbrev pub saying : Sending → List ℕ → (ℕ → ℕ) → ℕ → Bool → Slot
-saying send frame ks p arrived = record { mask = 1; spoken = frame; sent = send ks p 1 frame; arrived = arrived }
+saying send frame ks p arrived = record { mask = 15; spoken = frame; sent = send ks p 15 frame; arrived = arrived }
 
 pub saying-kept : (frame : List ℕ) → IsFrame frame → (ks : ℕ → ℕ) (p : ℕ) (arrived : Bool) → SlotKept ks p (saying turning frame ks p arrived)
 saying-kept frame f ks p arrived =
     record {
       mask = omega arith;
       spoken = f;
-      sent = protect-frame (λ n. ks (196 * p + n)) 1 frame;
+      sent = protect-frame (λ n. ks (196 * p + n)) 15 frame;
       air = protected-air ks p (saying turning frame ks p arrived) refl;
     }
 
@@ -75,13 +75,17 @@ pub quiet-kept : (ks : ℕ → ℕ) (p : ℕ) (arriving : List Bool) → SlotsKe
 quiet-kept ks p [] = tt
 quiet-kept ks p (a ∷ rest) = (saying-kept silence silence-frame ks p a, quiet-kept ks (suc p) rest)
 
+pub quiet-long : (ks : ℕ → ℕ) (p : ℕ) (arriving : List Bool) → length (quiet ks p arriving) ≡ length arriving
+quiet-long ks p [] = refl
+quiet-long ks p (a ∷ rest) = ap suc (quiet-long ks (suc p) rest)
+
 pub no-vector-kept : VectorKept 1 (replicate 8 0)
 unfolding allZero allBelow
 no-vector-kept = record { long = refl; some = λ e. absurd (true≢false e) }
 
-pub seed-kept : VectorKept 2 seed
+pub seed-kept : (c : ℕ) → VectorKept c seed
 unfolding allZero allBelow
-seed-kept = record { long = refl; some = λ e. refl }
+seed-kept c = record { long = refl; some = λ e. refl }
 
 pub seed-octets : Octets seed
 unfolding allBelow

@@ -1,179 +1,235 @@
--- Receivers that do not meet demand 3, and senders that do not keep its rules. Assumes nothing.
+-- Receivers that do not meet demand 3, already by the calls of any one cipher; and senders that do not keep its rules. Assumes nothing.
 use mathlib.Core.Path.{_≡_, refl, sym, ap, _∙_}
-use mathlib.Core.Bool.{Bool, true, false}
-use mathlib.Core.List.{List, [], _∷_}
+use mathlib.Core.Bool.{Bool, true, false, _&&_, _||_, not, or-true, true≢false}
+use mathlib.Core.List.{List, [], _∷_, _++_}
 use Prim.Native.Nat.{ℕ, zero, suc, _+_, _*_, _≤_, _<_}
 use native.Mathlib.Omega.{arith}
 use borrow.Author.Tests.{le-ltb}
-use lib.ListN.{length, getD}
+use lib.ListN.{length, replicate, length-replicate}
 use Rattle.octets.specs.Lists.{iterate, Each}
-use Rattle.octets.specs.Bits.{octet, octetsFrom}
+use Rattle.octets.specs.Bits.{bit, octet, octetsFrom}
+use Rattle.octets.proofs.TestLaws.{and-false-r}
 use Rattle.scramble.specs.Sequence.{keyNumber, stepped, P}
 use Rattle.ciphers.specs.Numbers.{sessionSlots}
 use Rattle.ciphers.specs.Keystream.{stream}
+use Rattle.ciphers.proofs.Cases.{by-range}
+use Rattle.ciphers.proofs.KeystreamLaws.{bits-stream}
 use Rattle.answers.specs.declared.Answer.{Answer}
 use Rattle.answers.specs.declared.Answer.the-variants.{Done}
 use Rattle.answers.specs.Numbers.{numberOf}
 use Rattle.voice.specs.declared.call.Call.{Call}
-use Rattle.voice.specs.Frame.{word, keyBit, ofSlot, protect}
-use Rattle.session.specs.Session.{noVector}
+use Rattle.voice.specs.Frame.{IsFrame, word, has, keyBit, ofSlot, protect}
+use Rattle.session.specs.Session.{noVector, scrambles}
 use Rattle.voice.specs.Call.{noCall}
 use Rattle.voice.specs.Opening.{openOf}
 use Rattle.voice.specs.Slot.{lostOf, voiceOf}
-use Rattle.voice.proofs.FrameLaws.{protect-frame}
+use Rattle.voice.proofs.FrameLaws.{protect-frame, word-bit}
 use Rattle.voice.proofs.SlotSteps.{voice-heard}
 use Rattle.session.specs.Samples.{seed}
-use Rattle.demands.specs.Marked.{key0001, bookOfTwo}
+use Rattle.demands.specs.Marked.{key0001}
 use Rattle.demands.specs.Talk.{Session, Talk, opening, joining, SlotKept, VectorKept, SessionKept, Full, slotCounts, Kept}
-use Rattle.demands.specs.Notices.{counts, sessionNotices}
-use Rattle.demands.specs.Log.{Receiver, events, talkLog}
+use Rattle.demands.specs.Notices.{Notice, counts, slotNotices, startNotices, sessionNotices}
+use Rattle.demands.specs.Log.{Receiver, events}
 use Rattle.demands.specs.Demand3.{Right, Meets3}
-use Rattle.demands.specs.Others.{upTo, upToSlots, upToSession, fourOn, atOnce, Sending, turning, identity, restarting, saving}
-use Rattle.demands.proofs.Standing.{place, place-read, place-lost, place-opened}
-use Rattle.demands.proofs.Samples.{keyABCD, has-scramble, has-des, silence, silence-frame, click, click-frame, saying, quiet, saying-kept, quiet-kept, no-vector-kept, seed-kept}
+use Rattle.demands.specs.Others.{SameSpeech, MeetsIn, Handing, upTo, upToSlots, upToSession, fourOn, atOnce, Sending, turning, identity, restarting, saving}
+use Rattle.demands.proofs.Standing.{slots-some, place, place-read, place-lost, place-opened}
+use Rattle.demands.proofs.Samples.{silence, silence-frame, loud, loud-frame, saying, quiet, saying-kept, quiet-kept, quiet-long, no-vector-kept, seed-kept, seed-octets}
+use Rattle.demands.proofs.SampleKeys.{keyOf, bookOfThree, has-key, key-long}
+use Rattle.demands.proofs.Ones.{all-words, unturned, first-some}
 
--- ---- one slot under scramble key 0001
+pub meets-in : (c : ℕ) (R : Receiver) → Meets3 R → MeetsIn c R
+meets-in c R m t e = m t
 
-abbrev ks : ℕ → ℕ
-ks = stream 1 key0001 noVector
+-- words have their bits
+word-speech : (mask : ℕ) (f g : List ℕ) → ((w : ℕ) → w < 4 → has mask w ≡ true → word w f ≡ word w g) → SameSpeech mask f g
+word-speech mask f g h w j lw lj e =
+    sym (word-bit w f j (omega arith)) ∙ ap (λ (xs : List ℕ). bit xs j) (h w lw e) ∙ word-bit w g j (omega arith)
 
-abbrev one : List ℕ → Talk
-one frame =
-    record { cipher = 1; key = key0001; sessions = record { vector = noVector; announced = false; slots = saying turning frame ks 0 true ∷ [] } ∷ [] }
+module _ (c : ℕ) (r : (1 ≤ c) × (c ≤ 3)) where
+  -- ---- one slot under the cipher's sample key
 
-one-slot : (R : Receiver) → Meets3 R → (frame : List ℕ) → SlotKept ks 0 (saying turning frame ks 0 true)
-    → Each Right (talkLog R bookOfTwo 0 (one frame) opening)
-one-slot R m frame k =
-    m (one frame) (record { key = refl; each = (record { vector = no-vector-kept; slots = (k, tt) }, tt); full = omega arith }) bookOfTwo 0 has-scramble opening
+  abbrev under : ℕ → ℕ
+  under = stream c (keyOf c) seed
 
-silent-kept : SlotKept ks 0 (saying turning silence ks 0 true)
-silent-kept = saying-kept silence silence-frame ks 0 true
+  abbrev came : List ℕ → List ℕ
+  came frame = turning under 0 15 frame
 
--- silence that is sent in slot 0 is no silence
-not-silent : word 0 (turning ks 0 1 silence) ≡ word 0 silence → ⊥
-unfolding protect keyBit octetsFrom octet stream P iterate stepped keyNumber
-not-silent e =
-    let z : _≡_ {A = ℕ} 128 0 = ap (λ (xs : List ℕ). getD xs 0 0) e in
-    omega arith
+  -- silence that is sent in slot 0 is no silence
+  not-silent : SameSpeech 15 (came silence) silence → ⊥
+  not-silent e =
+      let k = saying-kept silence silence-frame under 0 true in
+      first-some seed seed-octets c r
+      (unturned under (bits-stream c (keyOf c) seed) 0 silence
+      (λ w j lw lj. sym (k .air .speech w j lw lj (all-words w lw)) ∙ e w j lw lj (all-words w lw)))
 
-module _ (R : Receiver) where
-  abbrev begun : R .State
-  begun = R .hear 1 0 noVector bookOfTwo (R .idle) .1
+  abbrev one : List ℕ → Talk
+  one frame =
+      record { cipher = c; key = keyOf c; sessions = record { vector = seed; announced = true; slots = saying turning frame under 0 true ∷ [] } ∷ [] }
 
-  -- it opens no slot: it refuses all, or holds all
-  pub never-opens-fails : ((mask : ℕ) (frame : List ℕ) (s : R .State) → 1 ≤ numberOf (R .voice mask frame s .0)) → Meets3 R → ⊥
-  never-opens-fails h m =
-      let z : numberOf (R .voice 1 (turning ks 0 1 silence) begun .0) ≡ 0 = one-slot R m silence silent-kept .1 .0 .handed refl in
-      let l = h 1 (turning ks 0 1 silence) begun in
-      omega arith
+  module _ (R : Receiver) where
+    abbrev begun : R .State
+    begun = R .hear c 0 seed bookOfThree (R .idle) .1
 
-  -- it leaves one frame, whatever came
-  pub fixed-fails : (g : List ℕ) → ((mask : ℕ) (frame : List ℕ) (s : R .State) → R .voice mask frame s .1 .1 ≡ g) → Meets3 R → ⊥
-  fixed-fails g h m =
-      let r = one-slot R m silence silent-kept .1 .0 in
-      let q = one-slot R m click (saying-kept click click-frame ks 0 true) .1 .0 in
-      let a : word 0 g ≡ word 0 silence = ap (word 0) (sym (h 1 (turning ks 0 1 silence) begun)) ∙ r .opened (r .handed refl) 0 (omega arith) refl in
-      let b : word 0 g ≡ word 0 click = ap (word 0) (sym (h 1 (turning ks 0 1 click) begun)) ∙ q .opened (q .handed refl) 0 (omega arith) refl in
-      let z : _≡_ {A = ℕ} 0 1 = ap (λ (xs : List ℕ). getD xs 0 0) (sym a ∙ b) in
-      omega arith
+    one-slot : MeetsIn c R → (frame : List ℕ) → IsFrame frame
+        → (numberOf (R .voice 15 (came frame) begun .0) ≡ 0) × SameSpeech 15 (R .voice 15 (came frame) begun .1 .1) frame
+    one-slot m frame f =
+        let kept : Kept (one frame) = record {
+          key = key-long c r;
+          each = (record { vector = seed-kept c; slots = (saying-kept frame f under 0 true, tt) }, tt);
+          full = omega (arith, slots-some c r);
+        } in
+        let h = m (one frame) refl kept bookOfThree 0 (has-key c r) opening .1 .0 in
+        let z = h .handed (or-true (scrambles c)) in
+        (z, word-speech 15 (R .voice 15 (came frame) begun .1 .1) frame (h .opened z))
 
-  -- it leaves speech as it came
-  pub leaves-fails : ((mask : ℕ) (frame : List ℕ) (s : R .State) → R .voice mask frame s .1 .1 ≡ frame) → Meets3 R → ⊥
-  leaves-fails h m =
-      let r = one-slot R m silence silent-kept .1 .0 in
-      not-silent (ap (word 0) (sym (h 1 (turning ks 0 1 silence) begun)) ∙ r .opened (r .handed refl) 0 (omega arith) refl)
+    -- it opens no slot: it refuses all, or holds all
+    pub never-opens-fails : ((mask : ℕ) (frame : List ℕ) (s : R .State) → 1 ≤ numberOf (R .voice mask frame s .0)) → MeetsIn c R → ⊥
+    never-opens-fails h m = omega (arith, one-slot m silence silence-frame .0, h 15 (came silence) begun)
 
--- ---- any other for its first slots: sessions of which every slot is lost, as many as may be, and one more slot
+    -- its answer 0 comes with one frame's speech, whatever came
+    pub fixed-fails : (g : List ℕ) → Handing R (λ frame. g) → MeetsIn c R → ⊥
+    fixed-fails g h m =
+        let a = one-slot m silence silence-frame in
+        let b = one-slot m loud loud-frame in
+        let z : _≡_ {A = ℕ} 0 1 =
+        sym (a .1 0 0 (omega arith) (omega arith) refl) ∙ h 15 (came silence) begun (a .0) 0 0 (omega arith) (omega arith) refl
+        ∙ sym (h 15 (came loud) begun (b .0) 0 0 (omega arith) (omega arith) refl) ∙ b .1 0 0 (omega arith) (omega arith) refl in
+        omega arith
 
-abbrev gone : Session
-gone = record { vector = noVector; announced = false; slots = quiet ks 0 (false ∷ false ∷ false ∷ false ∷ []) }
+    -- or with speech as it came
+    pub leaves-fails : Handing R (λ frame. frame) → MeetsIn c R → ⊥
+    leaves-fails h m =
+        let a = one-slot m silence silence-frame in
+        not-silent (λ w j lw lj e. sym (h 15 (came silence) begun (a .0) w j lw lj e) ∙ a .1 w j lw lj e)
 
-abbrev lastOne : Session
-lastOne = record { vector = noVector; announced = false; slots = quiet ks 0 (true ∷ []) }
+  -- ---- any other for its first slots: sessions of which every slot is lost, as many as may be, and one more slot
 
-abbrev quietFor : ℕ → List Session
-quietFor zero = lastOne ∷ []
-quietFor (suc m) = gone ∷ quietFor m
+  abbrev gone : Session
+  gone = record { vector = seed; announced = false; slots = quiet under 0 (replicate (sessionSlots c) false) }
 
-quietFor-each : (m : ℕ) → Each (SessionKept 1 key0001) (quietFor m)
-quietFor-each zero = (record { vector = no-vector-kept; slots = quiet-kept ks 0 (true ∷ []) }, tt)
-quietFor-each (suc m) = (record { vector = no-vector-kept; slots = quiet-kept ks 0 (false ∷ false ∷ false ∷ false ∷ []) }, quietFor-each m)
+  abbrev lastOne : Session
+  lastOne = record { vector = seed; announced = true; slots = quiet under 0 (true ∷ []) }
 
-quietFor-full : (m : ℕ) → Full 1 (slotCounts (quietFor m))
-quietFor-full zero = omega arith
-quietFor-full (suc zero) = (refl, quietFor-full zero)
-quietFor-full (suc (suc m)) = (refl, quietFor-full (suc m))
+  abbrev quietFor : ℕ → List Session
+  quietFor zero = lastOne ∷ []
+  quietFor (suc m) = gone ∷ quietFor m
 
-abbrev longTalk : ℕ → Talk
-longTalk m = record { cipher = 1; key = key0001; sessions = quietFor m }
+  quietFor-each : (m : ℕ) → Each (SessionKept c (keyOf c)) (quietFor m)
+  quietFor-each zero = (record { vector = seed-kept c; slots = quiet-kept under 0 (true ∷ []) }, tt)
+  quietFor-each (suc m) = (record { vector = seed-kept c; slots = quiet-kept under 0 (replicate (sessionSlots c) false) }, quietFor-each m)
 
-module _ (first : ℕ → ℕ) (a : Answer) (R : Receiver) where
-  -- past its slots it leaves the frame as it came
-  late : (m : ℕ) (s : ℕ × ℕ × R .State) → s .1 ≤ s .0 + 4 * m
-      → Each Right (events (upTo first a R) bookOfTwo 1 0 s (sessionNotices 1 (quietFor m))) → ⊥
-  late zero s l h =
-      let e = le-ltb (s .0) (s .1) (omega arith) in
-      let h′ = rw e at (h .0) in
-      not-silent (h′ .opened (h′ .handed refl) 0 (omega arith) refl)
-  late (suc m) s l h = late m (suc (suc (suc (suc (s .0)))), s .1, R .lost (R .lost (R .lost (R .lost (s .2) .1) .1) .1) .1) (omega arith) (h .1 .1 .1 .1)
+  gone-long : length (gone .slots) ≡ sessionSlots c
+  gone-long = quiet-long under 0 (replicate (sessionSlots c) false) ∙ length-replicate (sessionSlots c) false
 
-  -- whatever the number of slots, whatever it answers then, and whatever the receiver before
-  pub upTo-fails : Meets3 (upTo first a R) → ⊥
-  upTo-fails m =
-      late (first 1) (4, first 1, R .lost (R .lost (R .lost (R .lost (R .hear 1 0 noVector bookOfTwo (R .idle) .1) .1) .1) .1) .1) (omega arith)
-      (m (longTalk (suc (first 1))) (record { key = refl; each = quietFor-each (suc (first 1)); full = quietFor-full (suc (first 1)) }) bookOfTwo 0 has-scramble opening .1 .1 .1 .1 .1)
+  quietFor-full : (m : ℕ) → Full c (slotCounts (quietFor m))
+  quietFor-full zero = omega (arith, slots-some c r)
+  quietFor-full (suc zero) = (gone-long, quietFor-full zero)
+  quietFor-full (suc (suc m)) = (gone-long, quietFor-full (suc m))
 
-pub upToSlots-fails : (n : ℕ) (a : Answer) (R : Receiver) → Meets3 (upToSlots n a R) → ⊥
-upToSlots-fails n = upTo-fails (λ c. n)
+  abbrev longTalk : ℕ → Talk
+  longTalk m = record { cipher = c; key = keyOf c; sessions = quietFor m }
 
-pub upToSession-fails : (a : Answer) (R : Receiver) → Meets3 (upToSession a R) → ⊥
-upToSession-fails = upTo-fails sessionSlots
+  module _ (R : Receiver) (first : ℕ → ℕ) (answer : ℕ → List ℕ → R .State → Answer) where
+    abbrev Stands : Type 0
+    Stands = ℕ × ℕ × R .State
 
--- ---- the announced vector, applied at once
+    -- what it is told from a state on is answered right
+    abbrev RightFrom : Stands → List Notice → Type 0
+    RightFrom s ns = Each Right (events (upTo R first answer) bookOfThree c 0 s ns)
 
--- a DES session with the seed as its vector, in which w is announced, and the session of w
-abbrev secondHalf : List Bool
-secondHalf = false ∷ false ∷ false ∷ false ∷ true ∷ true ∷ true ∷ true ∷ []
+    lost-on : (n p : ℕ) (reached : Bool) (rest : List Notice) (s : Stands)
+        → ((s′ : Stands) → s′ .0 ≡ s .0 + n → s′ .1 ≡ s .1 → RightFrom s′ rest → ⊥) → RightFrom s (slotNotices reached (quiet under p (replicate n false)) ++ rest) → ⊥
+    lost-on zero p reached rest s k h = k s (omega arith) refl h
+    lost-on (suc n) p reached rest s k h =
+        lost-on n (suc p) reached rest (suc (s .0), s .1, R .lost (s .2) .1) (λ s′ a b. k s′ (omega arith) b) (h .1)
 
-abbrev inDes : List ℕ → Session
-inDes v = record { vector = v; announced = true; slots = quiet (stream 2 keyABCD v) 0 secondHalf }
+    -- past its slots it leaves the frame as it came
+    one-more : (s : Stands) → s .1 ≤ s .0 → RightFrom s (slotNotices (counts c true) (quiet under 0 (true ∷ []))) → ⊥
+    one-more s l h =
+        let h′ = rw (le-ltb (s .0) (s .1) l) at (h .0) in
+        not-silent (word-speech 15 (came silence) silence (h′ .opened (h′ .handed (or-true (scrambles c)))))
 
-in-des-kept : (v : List ℕ) → VectorKept 2 v → SessionKept 2 keyABCD (inDes v)
-in-des-kept v k = record { vector = k; slots = quiet-kept (stream 2 keyABCD v) 0 secondHalf }
+    late : (m : ℕ) (s : Stands) → s .1 ≤ s .0 + 4 * m → RightFrom s (sessionNotices c (quietFor m)) → ⊥
+    late zero s l h = go (scrambles c) h
+      where
+        go : (t : Bool) → RightFrom s (startNotices (not t && true) seed ++ slotNotices (counts c true) (quiet under 0 (true ∷ []))) → ⊥
+        go true h = one-more s (omega arith) h
+        go false h = one-more (s .0, s .1, R .announce seed (s .2) .1) (omega arith) (h .1)
+    late (suc m) s l h =
+        lost-on (sessionSlots c) 0 (counts c false) (sessionNotices c (quietFor m)) s
+        (λ s′ a b. late m s′ (omega (arith, slots-some c r))) (rw and-false-r at h)
 
-abbrev announcing : List ℕ → Talk
-announcing w = record { cipher = 2; key = keyABCD; sessions = inDes seed ∷ inDes w ∷ [] }
+    -- whatever the number of slots, whatever it answers then, and whatever the receiver before
+    pub upTo-fails : MeetsIn c (upTo R first answer) → ⊥
+    upTo-fails m =
+        lost-on (sessionSlots c) 0 (counts c true) (sessionNotices c (quietFor (first c))) (0, first c, R .hear c 0 seed bookOfThree (R .idle) .1)
+        (λ s′ a b. late (first c) s′ (omega (arith, slots-some c r)))
+        (m (longTalk (suc (first c))) refl
+        (record { key = key-long c r; each = quietFor-each (suc (first c)); full = quietFor-full (suc (first c)) }) bookOfThree 0 (has-key c r) opening .1)
 
-module _ (w : List ℕ) (k : VectorKept 2 w) where
+  pub upToSlots-fails : (R : Receiver) (n : ℕ) (answer : ℕ → List ℕ → R .State → Answer) → MeetsIn c (upToSlots R n answer) → ⊥
+  upToSlots-fails R n = upTo-fails R (λ c. n)
+
+  pub upToSession-fails : (R : Receiver) (answer : ℕ → List ℕ → R .State → Answer) → MeetsIn c (upToSession R answer) → ⊥
+  upToSession-fails R = upTo-fails R sessionSlots
+
+-- ---- the announced vector, applied at once, with DES or AES
+
+module _ (c : ℕ) (r : (1 ≤ c) × (c ≤ 3)) (n : scrambles c ≡ false) (w : List ℕ) (k : VectorKept c w) where
+  eight : sessionSlots c ≡ 8
+  eight = by-range (λ c. scrambles c ≡ false → sessionSlots c ≡ 8) (λ e. absurd (true≢false e)) (λ e. refl) (λ e. refl) c r n
+
+  -- a session with the seed as its vector, in which w is announced, and the session of w
+  abbrev secondHalf : List Bool
+  secondHalf = false ∷ false ∷ false ∷ false ∷ true ∷ true ∷ true ∷ true ∷ []
+
+  abbrev half : List ℕ → Session
+  half v = record { vector = v; announced = true; slots = quiet (stream c (keyOf c) v) 0 secondHalf }
+
+  half-kept : (v : List ℕ) → VectorKept c v → SessionKept c (keyOf c) (half v)
+  half-kept v k = record { vector = k; slots = quiet-kept (stream c (keyOf c) v) 0 secondHalf }
+
+  abbrev announcing : Talk
+  announcing = record { cipher = c; key = keyOf c; sessions = half seed ∷ half w ∷ [] }
+
+  announcing-kept : Kept announcing
+  announcing-kept =
+      record { key = key-long c r; each = (half-kept seed (seed-kept c), (half-kept w k, tt)); full = (sym eight, omega (arith, eight)) }
+
   abbrev at : ℕ → Call
-  at = place bookOfTwo 2 0 keyABCD has-des (counts 2 true) w
+  at = place bookOfThree c 0 (keyOf c) (has-key c r) true w
 
   on-one : (p : ℕ) → p < 8 → lostOf (at p) .1 ≡ at (p + 1)
-  on-one p l = ap (λ (o : Answer × Call). o .1) (place-lost bookOfTwo 2 0 keyABCD has-des true w k p l)
+  on-one p l =
+      ap (λ (o : Answer × Call). o .1)
+      (rw (or-true (scrambles c)) at (place-lost bookOfThree c 0 (keyOf c) (has-key c r) true w k p (omega (arith, eight))))
 
-  four-on : fourOn (openOf noCall 2 0 w bookOfTwo .1) ≡ at 4
+  four-on : fourOn (openOf noCall c 0 w bookOfThree .1) ≡ at 4
   four-on =
-      ap (λ (o : Answer × Call). fourOn (o .1)) (place-opened bookOfTwo 2 0 keyABCD has-des w k)
+      ap (λ (o : Answer × Call). fourOn (o .1)) (rw (or-true (scrambles c)) at (place-opened bookOfThree c 0 (keyOf c) (has-key c r) w k))
       ∙ ap (λ (s : Call). lostOf (lostOf (lostOf s .1) .1) .1) (on-one 0 (omega arith))
       ∙ ap (λ (s : Call). lostOf (lostOf s .1) .1) (on-one 1 (omega arith))
       ∙ ap (λ (s : Call). lostOf s .1) (on-one 2 (omega arith)) ∙ on-one 3 (omega arith)
 
-  opens : (frame : List ℕ) → length frame ≡ 28 → voiceOf (at 4) 1 frame .0 ≡ Done
+  opens : (frame : List ℕ) → length frame ≡ 28 → voiceOf (at 4) 15 frame .0 ≡ Done
   opens frame l =
       ap (λ (o : Answer × (Call × List ℕ)). o .0)
-      (voice-heard (at 4) 1 frame (omega arith) l 2 _ 4 w (place-read bookOfTwo 2 0 keyABCD has-des true w k 4 (omega arith)))
+      (voice-heard (at 4) 15 frame (omega arith) l c _ 4 _
+      (rw (or-true (scrambles c)) at (place-read bookOfThree c 0 (keyOf c) (has-key c r) true w k 4 (omega (arith, eight)))))
 
   -- it hands out the rest of the session that it joined, which counts as not reached
-  pub atOnce-fails : Meets3 (atOnce w) → ⊥
+  pub atOnce-fails : MeetsIn c (atOnce w) → ⊥
   atOnce-fails m =
-      let kept : Kept (announcing w) = record { key = refl; each = (in-des-kept seed seed-kept, (in-des-kept w k, tt)); full = (refl, omega arith) } in
-      let came = turning (stream 2 keyABCD seed) 4 1 silence in
+      let came = turning (stream c (keyOf c) seed) 4 15 silence in
       let z : _≡_ {A = ℕ} 0 1 =
-      sym (ap numberOf (ap (λ (s : Call). voiceOf s 1 came .0) four-on ∙ opens came (protect-frame (ofSlot (stream 2 keyABCD seed) 4) 1 silence .long)))
-      ∙ m (announcing w) kept bookOfTwo 0 has-des (joining 0) .1 .0 .held refl .0 in
+      sym (ap numberOf (ap (λ (s : Call). voiceOf s 15 came .0) four-on ∙ opens came (protect-frame (ofSlot (stream c (keyOf c) seed) 4) 15 silence .long)))
+      ∙ m announcing refl announcing-kept bookOfThree 0 (has-key c r) (joining 0) .1 .0 .held (ap (λ (t : Bool). t || false) n) .0 in
       omega arith
 
 -- ---- senders: two slots of silence
+
+abbrev ks : ℕ → ℕ
+ks = stream 1 key0001 noVector
 
 abbrev pub twoSlots : Sending → Talk
 twoSlots send =

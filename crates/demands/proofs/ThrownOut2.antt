@@ -3,13 +3,13 @@
 use mathlib.Core.Path.{_≡_, refl, sym, ap, _∙_}
 use mathlib.Core.Bool.{Bool, true, false, not, or-true}
 use mathlib.Core.List.{List}
-use Prim.Native.Nat.{ℕ, _+_, _-_, _*_, _/_, _%_, _≤_, _<_}
+use Prim.Native.Nat.{ℕ, _+_, _-_, _*_, _≤_, _<_}
 use native.Mathlib.Omega.{arith}
-use lib.ListN.{length, replicate}
+use lib.ListN.{length}
 use borrow.Author.Tests.{eq-eqb, le-ltb}
 use Rattle.octets.specs.Tests.{pick, allBelow}
 use Rattle.octets.specs.Bits.{bit, flip, Octets}
-use Rattle.octets.proofs.TestLaws.{all-at, agree}
+use Rattle.octets.proofs.TestLaws.{agree}
 use Rattle.answers.specs.declared.Answer.{Answer}
 use Rattle.answers.specs.Numbers.{numberOf}
 use Rattle.ciphers.specs.Numbers.{sessionSlots}
@@ -29,9 +29,9 @@ use Rattle.demands.specs.Demand2.{OnSlot, OnMessage, Demand2}
 use Rattle.demands.specs.Others.{SameSpeech, Fixed, AsItCame, onlyMoves}
 use Rattle.demands.proofs.Zeros.{zeros-octets}
 use Rattle.demands.proofs.Standing.{slots-some, place-in, place-read, same-stream}
-use Rattle.demands.proofs.Samples.{silence, seed-kept, seed-octets}
+use Rattle.demands.proofs.Samples.{silence, loud, seed-kept, seed-octets}
 use Rattle.demands.proofs.SampleKeys.{keyOf, bookOfThree, has-key, key-long}
-use Rattle.demands.proofs.Ones.{last-some}
+use Rattle.demands.proofs.Ones.{all-words, unturned, last-some}
 
 -- where ours opens one frame it opens every other
 module _ (call : Call) (mask : ℕ) (f g : List ℕ) where
@@ -50,19 +50,12 @@ module _ (call : Call) (mask : ℕ) (f g : List ℕ) where
       ∙ ap numberOf (sym (same-answer (standing call)))
       ∙ ap (λ (o : Answer × (Call × List ℕ)). numberOf (o .0)) (voice-done stream call mask f n) ∙ z
 
--- every bit is 1
-abbrev loud : List ℕ
-loud = replicate 28 255
-
 first-bits : (w : ℕ) → w < 4 → (bit silence (56 * w + 0) ≡ 0) × (bit loud (56 * w + 0) ≡ 1)
 unfolding allBelow
 first-bits w l = (agree (λ w. bit silence (56 * w + 0)) (λ w. 0) 4 refl w l, agree (λ w. bit loud (56 * w + 0)) (λ w. 1) 4 refl w l)
 
 turned-apart : (a b k : ℕ) → a ≡ 0 → b ≡ 1 → flip a k ≡ flip b k → ⊥
 turned-apart a b k x y e = omega arith
-
-stays-zero : (a k : ℕ) → k < 2 → flip a k ≡ a → k ≡ 0
-stays-zero a k l e = omega arith
 
 module _ (voice : OnSlot) (send : OnMessage) where
   -- at any call and any mask with a word, where ours opens a frame f
@@ -83,16 +76,10 @@ module _ (voice : OnSlot) (send : OnMessage) where
   -- what is left as it came was not turned
   left-zeros : (call : Call) → numberOf (voiceOf call 15 silence .0) ≡ 0 → AsItCame voice call 15 → Demand2 voice send
       → (k : ℕ) → k < 196 → stream (call .cipher) (call .key) (call .vector) (196 * call .position + k) ≡ 0
-  unfolding allBelow
-  left-zeros call z left m k l =
+  left-zeros call z left m =
       let q = left silence z in
-      let lw : k / 49 < 4 = omega arith in
-      let lj : k % 49 < 49 = omega arith in
-      let h = all-at (has 15) 4 (k / 49) lw refl in
-      let e : 196 * call .position + 49 * (k / 49) + k % 49 ≡ 196 * call .position + k = omega arith in
-      rw e at
-      (stays-zero (bit silence (56 * (k / 49) + k % 49)) _ (bits-stream (call .cipher) (call .key) (call .vector) _)
-      (sym (m .voice call 15 silence .turned (q .0) (k / 49) (k % 49) lw lj h) ∙ q .1 (k / 49) (k % 49) lw lj h))
+      unturned (stream (call .cipher) (call .key) (call .vector)) (bits-stream (call .cipher) (call .key) (call .vector)) (call .position) silence
+      (λ w j lw lj. sym (m .voice call 15 silence .turned (q .0) w j lw lj (all-words w lw)) ∙ q .1 w j lw lj (all-words w lw))
 
   module _ (c : ℕ) (r : (1 ≤ c) × (c ≤ 3)) (v : List ℕ) (kept : VectorKept c v) (o : Octets v) where
     -- our receiver at the last slot of a session of this vector
@@ -126,5 +113,5 @@ module _ (voice : OnSlot) (send : OnMessage) where
 
 pub onlyMoves-fails-2 : (n : ℕ) → n < 8 → (send : OnMessage) → Demand2 (onlyMoves n) send → ⊥
 onlyMoves-fails-2 n l send =
-    leaves-fails-2 (onlyMoves n) send 2 (omega arith, omega arith) seed seed-kept seed-octets n l
+    leaves-fails-2 (onlyMoves n) send 2 (omega arith, omega arith) seed (seed-kept 2) seed-octets n l
     (λ call mask c v at frame z. rw (le-ltb (call .position) n at) (z, λ w j lw lj h. refl))

@@ -6,6 +6,7 @@ use mathlib.Core.List.{List}
 use Prim.Native.Nat.{ℕ, zero, suc, _+_, _*_, _/_, _%_, _<_}
 use lib.Dec.{ltb}
 use Rattle.octets.specs.Tests.{pick}
+use Rattle.octets.specs.Lists.{Each}
 use Rattle.octets.specs.Bits.{bit}
 use Rattle.answers.specs.declared.Answer.{Answer}
 use Rattle.answers.specs.Numbers.{numberOf}
@@ -17,7 +18,9 @@ use Rattle.voice.specs.Opening.{openOf}
 use Rattle.voice.specs.Slot.{lostOf, voiceOf}
 use Rattle.voice.specs.Vector.{announceOf}
 use Rattle.demands.specs.Demand2.{OnSlot}
-use Rattle.demands.specs.Log.{Receiver}
+use Rattle.demands.specs.Talk.{Talk, WayIn, Kept, HasKey}
+use Rattle.demands.specs.Log.{Receiver, talkLog}
+use Rattle.demands.specs.Demand3.{Right}
 
 -- two frames have the same speech, spare bits and other words aside
 abbrev pub SameSpeech : ℕ → List ℕ → List ℕ → Type 0
@@ -43,11 +46,21 @@ onlyMoves n call mask frame =
     let o = voiceOf call mask frame in
     pick (ltb (call .position) n) o (o .0, (o .1 .0, frame))
 
+-- ---- demand 3, of the calls of one cipher
+
+abbrev pub MeetsIn : ℕ → Receiver → Type 0
+MeetsIn c R = (t : Talk) → t .cipher ≡ c → Kept t → (b : List ℕ) (i : ℕ) → HasKey b (t .cipher) i (t .key) → (e : WayIn) → Each Right (talkLog R b i t e)
+
+-- a receiver whose answer 0 comes with the speech of `out` of what came
+abbrev pub Handing : Receiver → (List ℕ → List ℕ) → Type 0
+Handing R out = (mask : ℕ) (frame : List ℕ) (s : R .State) → numberOf (R .voice mask frame s .0) ≡ 0
+    → SameSpeech mask (R .voice mask frame s .1 .1) (out frame)
+
 -- ---- a receiver that is any other for its first slots, and then only moves its position
 
--- R for the first slots of a call, as many as `first` says for the cipher; then it answers a, leaves the frame as it came and moves on
-abbrev pub upTo : (ℕ → ℕ) → Answer → Receiver → Receiver
-upTo first a R =
+-- R for the first slots of a call, as many as `first` says for the cipher; then it answers anything, leaves the frame as it came and moves on
+abbrev pub upTo : (R : Receiver) → (ℕ → ℕ) → (ℕ → List ℕ → R .State → Answer) → Receiver
+upTo R first answer =
     record {
       -- slots passed, slots to pass, and R's own
       State = ℕ × ℕ × R .State;
@@ -57,18 +70,18 @@ upTo first a R =
       voice =
           λ mask frame s.
           let r = R .voice mask frame (s .2) in
-          pick (ltb (s .0) (s .1)) (r .0, ((suc (s .0), s .1, r .1 .0), r .1 .1)) (a, ((suc (s .0), s .1, R .lost (s .2) .1), frame));
+          pick (ltb (s .0) (s .1)) (r .0, ((suc (s .0), s .1, r .1 .0), r .1 .1)) (answer mask frame (s .2), ((suc (s .0), s .1, R .lost (s .2) .1), frame));
       lost = λ s. (R .lost (s .2) .0, (suc (s .0), s .1, R .lost (s .2) .1));
       announce = λ v s. (R .announce v (s .2) .0, (s .0, s .1, R .announce v (s .2) .1));
     }
 
 -- the first n slots
-abbrev pub upToSlots : ℕ → Answer → Receiver → Receiver
-upToSlots n = upTo (λ c. n)
+abbrev pub upToSlots : (R : Receiver) → ℕ → (ℕ → List ℕ → R .State → Answer) → Receiver
+upToSlots R n = upTo R (λ c. n)
 
 -- the first session
-abbrev pub upToSession : Answer → Receiver → Receiver
-upToSession = upTo sessionSlots
+abbrev pub upToSession : (R : Receiver) → (ℕ → List ℕ → R .State → Answer) → Receiver
+upToSession R = upTo R sessionSlots
 
 -- ---- version three: joining, it applies the announced vector w to the session in which it was sent, which is at its fifth slot
 
