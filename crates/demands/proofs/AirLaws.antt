@@ -8,8 +8,11 @@ use native.Mathlib.Omega.{arith}
 use Rattle.octets.specs.Bits.{bit, flip}
 use Rattle.octets.proofs.BitLaws.{bit-lt, flip-flip}
 use Rattle.voice.specs.Frame.{word, has, ofSlot, protect}
-use Rattle.voice.proofs.FrameLaws.{protect-bit, protect-frame, protect-stays, word-ext, keyBit-spare, keyBit-speech}
+use Rattle.voice.proofs.FrameLaws.{protect-bit, protect-frame, protect-stays, word-bit, word-ext, keyBit-spare, keyBit-speech}
 use Rattle.demands.specs.Talk.{Slot, OnAir, SlotKept}
+
+pub word-bits : (w : ℕ) (f g : List ℕ) → word w f ≡ word w g → (j : ℕ) → j < 56 → bit f (56 * w + j) ≡ bit g (56 * w + j)
+word-bits w f g e j l = sym (word-bit w f j l) ∙ ap (λ (xs : List ℕ). bit xs j) e ∙ word-bit w g j l
 
 sum : (a b n : ℕ) → a + b + n ≡ a + (b + n)
 sum a b n = omega arith

@@ -1,6 +1,6 @@
 -- Where a receiver stands after p slots of a session, and what each operation does there. Assumes nothing.
 use mathlib.Core.Path.{_≡_, refl, sym, ap, _∙_}
-use mathlib.Core.Bool.{Bool, true, false, _&&_, _||_, not, or-true}
+use mathlib.Core.Bool.{Bool, true, false, _&&_, _||_, not, or-true, true≢false}
 use mathlib.Core.List.{List}
 use Prim.Native.Nat.{ℕ, _+_, _*_, _≤_, _<_}
 use native.Mathlib.Omega.{arith}
@@ -67,6 +67,9 @@ module _ (b : List ℕ) (c i : ℕ) (key : List ℕ) (h : HasKey b c i key) wher
 
 pub slots-some : (c : ℕ) → (1 ≤ c) × (c ≤ 3) → superframeSlots ≤ sessionSlots c
 slots-some = by-range (λ n. superframeSlots ≤ sessionSlots n) (omega arith) (omega arith) (omega arith)
+
+pub eight-slots : (c : ℕ) → (1 ≤ c) × (c ≤ 3) → scrambles c ≡ false → sessionSlots c ≡ 8
+eight-slots = by-range (λ n. scrambles n ≡ false → sessionSlots n ≡ 8) (λ e. absurd (true≢false e)) (λ e. refl) (λ e. refl)
 
 pub closed-read : standing noCall ≡ closed
 closed-read = read-written closed refl closed-good

@@ -1,18 +1,17 @@
 -- Receivers that do not meet demand 3, already by the calls of any one cipher; and senders that do not keep its rules. Assumes nothing.
 use mathlib.Core.Path.{_≡_, refl, sym, ap, _∙_}
-use mathlib.Core.Bool.{Bool, true, false, _&&_, _||_, not, or-true, true≢false}
+use mathlib.Core.Bool.{Bool, true, false, _&&_, _||_, not, or-true}
 use mathlib.Core.List.{List, [], _∷_, _++_}
 use Prim.Native.Nat.{ℕ, zero, suc, _+_, _*_, _≤_, _<_}
 use native.Mathlib.Omega.{arith}
 use borrow.Author.Tests.{le-ltb}
 use lib.ListN.{length, replicate, length-replicate}
 use Rattle.octets.specs.Lists.{iterate, Each}
-use Rattle.octets.specs.Bits.{bit, octet, octetsFrom}
+use Rattle.octets.specs.Bits.{octet, octetsFrom}
 use Rattle.octets.proofs.TestLaws.{and-false-r}
 use Rattle.scramble.specs.Sequence.{keyNumber, stepped, P}
 use Rattle.ciphers.specs.Numbers.{sessionSlots}
 use Rattle.ciphers.specs.Keystream.{stream}
-use Rattle.ciphers.proofs.Cases.{by-range}
 use Rattle.ciphers.proofs.KeystreamLaws.{bits-stream}
 use Rattle.answers.specs.declared.Answer.{Answer}
 use Rattle.answers.specs.declared.Answer.the-variants.{Done}
@@ -23,7 +22,7 @@ use Rattle.session.specs.Session.{noVector, scrambles}
 use Rattle.voice.specs.Call.{noCall}
 use Rattle.voice.specs.Opening.{openOf}
 use Rattle.voice.specs.Slot.{lostOf, voiceOf}
-use Rattle.voice.proofs.FrameLaws.{protect-frame, word-bit}
+use Rattle.voice.proofs.FrameLaws.{protect-frame}
 use Rattle.voice.proofs.SlotSteps.{voice-heard}
 use Rattle.session.specs.Samples.{seed}
 use Rattle.demands.specs.Marked.{key0001}
@@ -32,7 +31,8 @@ use Rattle.demands.specs.Notices.{Notice, counts, slotNotices, startNoti
 use Rattle.demands.specs.Log.{Receiver, events}
 use Rattle.demands.specs.Demand3.{Right, Meets3}
 use Rattle.demands.specs.Others.{SameSpeech, MeetsIn, Handing, upTo, upToSlots, upToSession, fourOn, atOnce, Sending, turning, identity, restarting, saving}
-use Rattle.demands.proofs.Standing.{slots-some, place, place-read, place-lost, place-opened}
+use Rattle.demands.proofs.AirLaws.{word-bits}
+use Rattle.demands.proofs.Standing.{slots-some, eight-slots, place, place-read, place-lost, place-opened}
 use Rattle.demands.proofs.Samples.{silence, silence-frame, loud, loud-frame, saying, quiet, saying-kept, quiet-kept, quiet-long, no-vector-kept, seed-kept, seed-octets}
 use Rattle.demands.proofs.SampleKeys.{keyOf, bookOfThree, has-key, key-long}
 use Rattle.demands.proofs.Ones.{all-words, unturned, first-some}
@@ -40,10 +40,8 @@ use Rattle.demands.proofs.Ones.{all-words, unturned, first-some}
 pub meets-in : (c : ℕ) (R : Receiver) → Meets3 R → MeetsIn c R
 meets-in c R m t e = m t
 
--- words have their bits
 word-speech : (mask : ℕ) (f g : List ℕ) → ((w : ℕ) → w < 4 → has mask w ≡ true → word w f ≡ word w g) → SameSpeech mask f g
-word-speech mask f g h w j lw lj e =
-    sym (word-bit w f j (omega arith)) ∙ ap (λ (xs : List ℕ). bit xs j) (h w lw e) ∙ word-bit w g j (omega arith)
+word-speech mask f g h w j lw lj e = word-bits w f g (h w lw e) j (omega arith)
 
 module _ (c : ℕ) (r : (1 ≤ c) × (c ≤ 3)) where
   -- ---- one slot under the cipher's sample key
@@ -176,9 +174,6 @@ module _ (c : ℕ) (r : (1 ≤ c) × (c ≤ 3)) where
 -- ---- the announced vector, applied at once, with DES or AES
 
 module _ (c : ℕ) (r : (1 ≤ c) × (c ≤ 3)) (n : scrambles c ≡ false) (w : List ℕ) (k : VectorKept c w) where
-  eight : sessionSlots c ≡ 8
-  eight = by-range (λ c. scrambles c ≡ false → sessionSlots c ≡ 8) (λ e. absurd (true≢false e)) (λ e. refl) (λ e. refl) c r n
-
   -- a session with the seed as its vector, in which w is announced, and the session of w
   abbrev secondHalf : List Bool
   secondHalf = false ∷ false ∷ false ∷ false ∷ true ∷ true ∷ true ∷ true ∷ []
@@ -194,7 +189,7 @@ module _ (c : ℕ) (r : (1 ≤ c) × (c ≤ 3)) (n : scrambles c ≡ false) (w :
 
   announcing-kept : Kept announcing
   announcing-kept =
-      record { key = key-long c r; each = (half-kept seed (seed-kept c), (half-kept w k, tt)); full = (sym eight, omega (arith, eight)) }
+      record { key = key-long c r; each = (half-kept seed (seed-kept c), (half-kept w k, tt)); full = (sym (eight-slots c r n), omega (arith, eight-slots c r n)) }
 
   abbrev at : ℕ → Call
   at = place bookOfThree c 0 (keyOf c) (has-key c r) true w
@@ -202,7 +197,7 @@ module _ (c : ℕ) (r : (1 ≤ c) × (c ≤ 3)) (n : scrambles c ≡ false) (w :
   on-one : (p : ℕ) → p < 8 → lostOf (at p) .1 ≡ at (p + 1)
   on-one p l =
       ap (λ (o : Answer × Call). o .1)
-      (rw (or-true (scrambles c)) at (place-lost bookOfThree c 0 (keyOf c) (has-key c r) true w k p (omega (arith, eight))))
+      (rw (or-true (scrambles c)) at (place-lost bookOfThree c 0 (keyOf c) (has-key c r) true w k p (omega (arith, eight-slots c r n))))
 
   four-on : fourOn (openOf noCall c 0 w bookOfThree .1) ≡ at 4
   four-on =
@@ -215,7 +210,7 @@ module _ (c : ℕ) (r : (1 ≤ c) × (c ≤ 3)) (n : scrambles c ≡ false) (w :
   opens frame l =
       ap (λ (o : Answer × (Call × List ℕ)). o .0)
       (voice-heard (at 4) 15 frame (omega arith) l c _ 4 _
-      (rw (or-true (scrambles c)) at (place-read bookOfThree c 0 (keyOf c) (has-key c r) true w k 4 (omega (arith, eight)))))
+      (rw (or-true (scrambles c)) at (place-read bookOfThree c 0 (keyOf c) (has-key c r) true w k 4 (omega (arith, eight-slots c r n)))))
 
   -- it hands out the rest of the session that it joined, which counts as not reached
   pub atOnce-fails : MeetsIn c (atOnce w) → ⊥
