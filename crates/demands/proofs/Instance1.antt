@@ -35,7 +35,8 @@ use Rattle.demands.specs.Marked.{holding}
 use Rattle.demands.specs.Device.{Device, Open, Voice, callStep, OpenPacket, Message, packetStep, Operation, OfBook, OfCall, OfPacket, step, deviceAfter, history}
 use Rattle.demands.specs.Demand1.{WordsTurned, MessageTurned}
 use Rattle.demands.proofs.Meets1.{ours-meets-1}
-use Rattle.demands.proofs.Samples.{keyABCD, silence}
+use Rattle.demands.proofs.Samples.{silence}
+use Rattle.demands.proofs.SampleKeys.{keyABCD}
 
 -- ---- the key is loaded
 

@@ -9,6 +9,8 @@ pub mod ReceiverMeets
 pub mod LogComplete
 pub mod Settled
 pub mod Samples
+pub mod SampleKeys
+pub mod Ones
 pub mod ThrownOut
 pub mod Refusing
 pub mod SenderKeeps
@@ -23,5 +25,3 @@ pub mod Meets1
 pub mod ThrownOut1
 pub mod Instance1
 pub mod ThrownOut2
-pub mod SampleKeys
-pub mod Ones

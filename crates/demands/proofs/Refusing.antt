@@ -9,11 +9,11 @@ use Rattle.octets.specs.Lists.{Each}
 use Rattle.ciphers.specs.Keystream.{stream}
 use Rattle.answers.specs.Numbers.{numberOf}
 use Rattle.session.specs.Samples.{seed}
-use Rattle.demands.specs.Marked.{bookOfTwo}
 use Rattle.demands.specs.Talk.{Talk, WayIn, opening, joining, Kept}
 use Rattle.demands.specs.Log.{Receiver, talkLog}
 use Rattle.demands.specs.Demand3.{Right, Meets3}
-use Rattle.demands.proofs.Samples.{keyABCD, has-des, quiet, quiet-kept, seed-kept}
+use Rattle.demands.proofs.Samples.{quiet, quiet-kept, seed-kept}
+use Rattle.demands.proofs.SampleKeys.{keyABCD, bookOfThree, has-key}
 
 abbrev noneArrive : List Bool
 noneArrive = false ∷ false ∷ false ∷ false ∷ false ∷ false ∷ false ∷ false ∷ []
@@ -33,25 +33,25 @@ fading-kept : Kept fading
 fading-kept =
     record {
       key = refl;
-      each = (record { vector = seed-kept; slots = quiet-kept (stream 2 keyABCD seed) 0 noneArrive }, (record { vector = seed-kept; slots = tt }, tt));
+      each = (record { vector = seed-kept 2; slots = quiet-kept (stream 2 keyABCD seed) 0 noneArrive }, (record { vector = seed-kept 2; slots = tt }, tt));
       full = (refl, omega arith);
     }
 
 module _ (R : Receiver) (m : Meets3 R) where
-  right : (e : WayIn) → Each Right (talkLog R bookOfTwo 0 fading e)
-  right = m fading fading-kept bookOfTwo 0 has-des
+  right : (e : WayIn) → Each Right (talkLog R bookOfThree 0 fading e)
+  right = m fading fading-kept bookOfThree 0 (has-key 2 (omega arith, omega arith))
 
   abbrev joined : R .State
-  joined = R .join 2 0 bookOfTwo (R .idle) .1
+  joined = R .join 2 0 bookOfThree (R .idle) .1
 
   abbrev halfOn : R .State
   halfOn = R .lost (R .lost (R .lost (R .lost joined .1) .1) .1) .1
 
   pub never-heard-fails : ((c i : ℕ) (v b : List ℕ) (s : R .State) → 1 ≤ numberOf (R .hear c i v b s .0)) → ⊥
-  never-heard-fails n = omega (arith, right opening .0, n 2 0 seed bookOfTwo (R .idle))
+  never-heard-fails n = omega (arith, right opening .0, n 2 0 seed bookOfThree (R .idle))
 
   pub never-joined-fails : ((c i : ℕ) (b : List ℕ) (s : R .State) → 1 ≤ numberOf (R .join c i b s .0)) → ⊥
-  never-joined-fails n = omega (arith, right (joining 0) .0, n 2 0 bookOfTwo (R .idle))
+  never-joined-fails n = omega (arith, right (joining 0) .0, n 2 0 bookOfThree (R .idle))
 
   pub never-lost-fails : ((s : R .State) → 1 ≤ numberOf (R .lost s .0)) → ⊥
   never-lost-fails n = omega (arith, right (joining 0) .1 .0, n joined)

@@ -15,8 +15,11 @@ use Rattle.keybook.specs.Book as book
 use Rattle.session.specs.Samples.{scramble0001, desABCD}
 use Rattle.demands.specs.Marked.{key0001}
 use Rattle.demands.specs.Talk.{HasKey}
-use Rattle.demands.proofs.Samples.{keyABCD}
 use Rattle.demands.proofs.Zeros.{octets-by}
+
+-- DES key ABCDEF0123456789
+abbrev pub keyABCD : List ℕ
+keyABCD = 0xAB ∷ 0xCD ∷ 0xEF ∷ 0x01 ∷ 0x23 ∷ 0x45 ∷ 0x67 ∷ 0x89 ∷ []
 
 -- the AES key of FIPS 197's example C.3: 00, 01, .., 1F
 abbrev pub key1F : List ℕ

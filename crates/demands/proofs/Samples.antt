@@ -1,43 +1,20 @@
--- The book of two ready keys, and slots of silence, for the calls that show what is thrown out and what can be met. Assumes nothing.
+-- Slots of silence and the seed of example 4, for the calls that show what is thrown out and what can be met. Assumes nothing.
 use mathlib.Core.Path.{_≡_, refl, ap}
-use mathlib.Core.Bool.{Bool, true, true≢false}
+use mathlib.Core.Bool.{Bool, true≢false}
 use mathlib.Core.List.{List, [], _∷_}
 use Prim.Native.Nat.{ℕ, suc, _+_, _*_}
 use native.Mathlib.Omega.{arith}
 use lib.ListN.{length, replicate}
 use Rattle.demands.proofs.Zeros.{octets-by, zeros-octets}
-use Rattle.octets.specs.Tests.{allBelow, firstBelow}
+use Rattle.octets.specs.Tests.{allBelow}
 use Rattle.octets.specs.Lists.{allZero}
 use Rattle.octets.specs.Bits.{Octets}
-use Rattle.ciphers.specs.Keys.{oddOctet, scrambleKey, desKey, keyAllowed}
-use Rattle.keyentry.specs.Entry as entry
-use Rattle.keybook.specs.Book as book
 use Rattle.voice.specs.Frame.{IsFrame}
 use Rattle.voice.proofs.FrameLaws.{protect-frame}
 use Rattle.session.specs.Samples.{seed}
-use Rattle.demands.specs.Marked.{key0001, bookOfTwo}
-use Rattle.demands.specs.Talk.{Slot, SlotKept, SlotsKept, VectorKept, HasKey}
+use Rattle.demands.specs.Talk.{Slot, SlotKept, SlotsKept, VectorKept}
 use Rattle.demands.specs.Others.{Sending, turning}
 use Rattle.demands.proofs.AirLaws.{protected-air}
-
--- DES key ABCDEF0123456789
-abbrev pub keyABCD : List ℕ
-keyABCD = 0xAB ∷ 0xCD ∷ 0xEF ∷ 0x01 ∷ 0x23 ∷ 0x45 ∷ 0x67 ∷ 0x89 ∷ []
-
-two-good : book.goodBook bookOfTwo ≡ true
-unfolding book.goodBook book.apart book.findEntry book.entryOf allBelow firstBelow allZero entry.isFor entry.named entry.entryRight
-    entry.usedRight entry.readyRight entry.lacks keyAllowed scrambleKey desKey oddOctet
-two-good = refl
-
-pub has-scramble : HasKey bookOfTwo 1 0 key0001
-unfolding book.findEntry book.entryOf firstBelow entry.isFor
-has-scramble = record { good = two-good; there = refl; ready = refl; same = refl }
-
-pub has-des : HasKey bookOfTwo 2 0 keyABCD
-unfolding book.findEntry book.entryOf firstBelow entry.isFor
-has-des = record { good = two-good; there = refl; ready = refl; same = refl }
-
--- ---- silence
 
 abbrev pub silence : List ℕ
 silence = replicate 28 0

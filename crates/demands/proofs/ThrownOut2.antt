@@ -24,9 +24,11 @@ use Rattle.voice.proofs.SlotSteps.{voice-heard}
 use Rattle.session.specs.Session.{noVector, scrambles, sessionVector}
 use Rattle.session.specs.Ladder.{keyFor}
 use Rattle.session.specs.Samples.{seed}
+use Rattle.demands.specs.Marked.{scrambling}
 use Rattle.demands.specs.Talk.{VectorKept}
 use Rattle.demands.specs.Demand2.{OnSlot, OnMessage, Demand2}
-use Rattle.demands.specs.Others.{SameSpeech, Fixed, AsItCame, onlyMoves}
+use Rattle.demands.specs.Others.{SameSpeech, Fixed, AsItCame, fixing, onlyMoves}
+use Rattle.demands.proofs.MarkedVoice.{example-2}
 use Rattle.demands.proofs.Zeros.{zeros-octets}
 use Rattle.demands.proofs.Standing.{slots-some, place-in, place-read, same-stream}
 use Rattle.demands.proofs.Samples.{silence, loud, seed-kept, seed-octets}
@@ -110,6 +112,13 @@ module _ (voice : OnSlot) (send : OnMessage) where
         opened =
             ap (λ (a : Answer × (Call × List ℕ)). numberOf (a .0))
             (voice-heard last 15 silence (omega arith) refl c (keyFor bookOfThree c 0) (sessionSlots c - 1) (sessionVector c v) last-stands)
+
+-- ---- two of them
+
+pub fixing-fails-2 : (g : List ℕ) (send : OnMessage) → Demand2 (fixing g) send → ⊥
+fixing-fails-2 g send =
+    fixed-fails-2 (fixing g) send (scrambling 0) 3 0 (omega arith) refl silence (ap (λ (o : Answer × (Call × List ℕ)). numberOf (o .0)) example-2) g
+    (λ frame z. (z, λ w j lw lj h. refl))
 
 pub onlyMoves-fails-2 : (n : ℕ) → n < 8 → (send : OnMessage) → Demand2 (onlyMoves n) send → ⊥
 onlyMoves-fails-2 n l send =

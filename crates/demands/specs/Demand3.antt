@@ -28,8 +28,11 @@ Right (answered a) = numberOf a ≡ 0
 Right (arrived r) = RightSlot r
 
 -- one call of a sender that keeps the rules, a receiver with the same key, and either way in
+abbrev pub MeetsTalk : Receiver → Talk → Type 0
+MeetsTalk R t = Kept t → (b : List ℕ) (i : ℕ) → HasKey b (t .cipher) i (t .key) → (e : WayIn) → Each Right (talkLog R b i t e)
+
 abbrev pub Meets3 : Receiver → Type 0
-Meets3 R = (t : Talk) → Kept t → (b : List ℕ) (i : ℕ) → HasKey b (t .cipher) i (t .key) → (e : WayIn) → Each Right (talkLog R b i t e)
+Meets3 R = (t : Talk) → MeetsTalk R t
 
 abbrev pub ours : Receiver
 ours =

@@ -6,7 +6,6 @@ use mathlib.Core.List.{List}
 use Prim.Native.Nat.{ℕ, zero, suc, _+_, _*_, _/_, _%_, _<_}
 use lib.Dec.{ltb}
 use Rattle.octets.specs.Tests.{pick}
-use Rattle.octets.specs.Lists.{Each}
 use Rattle.octets.specs.Bits.{bit}
 use Rattle.answers.specs.declared.Answer.{Answer}
 use Rattle.answers.specs.Numbers.{numberOf}
@@ -18,9 +17,9 @@ use Rattle.voice.specs.Opening.{openOf}
 use Rattle.voice.specs.Slot.{lostOf, voiceOf}
 use Rattle.voice.specs.Vector.{announceOf}
 use Rattle.demands.specs.Demand2.{OnSlot}
-use Rattle.demands.specs.Talk.{Talk, WayIn, Kept, HasKey}
-use Rattle.demands.specs.Log.{Receiver, talkLog}
-use Rattle.demands.specs.Demand3.{Right}
+use Rattle.demands.specs.Talk.{Talk}
+use Rattle.demands.specs.Log.{Receiver}
+use Rattle.demands.specs.Demand3.{MeetsTalk}
 
 -- two frames have the same speech, spare bits and other words aside
 abbrev pub SameSpeech : ℕ → List ℕ → List ℕ → Type 0
@@ -40,6 +39,12 @@ Fixed voice call mask g = Leaving voice call mask (λ frame. g)
 abbrev pub AsItCame : OnSlot → Call → ℕ → Type 0
 AsItCame voice call mask = Leaving voice call mask (λ frame. frame)
 
+-- ours, but that it leaves one frame
+abbrev pub fixing : List ℕ → OnSlot
+fixing g call mask frame =
+    let o = voiceOf call mask frame in
+    (o .0, (o .1 .0, g))
+
 -- ours before slot n of each session, and then it only moves its position
 abbrev pub onlyMoves : ℕ → OnSlot
 onlyMoves n call mask frame =
@@ -49,7 +54,7 @@ onlyMoves n call mask frame =
 -- ---- demand 3, of the calls of one cipher
 
 abbrev pub MeetsIn : ℕ → Receiver → Type 0
-MeetsIn c R = (t : Talk) → t .cipher ≡ c → Kept t → (b : List ℕ) (i : ℕ) → HasKey b (t .cipher) i (t .key) → (e : WayIn) → Each Right (talkLog R b i t e)
+MeetsIn c R = (t : Talk) → t .cipher ≡ c → MeetsTalk R t
 
 -- a receiver whose answer 0 comes with the speech of `out` of what came
 abbrev pub Handing : Receiver → (List ℕ → List ℕ) → Type 0
