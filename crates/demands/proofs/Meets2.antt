@@ -22,7 +22,7 @@ use Rattle.data.proofs.PacketLaws.{open-kind}
 use Rattle.data.proofs.MessageBits as bits
 use Rattle.demands.specs.Demand2.{Keystreams, Demand2}
 
-pub keystreams : Keystreams
+keystreams : Keystreams
 unfolding stream feedback usedBlock aesVector
 keystreams = record { scramble-bit = λ key vector n. refl; des-bit = λ key vector n. refl; aes-bit = λ key vector n. refl }
 

@@ -2,6 +2,7 @@
 -- by the encipherment of zeros, which has a 1. Assumes nothing.
 use mathlib.Core.Path.{_≡_, refl, sym, ap, _∙_}
 use mathlib.Core.Bool.{true}
+use mathlib.Core.Logic.{inl, inr}
 use mathlib.Core.List.{List}
 use Prim.Native.Nat.{ℕ, zero, suc, _+_, _-_, _*_, _/_, _%_, _≤_, _<_}
 use native.Mathlib.Omega.{arith}
@@ -22,13 +23,13 @@ use Rattle.aes.proofs.ScheduleLaws.{octets-keyExpansion}
 use Rattle.generator.specs.Generator.{aesVector}
 use Rattle.generator.proofs.VectorLaws.{octets-aesVector}
 use Rattle.ciphers.specs.Numbers.{sessionSlots}
-use Rattle.ciphers.specs.Keystream.{stream}
+use Rattle.ciphers.specs.Keystream.{usedBlock, feedback, stream}
+use Rattle.ciphers.proofs.Running.{Wide, wide-bounds}
 use Rattle.ciphers.proofs.Cases.{by-range}
 use Rattle.voice.specs.Frame.{has}
 use Rattle.demands.specs.Marked.{key0001}
 use Rattle.demands.proofs.Zeros.{zeros-octets, zeros-bit}
 use Rattle.demands.proofs.SampleKeys.{keyABCD, key1F, keyOf, key1F-octets}
-use Rattle.demands.proofs.Meets2.{keystreams}
 
 -- ---- a slot that is left as it came has zeros for its keystream
 
@@ -60,78 +61,74 @@ unfolding field.sboxOf field.affine field.inverse field.squares field.mul field.
     aes.subWord aes.rconOf aes.cipher aes.keyExpansion aes.aes
 aes-zeros = refl
 
--- ---- 196 bits that have a whole block x, from bit s on, and two bits of its encipherment, are not all zeros
+-- ---- 196 bits that have a whole block, from bit s on, and two bits of the next, are not all zeros
 
-module _ (E : List ℕ → List ℕ) (n : ℕ) (one : bit (E (replicate n 0)) 1 ≡ 1) where
-  some-one : (x : List ℕ) → length x ≡ n → Octets x → (ks : ℕ → ℕ) (from s : ℕ) → from ≤ s → s + 8 * n + 1 < from + 196
-      → ((i : ℕ) → i < 8 * n → ks (s + i) ≡ bit x i) → ks (s + 8 * n + 1) ≡ bit (E x) 1 → ((k : ℕ) → k < 196 → ks (from + k) ≡ 0) → ⊥
-  some-one x l o ks from s a b bits next z =
-      let zeros : x ≡ replicate n 0 =
-      octets-ext x (replicate n 0) o (zeros-octets n) (l ∙ sym (length-replicate n 0))
-      (λ i h. sym (bits i (omega (arith, l))) ∙ at (s + i) (omega arith) (omega (arith, l)) ∙ sym (zeros-bit n i)) in
-      let q : _≡_ {A = ℕ} 1 0 = sym one ∙ ap (λ (y : List ℕ). bit (E y) 1) (sym zeros) ∙ sym next ∙ at (s + 8 * n + 1) (omega arith) b in
-      omega arith
+module _ (E : List ℕ → List ℕ) (n : ℕ) (wide : Wide n) (x : List ℕ) where
+  -- used block m
+  abbrev block : ℕ → List ℕ
+  block m = iterate E (suc (suc m)) x
+
+  block-bit : (m i k : ℕ) → i < 8 * n → k ≡ 8 * n * m + i → feedback E (8 * n) x k ≡ bit (block m) i
+  unfolding feedback usedBlock
+  block-bit m i k l e =
+      let q : k / (8 * n) + 2 ≡ suc (suc m) = go wide .0 in
+      let r : k % (8 * n) ≡ i = go wide .1 in
+      rw (q, r)
     where
-      at : (k : ℕ) → from ≤ k → k < from + 196 → ks k ≡ 0
-      at k f t =
-          let e : from + (k - from) ≡ k = omega arith in
-          rw e at (z (k - from) (omega arith))
+      go : Wide n → (k / (8 * n) + 2 ≡ suc (suc m)) × (k % (8 * n) ≡ i)
+      go (inl h) = let l′ = rw h at l in let e′ = rw h at e in rw h (omega arith, omega arith)
+      go (inr h) = let l′ = rw h at l in let e′ = rw h at e in rw h (omega arith, omega arith)
+
+  module _ (one : bit (E (replicate n 0)) 1 ≡ 1) (long : (y : List ℕ) → length (E y) ≡ n) (octets : (m : ℕ) → Octets (block m)) where
+    some-one : (from m : ℕ) → from ≤ 8 * n * m → 8 * n * suc m + 1 < from + 196 → ((k : ℕ) → k < 196 → feedback E (8 * n) x (from + k) ≡ 0) → ⊥
+    unfolding iterate
+    some-one from m a b z =
+        let next : 8 * n * suc m ≡ 8 * n * m + 8 * n = omega arith in
+        let l = long (iterate E (suc m) x) in
+        let zeros : block m ≡ replicate n 0 =
+        octets-ext (block m) (replicate n 0) (octets m) (zeros-octets n) (l ∙ sym (length-replicate n 0))
+        (λ i h.
+        let h′ : i < 8 * n = omega (arith, l) in
+        sym (block-bit m i (8 * n * m + i) h′ refl) ∙ at (8 * n * m + i) (omega arith) (omega arith) ∙ sym (zeros-bit n i)) in
+        let q : _≡_ {A = ℕ} 1 0 =
+        sym one ∙ ap (λ (y : List ℕ). bit (E y) 1) (sym zeros) ∙ sym (block-bit (suc m) 1 (8 * n * suc m + 1) (omega (arith, wide-bounds n wide)) refl)
+        ∙ at (8 * n * suc m + 1) (omega arith) b in
+        omega arith
+      where
+        at : (k : ℕ) → from ≤ k → k < from + 196 → feedback E (8 * n) x k ≡ 0
+        at k f t =
+            let e : from + (k - from) ≡ k = omega arith in
+            rw e at (z (k - from) (omega arith))
+
+-- ---- the first slot of a session, and the last
 
 -- P0 and P589 are 1
 scramble-some : (v : List ℕ) → (stream 1 key0001 v 0 ≡ 0 → ⊥) × (stream 1 key0001 v 589 ≡ 0 → ⊥)
 unfolding stream P iterate stepped keyNumber
 scramble-some v = (λ e. let z : _≡_ {A = ℕ} 1 0 = e in omega arith, λ e. let z : _≡_ {A = ℕ} 1 0 = e in omega arith)
 
--- ---- block m of a session
+module _ (v : List ℕ) (o : Octets v) where
+  abbrev pub Zeros : ℕ → ℕ → Type 0
+  Zeros from c = (k : ℕ) → k < 196 → stream c (keyOf c) v (from + k) ≡ 0
 
-module _ (v : List ℕ) where
-  abbrev desBlock : ℕ → List ℕ
-  desBlock m = iterate (des keyABCD) m v
+  des-some : (from m : ℕ) → from ≤ 64 * m → 64 * suc m + 1 < from + 196 → Zeros from 2 → ⊥
+  unfolding stream iterate
+  des-some = some-one (des keyABCD) 8 (inl refl) v des-zeros (length-des keyABCD) (λ m. octets-des keyABCD (iterate (des keyABCD) (suc m) v))
 
-  des-block : (m i k : ℕ) → i < 64 → k ≡ 64 * m + i → stream 2 keyABCD v k ≡ bit (desBlock (suc (suc m))) i
-  des-block m i k l e =
-      let q : k / 64 + 2 ≡ suc (suc m) = omega arith in
-      let r : k % 64 ≡ i = omega arith in
-      rw (q, r) at (keystreams .des-bit keyABCD v k)
+  aes-octets : (m : ℕ) → Octets (iterate (aes.aes key1F) m (aesVector v))
+  unfolding iterate aes.aes
+  aes-octets zero = octets-aesVector v o
+  aes-octets (suc m) = octets-cipher (aes.keyExpansion key1F) (iterate (aes.aes key1F) m (aesVector v)) (octets-keyExpansion key1F key1F-octets) (aes-octets m)
 
-  des-some : (from m : ℕ) → from ≤ 64 * m → 64 * m + 65 < from + 196 → ((k : ℕ) → k < 196 → stream 2 keyABCD v (from + k) ≡ 0) → ⊥
-  unfolding iterate
-  des-some from m a b =
-      some-one (des keyABCD) 8 des-zeros (desBlock (suc (suc m))) (length-des keyABCD (desBlock (suc m))) (octets-des keyABCD (desBlock (suc m)))
-      (stream 2 keyABCD v) from (64 * m) a (omega arith) (λ i l. des-block m i (64 * m + i) l refl) (des-block (suc m) 1 (64 * m + 64 + 1) (omega arith) (omega arith))
+  aes-some : (from m : ℕ) → from ≤ 128 * m → 128 * suc m + 1 < from + 196 → Zeros from 3 → ⊥
+  unfolding stream aes.aes
+  aes-some = some-one (aes.aes key1F) 16 (inr refl) (aesVector v) aes-zeros (length-cipher (aes.keyExpansion key1F)) (λ m. aes-octets (suc (suc m)))
 
-  abbrev aesBlock : ℕ → List ℕ
-  aesBlock m = iterate (aes.aes key1F) m (aesVector v)
+  pub first-some : (c : ℕ) → (1 ≤ c) × (c ≤ 3) → Zeros 0 c → ⊥
+  first-some =
+      by-range (λ c. Zeros 0 c → ⊥) (λ z. scramble-some v .0 (z 0 (omega arith))) (des-some 0 0 (omega arith) (omega arith)) (aes-some 0 0 (omega arith) (omega arith))
 
-  aes-block : (m i k : ℕ) → i < 128 → k ≡ 128 * m + i → stream 3 key1F v k ≡ bit (aesBlock (suc (suc m))) i
-  unfolding aesVector
-  aes-block m i k l e =
-      let q : k / 128 + 2 ≡ suc (suc m) = omega arith in
-      let r : k % 128 ≡ i = omega arith in
-      rw (q, r) at (keystreams .aes-bit key1F v k)
-
-  module _ (o : Octets v) where
-    aes-octets : (m : ℕ) → Octets (aesBlock m)
-    unfolding iterate aes.aes
-    aes-octets zero = octets-aesVector v o
-    aes-octets (suc m) = octets-cipher (aes.keyExpansion key1F) (aesBlock m) (octets-keyExpansion key1F key1F-octets) (aes-octets m)
-
-    aes-some : (from m : ℕ) → from ≤ 128 * m → 128 * m + 129 < from + 196 → ((k : ℕ) → k < 196 → stream 3 key1F v (from + k) ≡ 0) → ⊥
-    unfolding iterate aes.aes
-    aes-some from m a b =
-        some-one (aes.aes key1F) 16 aes-zeros (aesBlock (suc (suc m))) (length-cipher (aes.keyExpansion key1F) (aesBlock (suc m))) (aes-octets (suc (suc m)))
-        (stream 3 key1F v) from (128 * m) a (omega arith) (λ i l. aes-block m i (128 * m + i) l refl) (aes-block (suc m) 1 (128 * m + 128 + 1) (omega arith) (omega arith))
-
-    -- ---- the first slot of a session, and the last
-
-    abbrev pub Zeros : ℕ → ℕ → Type 0
-    Zeros p c = (k : ℕ) → k < 196 → stream c (keyOf c) v (196 * p + k) ≡ 0
-
-    pub first-some : (c : ℕ) → (1 ≤ c) × (c ≤ 3) → Zeros 0 c → ⊥
-    first-some =
-        by-range (λ c. Zeros 0 c → ⊥) (λ z. scramble-some v .0 (z 0 (omega arith))) (des-some 0 0 (omega arith) (omega arith)) (aes-some 0 0 (omega arith) (omega arith))
-
-    pub last-some : (c : ℕ) → (1 ≤ c) × (c ≤ 3) → Zeros (sessionSlots c - 1) c → ⊥
-    last-some =
-        by-range (λ c. Zeros (sessionSlots c - 1) c → ⊥) (λ z. scramble-some v .1 (z 1 (omega arith))) (des-some 1372 22 (omega arith) (omega arith))
-        (aes-some 1372 11 (omega arith) (omega arith))
+  pub last-some : (c : ℕ) → (1 ≤ c) × (c ≤ 3) → Zeros (196 * (sessionSlots c - 1)) c → ⊥
+  last-some =
+      by-range (λ c. Zeros (196 * (sessionSlots c - 1)) c → ⊥) (λ z. scramble-some v .1 (z 1 (omega arith))) (des-some 1372 22 (omega arith) (omega arith))
+      (aes-some 1372 11 (omega arith) (omega arith))
