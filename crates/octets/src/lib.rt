@@ -1,6 +1,6 @@
 // Octets and their bits, and a part of a lent buffer turned over by a stream of bits.
 ghost use mathlib.Core.Path.{_≡_};
-ghost use Prim.Native.Nat.{_+_, _-_, _*_, _/_, _%_, _^_, _<_};
+ghost use Prim.Native.Nat.{_+_, _-_, _*_, _/_, _%_, _^_, _≤_, _<_};
 ghost use lib.ListN.{length, getD};
 ghost use Rattle.octets.specs.Lists.{allZero};
 ghost use Rattle.octets.specs.Bits.{bit};
@@ -39,7 +39,7 @@ pub fn copy(src: &[u8], part: &mut [u8])
     }
 }
 
-// Octet i, or 0 past the end.
+// Octet i, or 0 past the end: a window may reach an octet further than the bits that count.
 fn octet_or_zero(octets: &[u8], i: usize) -> u8
     ensures { λ r. ⌜ r ≡ getD (now (octets .entry)) i 0 ⌝ }
 {
@@ -68,8 +68,9 @@ fn top(x: u8, n: usize) -> u8
     ((y >> low) << low) as u8
 }
 
-// Turns over the first `width` bits of a part by those of a stream from bit `from` on.
+// Turns over the first `width` bits of a part by those of a stream from bit `from` on, which reaches that far.
 pub fn turn(part: &mut [u8], width: usize, stream: &[u8], from: usize)
+    requires { ⌜ from + width ≤ 8 * length (now stream) ⌝ }
     ensures { λ _. ⌜ now (part .exit) ≡ turned width (λ n. bit (now (stream .entry)) (from + n)) (now (part .entry)) ⌝ }
 {
     let first = from / 8;

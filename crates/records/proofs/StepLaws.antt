@@ -15,18 +15,19 @@ use Rattle.answers.proofs.OutcomeLaws.{Refusal}
 use Rattle.session.specs.Session.{vectorOctets, scrambles}
 use Rattle.voice.specs.declared.call.Call.{Call}
 use Rattle.voice.specs.Call.{goodCall, standing, endOf}
-use Rattle.voice.specs.Frame.{frameOctets}
+use Rattle.voice.specs.Frame.{frameOctets, sessionOctets}
 use Rattle.voice.specs.Opening.{openOf, joinOf}
-use Rattle.voice.specs.Slot.{lostOf, voiceOf, voiceByOctets, withoutFrame, knows, sessionStreamOf}
+use Rattle.voice.specs.Slot.{lostOf, voiceBy, voiceOf, voiceByOctets, withoutFrame, knows, sessionStreamOf}
 use Rattle.voice.specs.Vector.{announceOf}
+use Rattle.voice.proofs.SlotLaws.{by-long}
 use Rattle.voice.proofs.SessionOnce.{knows-yes, voice-by-is-voice, session-made, session-kept, session-kept-lost, voice-unknown, voice-done-knows}
-use Rattle.voice.proofs.Settled.{voice-by-keeps}
+use Rattle.voice.proofs.Settled.{voice-by-octets-keeps}
 use Rattle.lines.specs.declared.record.Parsed.{Parsed}
 use Rattle.lines.specs.declared.record.Parsed.the-variants as code
 use Rattle.lines.specs.Record.{recordRoom, recordIn, countIn}
 use Rattle.records.specs.declared.step.Outcome.{Outcome}
 use Rattle.records.specs.Load.{loadOf}
-use Rattle.records.specs.Step.{Stepped, ofBook, ofCall, ofSlot, stepOf, sessionOctets, Cached, asStepped}
+use Rattle.records.specs.Step.{Stepped, ofBook, ofCall, ofSlot, stepOf, Cached, asStepped}
 
 -- ---- the session's octets
 
@@ -52,20 +53,25 @@ refused-cached c session {after = after} {o = o} h q keeps e s =
     }
 
 module _ (c : Call) (session : List ℕ) {held : Bool} (k : held ≡ knows (standing c)) (h : Cached held c session) (mask : ℕ) (frame : List ℕ) where
+  -- they are never too few
+  enough : voiceByOctets session c mask frame ≡ voiceBy (λ n k v. bit session) c mask frame
+  enough = by-long session c mask frame (omega (arith, h .long))
+
   -- a slot turned by them is the slot of the call
   pub voice-held : voiceByOctets session c mask frame ≡ voiceOf c mask frame
   voice-held = go (knows (standing c)) refl
     where
       go : (b : Bool) → knows (standing c) ≡ b → voiceByOctets session c mask frame ≡ voiceOf c mask frame
       go true e = voice-by-is-voice c session (h .holds (k ∙ e)) mask frame
-      go false e = voice-unknown (λ n k v. bit session) _ mask frame c e
+      go false e = enough ∙ voice-unknown (λ n k v. bit session) _ mask frame c e
 
   -- after a slot that is done, the call is in their session if it goes on
   pub voice-cached : {a : Answer} {after : Call} {f : List ℕ} {goes : Bool} → (a, (after, f)) ≡ voiceByOctets session c mask frame
       → isDone a ≡ true → (goes ≡ true → after .position ≡ 0 → scrambles (c .cipher) ≡ true) → Cached goes after session
   voice-cached {a} {after} {f} q d g =
-      let e : after ≡ voiceByOctets session c mask frame .1 .0 = ap (λ (o : Answer × (Call × List ℕ)). o .1 .0) q in
-      let done : isDone (voiceByOctets session c mask frame .0) ≡ true = sym (ap (λ (o : Answer × (Call × List ℕ)). isDone (o .0)) q) ∙ d in
+      let by : Answer × (Call × List ℕ) = voiceBy (λ n k v. bit session) c mask frame in
+      let e : after ≡ by .1 .0 = ap (λ (o : Answer × (Call × List ℕ)). o .1 .0) (q ∙ enough) in
+      let done : isDone (by .0) ≡ true = sym (ap (λ (o : Answer × (Call × List ℕ)). isDone (o .0)) (q ∙ enough)) ∙ d in
       record {
         long = h .long;
         holds = λ t.
@@ -77,7 +83,7 @@ module _ (c : Call) (session : List ℕ) {held : Bool} (k : held ≡ knows (stan
   -- after one that is refused, it is in the session that it was in
   pub voice-refused : {a : Answer} {call after : Call} {f : List ℕ} {stays : Bool} → (a, (call, f)) ≡ voiceByOctets session c mask frame → after ≡ call
       → (stays ≡ true → (held ≡ true) × Refusal a) → Cached stays after session
-  voice-refused q = refused-cached c session h (ap withoutFrame q) (λ r. ap (λ (o : Call × List ℕ). o .0) (voice-by-keeps c (λ n k v. bit session) mask frame r))
+  voice-refused q = refused-cached c session h (ap withoutFrame q) (λ r. ap (λ (o : Call × List ℕ). o .0) (voice-by-octets-keeps c session mask frame r))
 
 -- after a lost slot it is in their session if it goes on
 pub lost-cached : (c : Call) (session : List ℕ) {made goes : Bool} {a : Answer} {after : Call} → Cached made c session → (a, after) ≡ lostOf c

@@ -2,7 +2,7 @@
 use mathlib.Core.Path.{_≡_}
 use mathlib.Core.Bool.{Bool, true}
 use mathlib.Core.List.{List, []}
-use Prim.Native.Nat.{ℕ, _/_}
+use Prim.Native.Nat.{ℕ}
 use lib.ListN.{length}
 use Rattle.octets.specs.Tests.{pick}
 use Rattle.answers.specs.declared.Answer.{Answer}
@@ -11,7 +11,7 @@ use Rattle.answers.specs.declared.Answer.the-variants as answer
 use Rattle.voice.specs.declared.call.Call.{Call}
 use Rattle.voice.specs.Call.{endOf}
 use Rattle.voice.specs.Opening.{openOf, joinOf}
-use Rattle.voice.specs.Frame.{sessionBits}
+use Rattle.voice.specs.Frame.{sessionOctets}
 use Rattle.voice.specs.Slot.{lostOf, voiceOf, IsSession}
 use Rattle.voice.specs.Vector.{announceOf}
 use Rattle.lines.specs.Record.{Record, Load, Open, Join, Voice, Announce, Lost, End, Malformed}
@@ -46,10 +46,6 @@ stepOf End book call = ofCall book (endOf call)
 stepOf Malformed book call = ofCall book (answer.Malformed, call)
 
 -- ---- as the code has it
-
--- the octets that hold a session's keystream
-abbrev pub sessionOctets : ℕ
-sessionOctets = sessionBits / 8
 
 -- lent octets of a session, and whether they hold that of the call
 pub record Cached (made : Bool) (call : Call) (session : List ℕ) : Type 0 where

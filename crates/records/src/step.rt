@@ -20,16 +20,12 @@ use voice::call::Call;
 use voice::call::end;
 use voice::call::good_call;
 use voice::frame::FRAME_OCTETS;
-use voice::frame::SLOT_BITS;
 use voice::opening::join;
 use voice::opening::open;
 use voice::slot::lost;
 use voice::slot::session_stream;
 use voice::slot::voice_by;
 use voice::vector::announce;
-
-// The octets that hold a session's keystream: 8 slots of 196 bits.
-pub const SESSION_OCTETS: usize = 8 * SLOT_BITS / 8;
 
 // The answer, the call after it, how many octets of the frame are shown, and whether the lent session is the call's.
 pub struct Outcome {

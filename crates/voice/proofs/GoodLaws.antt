@@ -10,6 +10,7 @@ use borrow.Author.Tests.{le-leb, lt-ltb, ltb-true, ltb-false, eqb-true, not-fals
 use Rattle.octets.proofs.ListLaws.{zeros-are}
 use Rattle.octets.specs.Tests.{pick, allBelow}
 use Rattle.octets.specs.Lists.{allZero}
+use Rattle.octets.specs.Bits.{bit}
 use Rattle.octets.proofs.TestLaws.{and-left, every-at}
 use Rattle.ciphers.specs.Numbers.{sessionSlots}
 use Rattle.ciphers.specs.Keystream.{stream}
@@ -22,11 +23,11 @@ use Rattle.voice.specs.declared.call.Call.{Call}
 use Rattle.keyentry.specs.Entry.{keyRoom}
 use Rattle.session.specs.Session.{vectorOctets, noVector, scrambles, keyRight}
 use Rattle.voice.specs.Call.{vectorRight, closedTests, openTests, isClosed, isOpen, goodCall, noCall, Standing, closed, bad, sending, receiving, standing, written, isBad, receives, endRefusals, endOf}
-use Rattle.voice.specs.Slot.{goingOn, received, sent, slotOn, lostRefusals, lostOf, zeroAfter, zeroNext, voiceRefusals, voiceAfter, voiceBy, voiceOf}
+use Rattle.voice.specs.Slot.{goingOn, received, sent, slotOn, lostRefusals, lostOf, zeroAfter, zeroNext, voiceRefusals, voiceAfter, voiceBy, voiceOf, voiceByOctets}
 use Rattle.voice.specs.Vector.{awaits, told, announceRefusals, announceOf}
 use Rattle.session.proofs.SessionLaws.{no-vector-zero}
 use Rattle.voice.proofs.CallLaws.{open-place, open-key, open-vector, Stands, none, sender, receiver, good-stands, is-sender, is-receiver}
-use Rattle.voice.proofs.SlotLaws.{voice-moves}
+use Rattle.voice.proofs.SlotLaws.{voice-moves, by-lent}
 
 -- ---- written, then read
 
@@ -176,6 +177,10 @@ module _ (c : Call) (good : goodCall c ≡ true) where
   voice-by-good st mask frame =
       kept (λ (d : Call × List ℕ). d .0) (c, frame) (voiceRefusals (standing c) mask frame) (voiceAfter st mask frame (standing c)) good
       (λ n. ap goodCall (voice-moves st c mask frame (standing c)) ∙ slot-good c good (n .1 .1 .1 .1 .0))
+
+  pub voice-by-octets-good : (session : List ℕ) (mask : ℕ) (frame : List ℕ) → goodCall (voiceByOctets session c mask frame .1 .0) ≡ true
+  voice-by-octets-good session mask frame =
+      by-lent session c mask frame (λ o. goodCall (o .1 .0) ≡ true) good (voice-by-good (λ n k v. bit session) mask frame)
 
   pub voice-good : (mask : ℕ) (frame : List ℕ) → goodCall (voiceOf c mask frame .1 .0) ≡ true
   voice-good = voice-by-good stream

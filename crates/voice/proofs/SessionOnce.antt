@@ -12,7 +12,7 @@ use Rattle.octets.specs.Tests.{pick}
 use Rattle.octets.specs.Lists.{allZero}
 use Rattle.octets.specs.Bits.{bit, octetsFrom}
 use Rattle.octets.proofs.TestLaws.{every-at}
-use Rattle.octets.proofs.BitLaws.{bit-octetsFrom, octetsFrom-same}
+use Rattle.octets.proofs.BitLaws.{bit-octetsFrom, length-octetsFrom, octetsFrom-same}
 use Rattle.ciphers.specs.Numbers.{sessionSlots}
 use Rattle.ciphers.specs.Keystream.{stream}
 use Rattle.ciphers.proofs.NumberLaws.{slots-at-most, slot-ranged}
@@ -28,7 +28,7 @@ use Rattle.voice.specs.Call.{closedTests, isClosed, goodCall, Standing, 
 use Rattle.voice.specs.Slot.{goingOn, received, sent, slotOn, lostRefusals, lostOf, zeroNext, voiceRefusals, inSlot, voiceAfter, voiceBy, voiceOf, voiceByOctets, knows, streamInto, sessionStreamOf, IsSession}
 use Rattle.voice.proofs.FrameLaws.{protect-same}
 use Rattle.voice.proofs.CallLaws.{open-place, open-vector, Stands, none, sender, receiver, good-stands, stands-bad}
-use Rattle.voice.proofs.SlotLaws.{voice-moves}
+use Rattle.voice.proofs.SlotLaws.{voice-moves, by-long}
 use Rattle.voice.proofs.GoodLaws.{read-written, sender-known, slot-good, receiver-not-zero}
 
 -- ---- a slot rests on the bits of the call's own session
@@ -67,7 +67,7 @@ module _ (st su : ℕ → List ℕ → List ℕ → ℕ → ℕ) (c : Call)
 -- octets that hold the session turn every slot as the session does
 pub voice-by-is-voice : (c : Call) (session : List ℕ) → IsSession c session → (mask : ℕ) (frame : List ℕ)
     → voiceByOctets session c mask frame ≡ voiceOf c mask frame
-voice-by-is-voice c session i = voice-same (λ n k v. bit session) stream c (i .bits)
+voice-by-is-voice c session i mask frame = by-long session c mask frame (i .long) ∙ voice-same (λ n k v. bit session) stream c (i .bits) mask frame
 
 -- ---- a session made
 
@@ -158,6 +158,7 @@ module _ (c : Call) where
   session-made k out room =
       record {
         known = k;
+        long = rw (stream-made k out, length-octetsFrom (length out) (stream (c .cipher) (c .key) (c .vector))) (omega arith);
         bits = λ n l.
             ap (λ (xs : List ℕ). bit xs n) (stream-made k out)
             ∙ bit-octetsFrom (length out) (stream (c .cipher) (c .key) (c .vector)) (bits-stream (c .cipher) (c .key) (c .vector)) n (omega arith);
@@ -175,7 +176,7 @@ module _ (c : Call) (session : List ℕ) (i : IsSession c session) where
   held-as : (t : Standing) → isBad t ≡ false → goodCall (written t) ≡ true → knows t ≡ true
       → ((n : ℕ) → stream (written t .cipher) (written t .key) (written t .vector) n ≡ stream (c .cipher) (c .key) (c .vector) n)
       → IsSession (written t) session
-  held-as t b g k e = record { known = ap knows (read-written t b g) ∙ k; bits = λ n l. i .bits n l ∙ sym (e n) }
+  held-as t b g k e = record { known = ap knows (read-written t b g) ∙ k; long = i .long; bits = λ n l. i .bits n l ∙ sym (e n) }
 
   -- one slot on it is the same session, or the next one of scramble, whose bits are the same
   either-kept : (t : Bool) (on next : Standing) → (goodCall (written on) ≡ true → IsSession (written on) session)

@@ -1,10 +1,11 @@
 -- Each operation's statement settles its outcome: any two outcomes that meet it are equal. And a refusal, any answer but 0 and 1, changes
 -- nothing. Assumes nothing.
-use mathlib.Core.Path.{_≡_, ap, sym, _∙_}
+use mathlib.Core.Path.{_≡_, refl, ap, sym, _∙_}
 use mathlib.Core.Bool.{true}
 use mathlib.Core.List.{List}
 use Prim.Native.Nat.{ℕ}
 use native.Mathlib.Omega.{arith}
+use Rattle.octets.specs.Bits.{bit}
 use Rattle.answers.specs.declared.Answer.{Answer}
 use Rattle.answers.specs.declared.Answer.the-variants.{Done}
 use Rattle.answers.proofs.OutcomeLaws.{Refusal, keeps, one-outcome}
@@ -14,9 +15,9 @@ use Rattle.session.specs.Session.{sessionVector}
 use Rattle.session.specs.Ladder.{keyFor}
 use Rattle.voice.specs.Call.{closed, sending, receiving, standing, written, endRefusals, endOf}
 use Rattle.voice.specs.Opening.{joinRefusals, openRefusals, openOf, startOf, joined, joinOf}
-use Rattle.voice.specs.Slot.{slotOn, lostRefusals, lostOf, voiceRefusals, voiceAfter, voiceBy, voiceOf, sessionStreamOf}
+use Rattle.voice.specs.Slot.{slotOn, lostRefusals, lostOf, voiceRefusals, voiceAfter, voiceBy, voiceOf, voiceByOctets, sessionStreamOf}
 use Rattle.voice.specs.Vector.{told, announceRefusals, announceOf, following, nextRefusals, nextVectorOf}
-use Rattle.voice.proofs.SlotLaws.{voice-under-two}
+use Rattle.voice.proofs.SlotLaws.{voice-under-two, by-lent}
 
 -- ---- any two outcomes are equal
 
@@ -41,14 +42,17 @@ module _ (a b : Answer) (x y : Call) (c : Call) where
     one-start w = one-outcome a b x y
 
   module _ (mask : ℕ) (frame f g : List ℕ) where
-    pub one-voice-by : (st : ℕ → List ℕ → List ℕ → ℕ → ℕ) → (a, (x, f)) ≡ voiceBy st c mask frame → (b, (y, g)) ≡ voiceBy st c mask frame
-        → (a ≡ b) × (x ≡ y) × (f ≡ g)
-    one-voice-by st p q =
+    one-slot : {o : Answer × (Call × List ℕ)} → (a, (x, f)) ≡ o → (b, (y, g)) ≡ o → (a ≡ b) × (x ≡ y) × (f ≡ g)
+    one-slot p q =
         let o = one-outcome a b (x, f) (y, g) p q in
         (o .0, ap (λ (r : Call × List ℕ). r .0) (o .1), ap (λ (r : Call × List ℕ). r .1) (o .1))
 
     pub one-voice : (a, (x, f)) ≡ voiceOf c mask frame → (b, (y, g)) ≡ voiceOf c mask frame → (a ≡ b) × (x ≡ y) × (f ≡ g)
-    one-voice = one-voice-by stream
+    one-voice = one-slot
+
+    pub one-voice-by : (session : List ℕ) → (a, (x, f)) ≡ voiceByOctets session c mask frame → (b, (y, g)) ≡ voiceByOctets session c mask frame
+        → (a ≡ b) × (x ≡ y) × (f ≡ g)
+    one-voice-by session = one-slot
 
 pub one-next : (a b : Answer) (f g : List ℕ) (c : Call) (out : List ℕ) → (a, f) ≡ nextVectorOf c out → (b, g) ≡ nextVectorOf c out → (a ≡ b) × (f ≡ g)
 one-next a b f g c out = one-outcome a b f g
@@ -80,6 +84,11 @@ module _ (c : Call) where
   unfolding voiceBy
   voice-by-keeps st mask frame =
       keeps (c, frame) (voiceRefusals (standing c) mask frame) (voiceAfter st mask frame (standing c)) (voice-under-two st c mask frame (standing c))
+
+  pub voice-by-octets-keeps : (session : List ℕ) (mask : ℕ) (frame : List ℕ) → Refusal (voiceByOctets session c mask frame .0)
+      → voiceByOctets session c mask frame .1 ≡ (c, frame)
+  voice-by-octets-keeps session mask frame =
+      by-lent session c mask frame (λ o. Refusal (o .0) → o .1 ≡ (c, frame)) (λ r. refl) (voice-by-keeps (λ n k v. bit session) mask frame)
 
   pub voice-keeps : (mask : ℕ) (frame : List ℕ) → Refusal (voiceOf c mask frame .0) → voiceOf c mask frame .1 ≡ (c, frame)
   voice-keeps = voice-by-keeps stream

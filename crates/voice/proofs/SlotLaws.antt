@@ -6,23 +6,25 @@ use mathlib.Core.List.{List}
 use Prim.Native.Nat.{ℕ, _+_, _*_, _≤_, _<_}
 use native.Mathlib.Nat.{zero-add}
 use native.Mathlib.Omega.{arith}
+use lib.Dec.{ltb}
 use lib.ListN.{length}
-use borrow.Author.Tests.{eq-eqb, eqb-true, le-ltb, not-false}
+use borrow.Author.Tests.{eq-eqb, eqb-true, lt-ltb, le-ltb, not-false}
 use Rattle.ciphers.proofs.NumberLaws.{slots-at-most}
 use Rattle.ciphers.proofs.KeystreamLaws.{bits-stream}
+use Rattle.octets.specs.Tests.{pick}
 use Rattle.octets.specs.Bits.{bit, octetsFrom}
 use Rattle.octets.proofs.BitLaws.{bit-octetsFrom}
 use Rattle.ciphers.specs.Numbers.{sessionSlots}
 use Rattle.ciphers.specs.Keystream.{stream}
 use Rattle.answers.specs.declared.Answer.{Answer}
-use Rattle.answers.specs.declared.Answer.the-variants.{Done, Held}
+use Rattle.answers.specs.declared.Answer.the-variants.{Done, Held, WrongLength}
 use Rattle.answers.specs.Numbers.{numberOf}
 use Rattle.answers.specs.Outcomes.{Refusals, settled}
 use Rattle.answers.proofs.OutcomeLaws.{NoneHolds, none-settles, Refuses, answerAt, refused-at, Refusal, Among, by-refusals, around}
 use Rattle.voice.specs.declared.call.Call.{Call}
-use Rattle.voice.specs.Frame.{frameOctets, slotBits, ofSlot, protect}
+use Rattle.voice.specs.Frame.{frameOctets, slotBits, sessionOctets, ofSlot, protect}
 use Rattle.voice.specs.Call.{closedEnd, sendingEnd, receivingEnd, goodCall, Standing, closed, bad, sending, receiving, standing, written, stands}
-use Rattle.voice.specs.Slot.{slotOn, lostRefusals, lostOf, topMask, zeroAfter, zeroNext, voiceRefusals, inSlot, voiceAfter, voiceBy, voiceOf, withoutFrame}
+use Rattle.voice.specs.Slot.{slotOn, lostRefusals, lostOf, topMask, zeroAfter, zeroNext, voiceRefusals, inSlot, voiceAfter, voiceBy, voiceOf, voiceByOctets, withoutFrame}
 use Rattle.voice.proofs.FrameLaws.{protect-same}
 use Rattle.voice.proofs.CallLaws.{Stands, none, sender, receiver, good-stands, good-by, not-bad, stands-none, stands-some, unless-sender, is-sender, is-receiver, inside}
 
@@ -183,6 +185,31 @@ voice-beside st su c mask frame =
     same (sending n k p v) = refl
     same (receiving n k p true v) = refl
     same (receiving n k p false v) = refl
+
+-- ---- by lent octets
+
+module _ (session : List ℕ) (c : Call) (mask : ℕ) (frame : List ℕ) where
+  pub by-short : length session < sessionOctets → (WrongLength, (c, frame)) ≡ voiceByOctets session c mask frame
+  unfolding voiceByOctets
+  by-short l = rw (lt-ltb _ _ l)
+
+  pub by-long : sessionOctets ≤ length session → voiceByOctets session c mask frame ≡ voiceBy (λ n k v. bit session) c mask frame
+  unfolding voiceByOctets
+  by-long l = rw (le-ltb _ _ l)
+
+  -- what holds of 2 with all as it was, and of the slot by octets enough, holds of the outcome
+  pub by-lent : (P : Answer × (Call × List ℕ) → Type 0) → P (WrongLength, (c, frame)) → P (voiceBy (λ n k v. bit session) c mask frame)
+      → P (voiceByOctets session c mask frame)
+  unfolding voiceByOctets
+  by-lent P short long = go (ltb (length session) sessionOctets)
+    where
+      go : (t : Bool) → P (pick t (WrongLength, (c, frame)) (voiceBy (λ n k v. bit session) c mask frame))
+      go true = short
+      go false = long
+
+  -- any answer but 0: the frame is as it came
+  pub lent-stays : (numberOf (voiceByOctets session c mask frame .0) ≡ 0 → ⊥) → voiceByOctets session c mask frame .1 .1 ≡ frame
+  lent-stays = by-lent (λ o. (numberOf (o .0) ≡ 0 → ⊥) → o .1 .1 ≡ frame) (λ n. refl) (undone-stays (λ n k v. bit session) c mask frame)
 
 -- ---- as the code goes
 

@@ -33,6 +33,10 @@ slotBits = words * speechBits
 abbrev pub sessionBits : ℕ
 sessionBits = 8 * slotBits
 
+-- the octets that hold them
+abbrev pub sessionOctets : ℕ
+sessionOctets = sessionBits / 8
+
 -- 28 octets
 pub record IsFrame (frame : List ℕ) : Type 0 where
   pub long : length frame ≡ frameOctets

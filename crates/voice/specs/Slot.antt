@@ -2,7 +2,7 @@
 use mathlib.Core.Path.{_≡_}
 use mathlib.Core.List.{List, [], _∷_}
 use mathlib.Core.Bool.{Bool, true, false, not}
-use Prim.Native.Nat.{ℕ, _+_, _-_, _^_, _<_}
+use Prim.Native.Nat.{ℕ, _+_, _-_, _^_, _≤_, _<_}
 use lib.Dec.{ltb, leb, eqb}
 use lib.ListN.{length}
 use Rattle.octets.specs.Tests.{pick, every}
@@ -15,7 +15,7 @@ use Rattle.ciphers.specs.Numbers.{sessionSlots}
 use Rattle.ciphers.specs.Keystream.{stream}
 use Rattle.generator.specs.Generator.{nextVector}
 use Rattle.voice.specs.declared.call.Call.{Call}
-use Rattle.voice.specs.Frame.{words, frameOctets, sessionBits, ofSlot, protect}
+use Rattle.voice.specs.Frame.{words, frameOctets, sessionBits, sessionOctets, ofSlot, protect}
 use Rattle.session.specs.Session.{noVector, scrambles}
 use Rattle.voice.specs.Call.{Standing, closed, bad, sending, receiving, standing, written, isBad, stands, receives}
 
@@ -92,9 +92,10 @@ voiceBy st c mask frame = settled (c, frame) (voiceRefusals (standing c) mask fr
 abbrev pub voiceOf : Call → ℕ → List ℕ → Answer × (Call × List ℕ)
 voiceOf = voiceBy stream
 
--- by lent octets, whatever they hold
-abbrev pub voiceByOctets : List ℕ → Call → ℕ → List ℕ → Answer × (Call × List ℕ)
-voiceByOctets session = voiceBy (λ c k v. bit session)
+-- by lent octets, whatever they hold; fewer than a session's are 2, as a frame of another length is
+unfoldable pub voiceByOctets : List ℕ → Call → ℕ → List ℕ → Answer × (Call × List ℕ)
+voiceByOctets session c mask frame =
+    settled (c, frame) ((ltb (length session) sessionOctets, WrongLength) ∷ []) (voiceBy (λ n k v. bit session) c mask frame)
 
 -- an outcome, the frame aside
 abbrev pub withoutFrame : Answer × (Call × List ℕ) → Answer × Call
@@ -124,4 +125,5 @@ sessionStreamOf c out = streamInto out (standing c)
 -- octets that hold the keystream of the session that a call is in, all that its slots can take
 pub record IsSession (call : Call) (session : List ℕ) : Type 0 where
   pub known : knows (standing call) ≡ true
+  pub long : sessionOctets ≤ length session
   pub bits : (n : ℕ) → n < sessionBits → bit session n ≡ stream (call .cipher) (call .key) (call .vector) n

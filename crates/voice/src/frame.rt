@@ -1,9 +1,9 @@
 // A frame of four words of seven octets, each turned over where it stands.
 ghost use mathlib.Core.Path.{_≡_};
-ghost use Prim.Native.Nat.{_+_, _<_};
+ghost use Prim.Native.Nat.{_+_, _*_, _≤_, _<_};
 ghost use lib.ListN.{length};
 ghost use Rattle.octets.specs.Bits.{bit};
-ghost use Rattle.voice.specs.Frame.{frameOctets, words, sessionBits, protect, wordTurned};
+ghost use Rattle.voice.specs.Frame.{frameOctets, words, slotBits, sessionBits, protect, wordTurned};
 use octets::turn;
 
 pub const WORDS: usize = 4;
@@ -16,9 +16,12 @@ pub const FRAME_OCTETS: usize = WORDS * WORD_OCTETS;
 
 pub const SLOT_BITS: usize = WORDS * SPEECH_BITS;
 
+// The octets that hold a session's keystream: 8 slots of 196 bits.
+pub const SESSION_OCTETS: usize = 8 * SLOT_BITS / 8;
+
 // Word w, where the mask has it, turned by its bits of the slot, which stand in `stream` from bit `from` on.
 fn turn_word(frame: &mut [u8], mask: u8, w: usize, stream: &[u8], from: usize)
-    requires { ⌜ (length (now frame) ≡ frameOctets) × (w < words) × (from < sessionBits) ⌝ }
+    requires { ⌜ (length (now frame) ≡ frameOctets) × (w < words) × (from < sessionBits) × (from + slotBits ≤ 8 * length (now stream)) ⌝ }
     ensures { λ _. ⌜ now (frame .exit) ≡ wordTurned (λ n. bit (now (stream .entry)) (from + n)) mask w (now (frame .entry)) ⌝ }
 {
     if (mask >> w) % 2 != 1 {
@@ -35,7 +38,7 @@ fn turn_word(frame: &mut [u8], mask: u8, w: usize, stream: &[u8], from: usize)
 
 // The words of the mask turned by the slot's bits, which stand in `stream` from bit `from` on.
 pub fn turn_frame(frame: &mut [u8], mask: u8, stream: &[u8], from: usize)
-    requires { ⌜ (length (now frame) ≡ frameOctets) × (from < sessionBits) ⌝ }
+    requires { ⌜ (length (now frame) ≡ frameOctets) × (from < sessionBits) × (from + slotBits ≤ 8 * length (now stream)) ⌝ }
     ensures { λ _. ⌜ now (frame .exit) ≡ protect (λ n. bit (now (stream .entry)) (from + n)) mask (now (frame .entry)) ⌝ }
 {
     turn_word(frame, mask, 0, stream, from);

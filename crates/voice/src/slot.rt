@@ -15,6 +15,7 @@ use crate::call::SENDING;
 use crate::call::Stepped;
 use crate::call::good_call;
 use crate::frame::FRAME_OCTETS;
+use crate::frame::SESSION_OCTETS;
 use crate::frame::SLOT_BITS;
 use crate::frame::turn_frame;
 use answers::Answer;
@@ -231,10 +232,16 @@ pub fn voice(call: Call, mask: u8, frame: &mut [u8]) -> Stepped
 
 // ---- a session's keystream, made once
 
-// The same slot, turned by lent octets that hold the session's keystream. Where they hold less, what is missing turns nothing.
+// The same slot, turned by lent octets that hold the session's keystream. Fewer than a session's would leave speech in clear.
 pub fn voice_by(call: Call, mask: u8, frame: &mut [u8], session: &[u8]) -> Stepped
     ensures { λ r. ⌜ (r .answer, (r .call, now (frame .exit))) ≡ voiceByOctets (now (session .entry)) call mask (now (frame .entry)) ⌝ }
 {
+    if session.len() < SESSION_OCTETS {
+        return Stepped {
+            answer: Answer::WrongLength,
+            call,
+        };
+    }
     let stepped = step(call, mask, frame);
     let answer = stepped.answer;
     if answer.number() != 0 {

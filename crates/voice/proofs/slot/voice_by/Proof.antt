@@ -2,7 +2,7 @@
 use mathlib.Core.Path.{sym, _∙_}
 use native.Mathlib.Omega.{arith}
 use Rattle.ciphers.specs.Keystream.{stream}
-use Rattle.voice.proofs.SlotLaws.{by-octets, frame-stays, frame-turned, turned-long, turned-early}
+use Rattle.voice.proofs.SlotLaws.{by-octets, by-short, by-long, frame-stays, frame-turned, turned-long, turned-early}
 use borrow.Author.Needs.{needs}
 use Rattle.voice.proofs.slot.voice_by.Statement.{statement}
 use Rattle.voice.proofs.slot.voice_by.Tie as tie
@@ -11,12 +11,15 @@ pub voice-by-spec : {M : Type 1} → statement M
 voice-by-spec =
     tie.close
     (tie.spec
+    (λ c. by-short _ _ _ _ (c .if1 .taken))
     (λ c κs. search needs)
     (λ c κs. search needs)
     (λ c. search needs)
-    (λ c. frame-stays _ _ _ _ _ _ (c .before .before .step .ensures) (λ z. c .if1 .taken (c .before .number .ensures ∙ z)))
+    (λ c. frame-stays _ _ _ _ _ _ (c .before .before .step .ensures) (λ z. c .if2 .taken (c .before .number .ensures ∙ z)) ∙ sym (by-long _ _ _ _ (c .before .before .before .before .if1 .left)))
     (λ c κs. search needs)
     (λ c. search needs)
-    (λ c κs. let z = sym (c .before .before .before .number .ensures) ∙ c .before .before .if1 .left in (turned-long stream _ _ _ _ _ (c .before .before .before .before .step .ensures) z, omega (arith, turned-early stream _ _ _ _ _ (c .before .before .before .before .step .ensures) z, c .wide .ensures .0)))
+    (λ c κs. let z = sym (c .before .before .before .number .ensures) ∙ c .before .before .if2 .left in
+    let early = turned-early stream _ _ _ _ _ (c .before .before .before .before .step .ensures) z in
+    (turned-long stream _ _ _ _ _ (c .before .before .before .before .step .ensures) z, omega (arith, early, c .wide .ensures .0), omega (arith, early, c .wide .ensures .0, c .before .before .before .before .before .before .if1 .left)))
     (λ c. search needs)
-    (λ c. frame-turned _ _ _ _ _ _ (c .before .before .before .before .before .before .before .step .ensures) (sym (c .before .before .before .before .before .before .number .ensures) ∙ c .before .before .before .before .before .if1 .left) _ (by-octets (c .before .before .before .before .before .before .before .before .before .before .before .args .session .now) _ _ _ _ _ (c .before .before .before .wide .ensures .0) (c .before .before .turn-frame .ensures))))
+    (λ c. frame-turned _ _ _ _ _ _ (c .before .before .before .before .before .before .before .step .ensures) (sym (c .before .before .before .before .before .before .number .ensures) ∙ c .before .before .before .before .before .if2 .left) _ (by-octets (c .before .before .before .before .before .before .before .before .before .before .before .before .args .session .now) _ _ _ _ _ (c .before .before .before .wide .ensures .0) (c .before .before .turn-frame .ensures)) ∙ sym (by-long _ _ _ _ (c .before .before .before .before .before .before .before .before .before .if1 .left))))
