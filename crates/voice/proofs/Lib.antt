@@ -9,5 +9,6 @@ pub mod OpeningGood
 pub mod SlotSteps
 pub mod Settled
 pub mod VoiceBits
+pub mod Exactly
 pub mod SessionOnce
 pub mod Examples
