@@ -5,7 +5,8 @@ use native.Mathlib.Omega.{arith}
 use mathlib.Core.Logic.{_⊎_, inl, inr}
 use mathlib.Core.Bool.{Bool, true, false, _&&_, not, true≢false}
 use mathlib.Core.List.{[], _∷_, _++_, append-nil}
-use borrow.Author.Tests.{not-true, eq-eqb, ne-eqb}
+use lib.Dec.{leb}
+use borrow.Author.Tests.{not-true, eq-eqb, ne-eqb, leb-true}
 use Rattle.octets.specs.Tests.{pick}
 use Rattle.octets.proofs.TestLaws.{and-left, and-right}
 use Rattle.answers.specs.declared.Answer.{Answer}
@@ -51,6 +52,15 @@ pub among-not-done : (a : Answer) (rs : Refusals) → neverDone rs ≡ true → 
 among-not-done a (r ∷ rs) n (inl e) = ap isDone (sym e) ∙ not-true (isDone (r .1)) (and-left (not (isDone (r .1))) (neverDone rs) n)
 among-not-done a (r ∷ rs) n (inr m) = among-not-done a rs (and-right (not (isDone (r .1))) (neverDone rs) n) m
 
+-- every refusal is 2 or more
+abbrev pub fromTwo : Refusals → Bool
+fromTwo [] = true
+fromTwo (r ∷ rs) = leb 2 (numberOf (r .1)) && fromTwo rs
+
+pub among-refuses : (a : Answer) (rs : Refusals) → fromTwo rs ≡ true → Among a rs → Refusal a
+among-refuses a (r ∷ rs) t (inl e) = rw (← e) (leb-true 2 (numberOf (r .1)) (and-left (leb 2 (numberOf (r .1))) (fromTwo rs) t))
+among-refuses a (r ∷ rs) t (inr m) = among-refuses a rs (and-right (leb 2 (numberOf (r .1))) (fromTwo rs) t) m
+
 module _ {S : Type 0} where
   -- what holds of each refusal, and of the last answer where no test holds, holds of the outcome
   pub by-refusals : (P : Answer × S → Type 0) (before : S) (rs : Refusals) (last : Answer × S)
@@ -72,6 +82,12 @@ module _ {S : Type 0} where
   pub keeps : (before : S) (rs : Refusals) (last : Answer × S) → numberOf (last .0) < 2
       → Refusal (settled before rs last .0) → settled before rs last .1 ≡ before
   keeps before rs last l = by-refusals (λ o. Refusal (o .0) → o .1 ≡ before) before rs last (λ a m h. refl) (λ n h. absurd (omega arith))
+
+  -- where some test holds, whichever, all is refused and stays as it was
+  pub some-refuses : (before : S) (rs : Refusals) (last : Answer × S) → fromTwo rs ≡ true → (NoneHolds rs → ⊥)
+      → Refusal (settled before rs last .0) × (settled before rs last .1 ≡ before)
+  some-refuses before rs last t some =
+      by-refusals (λ o. Refusal (o .0) × (o .1 ≡ before)) before rs last (λ a m. (among-refuses a rs t m, refl)) (λ n. absurd (some n))
 
   -- an outcome settles both the answer and what is left: any two that meet one equation are equal
   pub one-outcome : {o : Answer × S} (a b : Answer) (x y : S) → (a, x) ≡ o → (b, y) ≡ o → (a ≡ b) × (x ≡ y)

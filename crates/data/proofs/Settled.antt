@@ -1,17 +1,19 @@
 -- Each operation's statement settles its outcome: any two outcomes that meet it are equal. And a refusal, any answer but 0, changes
 -- nothing. Assumes nothing.
-use mathlib.Core.Path.{_≡_, ap}
+use mathlib.Core.Path.{_≡_, refl, sym, ap, _∙_}
+use mathlib.Core.Bool.{false, not, true≢false}
 use mathlib.Core.List.{List}
 use Prim.Native.Nat.{ℕ}
 use native.Mathlib.Omega.{arith}
 use Rattle.answers.specs.declared.Answer.{Answer}
 use Rattle.answers.specs.declared.Answer.the-variants.{Done}
-use Rattle.answers.proofs.OutcomeLaws.{Refusal, keeps, one-outcome}
-use Rattle.session.specs.Ladder.{keyFor}
+use Rattle.answers.proofs.OutcomeLaws.{Refusal, keeps, some-refuses, one-outcome}
+use Rattle.session.specs.Ladder.{keyFor, keyRefusals, vectorRefusals}
 use Rattle.data.specs.declared.packet.Packet.{Packet}
-use Rattle.data.specs.Packet.{noPacket, endRefusals, endOf}
+use Rattle.data.specs.Packet.{isClosed, noPacket, endRefusals, endOf}
 use Rattle.data.specs.Opening.{openRefusals, opened, openOf}
 use Rattle.data.specs.Message.{counted, lostRefusals, lostOf, messageRefusals, messageTurned, messageOf}
+use Rattle.data.proofs.PacketLaws.{not-closed}
 
 -- ---- any two outcomes are equal
 
@@ -48,3 +50,12 @@ module _ (p : Packet) where
   pub message-keeps : (message : List ℕ) → Refusal (messageOf p message .0) → messageOf p message .1 ≡ (p, message)
   unfolding messageOf
   message-keeps message = keeps (p, message) (messageRefusals p message) (Done, (counted p, messageTurned p message)) (omega arith)
+
+-- ---- while a packet stands
+
+-- nothing opens another
+pub open-busy : (p : Packet) → (p .kind ≡ 0 → ⊥) → (kind c i : ℕ) (w b : List ℕ) → Refusal (openOf p kind c i w b .0) × (openOf p kind c i w b .1 ≡ p)
+unfolding openOf openRefusals vectorRefusals keyRefusals
+open-busy p busy kind c i w b =
+    some-refuses p (openRefusals p kind c i w b) (Done, opened kind c w (keyFor b c i)) refl
+    (λ n. let closed : not (isClosed p) ≡ false = search n in true≢false (sym (ap not (not-closed p busy)) ∙ closed))

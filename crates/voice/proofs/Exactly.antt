@@ -1,6 +1,6 @@
--- When a slot is done or held, and when an announcement is taken, by the struct's own fields: in both directions. Assumes nothing.
+-- When a slot is done or held, and when an announcement is taken, by the struct's own fields: in both directions. And nothing opens a call that
+-- stands. Assumes nothing.
 use mathlib.Core.Path.{_≡_, refl, sym, ap, _∙_}
-use mathlib.Core.Logic.{inl, inr}
 use mathlib.Core.Bool.{Bool, true, false, not, true≢false}
 use mathlib.Core.List.{List}
 use Prim.Native.Nat.{ℕ, _≤_, _<_}
@@ -15,14 +15,16 @@ use Rattle.ciphers.specs.Keystream.{stream}
 use Rattle.answers.specs.declared.Answer.{Answer}
 use Rattle.answers.specs.declared.Answer.the-variants.{Done}
 use Rattle.answers.specs.Numbers.{numberOf}
-use Rattle.answers.proofs.OutcomeLaws.{NoneHolds, Among, Refusal, by-refusals}
+use Rattle.answers.proofs.OutcomeLaws.{NoneHolds, Refusal, fromTwo, among-refuses, by-refusals, some-refuses}
 use Rattle.session.specs.Session.{vectorOctets, scrambles}
+use Rattle.session.specs.Ladder.{keyFor, keyRefusals, vectorRefusals}
 use Rattle.voice.specs.declared.call.Call.{Call}
 use Rattle.voice.specs.Frame.{frameOctets}
-use Rattle.voice.specs.Call.{closedEnd, sendingEnd, receivingEnd, goodCall, standing, written}
+use Rattle.voice.specs.Call.{closedEnd, sendingEnd, receivingEnd, goodCall, standing, written, isBad, stands}
+use Rattle.voice.specs.Opening.{joinRefusals, openRefusals, begun, begunOf, openOf, startOf, joined, joinOf}
 use Rattle.voice.specs.Slot.{topMask, zeroAfter, voiceRefusals, voiceOf}
 use Rattle.voice.specs.Vector.{awaits, told, announceRefusals, announceOf}
-use Rattle.voice.proofs.CallLaws.{open-vector, Stands, none, sender, receiver, good-stands, good-by, not-bad, is-receiver}
+use Rattle.voice.proofs.CallLaws.{open-vector, Stands, none, sender, receiver, good-stands, good-by, not-bad, stands-some, is-receiver}
 use Rattle.voice.proofs.SlotLaws.{zero-sender, none-long, none-good, none-open, voice-taken, answer-sent, answer-heard, answer-held}
 use Rattle.voice.proofs.VectorLaws.{announce-done}
 use Rattle.voice.proofs.GoodLaws.{sender-known}
@@ -140,27 +142,45 @@ module _ (c : Call) (w : List ℕ) where
             given = n .1 .1 .1 .0;
           }
 
-  refuses-from-two : (a : Answer) → Among a (announceRefusals (standing c) w) → Refusal a
+  from-two : fromTwo (announceRefusals (standing c) w) ≡ true
   unfolding announceRefusals
-  refuses-from-two a (inl e) = rw (← e) (omega arith)
-  refuses-from-two a (inr (inl e)) = rw (← e) (omega arith)
-  refuses-from-two a (inr (inr (inl e))) = rw (← e) (omega arith)
-  refuses-from-two a (inr (inr (inr (inl e)))) = rw (← e) (omega arith)
-
-  -- what holds of every refusal, 2 and up, and of an announcement that is taken, holds of the outcome
-  by-announce : (P : Answer × Call → Type 0) → ((a : Answer) → Refusal a → P (a, c)) → (Timely c w → P (Done, written (told w (standing c))))
-      → P (announceOf c w)
-  unfolding announceOf
-  by-announce P f g =
-      by-refusals P c (announceRefusals (standing c) w) (Done, written (told w (standing c))) (λ a m. f a (refuses-from-two a m)) (λ n. g (timely n))
+  from-two = refl
 
   pub announced-exactly : (numberOf (announceOf c w .0) ≡ 0 → Timely c w) × (Timely c w → numberOf (announceOf c w .0) ≡ 0)
-  unfolding announceRefusals
+  unfolding announceOf announceRefusals
   announced-exactly = (
-    by-announce (λ o. numberOf (o .0) ≡ 0 → Timely c w) (λ a r z. absurd (omega arith)) (λ t z. t),
+    by-refusals (λ o. numberOf (o .0) ≡ 0 → Timely c w) c (announceRefusals (standing c) w) (Done, written (told w (standing c)))
+        (λ a m z. absurd (omega (arith, among-refuses a (announceRefusals (standing c) w) from-two m))) (λ n z. timely n),
     λ t. ap (λ (o : Answer × Call). numberOf (o .0)) (sym (announce-done c w (ap not (eq-eqb _ _ (t .long)), (not-bad c (t .good), (ap not (awaited t), (t .given, tt)))))),
   )
 
   -- at any position but 0 no announcement is taken, and the call stays as it was
   pub untimely : (c .position ≡ 0 → ⊥) → Refusal (announceOf c w .0) × (announceOf c w .1 ≡ c)
-  untimely p = by-announce (λ o. Refusal (o .0) × (o .1 ≡ c)) (λ a r. (r, refl)) (λ t. absurd (p (t .starts)))
+  unfolding announceOf
+  untimely p = some-refuses c (announceRefusals (standing c) w) (Done, written (told w (standing c))) from-two (λ n. p (timely n .starts))
+
+-- ---- while a call stands
+
+module _ (c : Call) (busy : c .end ≡ closedEnd → ⊥) (n i : ℕ) (b : List ℕ) where
+  -- a call that has an end is bad or stands
+  no-busy : isBad (standing c) ≡ false → stands (standing c) ≡ false → ⊥
+  no-busy g e = true≢false (ap not (sym e) ∙ stands-some c (good-by c g) busy)
+
+  pub join-busy : Refusal (joinOf c n i b .0) × (joinOf c n i b .1 ≡ c)
+  unfolding joinOf joinRefusals keyRefusals
+  join-busy =
+      some-refuses c (joinRefusals (standing c) n i b) (Done, written (joined n (keyFor b n i))) refl (λ h. no-busy (search h) (search h))
+
+  module _ (w : List ℕ) where
+    begin-busy : (end : ℕ) → Refusal (begunOf end c n i w b .0) × (begunOf end c n i w b .1 ≡ c)
+    unfolding openRefusals vectorRefusals keyRefusals
+    begin-busy end =
+        some-refuses c (openRefusals (standing c) n i w b) (Done, begun end n w (keyFor b n i)) refl (λ h. no-busy (search h) (search h))
+
+    pub open-busy : Refusal (openOf c n i w b .0) × (openOf c n i w b .1 ≡ c)
+    unfolding openOf
+    open-busy = begin-busy receivingEnd
+
+    pub start-busy : Refusal (startOf c n i w b .0) × (startOf c n i w b .1 ≡ c)
+    unfolding startOf
+    start-busy = begin-busy sendingEnd

@@ -1,6 +1,5 @@
 -- Slots of a call, as the code goes through them. Assumes nothing.
 use mathlib.Core.Path.{_≡_, refl, sym, ap, _∙_}
-use mathlib.Core.Logic.{inl, inr}
 use mathlib.Core.Bool.{Bool, true, false, not, true≢false}
 use mathlib.Core.List.{List}
 use Prim.Native.Nat.{ℕ, _+_, _*_, _≤_, _<_}
@@ -20,7 +19,7 @@ use Rattle.answers.specs.declared.Answer.{Answer}
 use Rattle.answers.specs.declared.Answer.the-variants.{Done, Held, WrongLength}
 use Rattle.answers.specs.Numbers.{numberOf}
 use Rattle.answers.specs.Outcomes.{Refusals, settled}
-use Rattle.answers.proofs.OutcomeLaws.{NoneHolds, none-settles, Refuses, answerAt, refused-at, Refusal, Among, by-refusals, around}
+use Rattle.answers.proofs.OutcomeLaws.{NoneHolds, none-settles, Refuses, answerAt, refused-at, Refusal, fromTwo, among-refuses, by-refusals, around}
 use Rattle.voice.specs.declared.call.Call.{Call}
 use Rattle.voice.specs.Frame.{frameOctets, slotBits, sessionOctets, ofSlot, protect}
 use Rattle.voice.specs.Call.{closedEnd, sendingEnd, receivingEnd, goodCall, Standing, closed, bad, sending, receiving, standing, written, stands}
@@ -64,13 +63,9 @@ module _ (c : Call) (good : goodCall c ≡ true) where
 
 module _ (c : Call) (mask : ℕ) (frame : List ℕ) where
   -- no refusal is 0 or 1
-  refuses-from-two : (a : Answer) → Among a (voiceRefusals (standing c) mask frame) → Refusal a
+  from-two : fromTwo (voiceRefusals (standing c) mask frame) ≡ true
   unfolding voiceRefusals
-  refuses-from-two a (inl e) = rw (← e) (omega arith)
-  refuses-from-two a (inr (inl e)) = rw (← e) (omega arith)
-  refuses-from-two a (inr (inr (inl e))) = rw (← e) (omega arith)
-  refuses-from-two a (inr (inr (inr (inl e)))) = rw (← e) (omega arith)
-  refuses-from-two a (inr (inr (inr (inr (inl e))))) = rw (← e) (omega arith)
+  from-two = refl
 
   module _ (n : NoneHolds (voiceRefusals (standing c) mask frame)) where
     pub none-long : length frame ≡ frameOctets
@@ -106,7 +101,7 @@ module _ (st : ℕ → List ℕ → List ℕ → ℕ → ℕ) (c : Call) (mask :
   unfolding voiceBy
   by-voice P f =
       by-refusals P (c, frame) (voiceRefusals (standing c) mask frame) (voiceAfter st mask frame (standing c))
-      (λ a m. f a (refuses-from-two c mask frame a m))
+      (λ a m. f a (among-refuses a (voiceRefusals (standing c) mask frame) (from-two c mask frame) m))
 
   -- a slot that is answered 0 or 1 is refused by nothing
   pub voice-taken : numberOf (voiceBy st c mask frame .0) < 2 → NoneHolds (voiceRefusals (standing c) mask frame)

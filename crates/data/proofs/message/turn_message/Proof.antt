@@ -27,6 +27,6 @@ turn-message-spec =
     (λ c. search needs)
     (λ c. omega (arith, part-ends _ (now (c .before .before .before .before .before .before .before .before .args .message)) (c .before .before .before .before .before .before .before .before .pre .0) (c .before .before .before .before .before .before .protected-octets .ensures) (c .before .before .before .before .before .before .before .before .pre .2)))
     (λ c. own-length _ _ (replicate 20 0) _ (part-most _ (c .before .before .before .before .before .before .before .before .before .before .pre .0) (c .before .before .before .before .before .before .before .before .protected-octets .ensures)) (c .before .before .before .keystream .ensures))
-    (λ c κs. let most = part-most _ (c .before .before .before .before .before .before .before .before .before .before .pre .0) (c .before .before .before .before .before .before .before .before .protected-octets .ensures) in omega (arith, most, own-length _ _ (replicate 20 0) _ most (c .before .before .before .keystream .ensures)))
+    (λ c κs. omega (arith, part-most _ (c .before .before .before .before .before .before .before .before .before .before .pre .0) (c .before .before .before .before .before .before .before .before .protected-octets .ensures), own-length _ _ (replicate 20 0) _ (part-most _ (c .before .before .before .before .before .before .before .before .before .before .pre .0) (c .before .before .before .before .before .before .before .before .protected-octets .ensures)) (c .before .before .before .keystream .ensures)))
     (λ c. search needs)
     (λ c. by-own (c .before .before .before .before .before .before .before .before .before .before .before .before .before .args .packet) (now (c .before .before .before .before .before .before .before .before .before .before .before .before .before .args .message)) _ _ _ (replicate 20 0) _ (c .before .before .before .before .before .before .before .before .before .before .before .protected-octets .ensures) refl (part-most _ (c .before .before .before .before .before .before .before .before .before .before .before .before .before .pre .0) (c .before .before .before .before .before .before .before .before .before .before .before .protected-octets .ensures)) (c .before .before .before .before .before .before .keystream .ensures) (c .before .before .turn .ensures)))
