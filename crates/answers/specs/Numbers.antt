@@ -1,6 +1,7 @@
 -- Document 01's number for each answer, in the order of its table and with its words for when it is given.
 use Prim.Native.Nat.{ℕ}
-use mathlib.Core.Bool.{Bool}
+use mathlib.Core.Bool.{Bool, false, _||_}
+use mathlib.Core.List.{List, [], _∷_}
 use lib.Dec.{eqb}
 use Rattle.answers.specs.declared.Answer.{Answer}
 use Rattle.answers.specs.declared.Answer.the-variants.{Done, Held, WrongLength, OutOfRange, Bad, NoEntry, NotReady, NotAllowed, ZeroVector, NotNow, BadMask, Already, Full, TooMany, NextZero, Malformed}
@@ -41,3 +42,14 @@ numberOf Malformed = 15
 
 abbrev pub isDone : Answer → Bool
 isDone a = eqb (numberOf a) 0
+
+-- ---- the table's numbers
+
+-- a number is one of a list
+abbrev pub isOneOf : ℕ → List ℕ → Bool
+isOneOf n [] = false
+isOneOf n (m ∷ ms) = eqb n m || isOneOf n ms
+
+-- those that an operation can give: 15 is the program's
+abbrev pub operationNumbers : List ℕ
+operationNumbers = 0 ∷ 1 ∷ 2 ∷ 3 ∷ 4 ∷ 5 ∷ 6 ∷ 7 ∷ 8 ∷ 9 ∷ 10 ∷ 11 ∷ 12 ∷ 13 ∷ 14 ∷ []

@@ -4,7 +4,7 @@ use mathlib.Core.Bool.{Bool, true, false, _||_, not}
 use mathlib.Core.List.{List, [], _∷_}
 use Prim.Native.Nat.{ℕ, _+_, _≤_, _<_}
 use native.Mathlib.Omega.{arith}
-use borrow.Author.Tests.{le-leb, not-false}
+use borrow.Author.Tests.{le-leb}
 use Rattle.octets.specs.Tests.{allBelow}
 use Rattle.octets.specs.Lists.{allZero}
 use Rattle.answers.specs.declared.Answer.{Answer}
@@ -15,7 +15,7 @@ use Rattle.answers.proofs.OutcomeLaws.{NoneHolds, neverDone, none-left, none-se
 use Rattle.session.specs.Session.{scrambles, sessionVector, keyRight}
 use Rattle.session.specs.Ladder.{keyFor, keyRefusals, zeroFor, vectorRefusals}
 use Rattle.session.proofs.SessionLaws.{no-vector-zero}
-use Rattle.session.proofs.ReadyLaws.{none-key}
+use Rattle.session.proofs.ReadyLaws.{none-ranged, none-key}
 use Rattle.data.specs.declared.packet.Packet.{Packet}
 use Rattle.data.specs.Kinds.{isKind}
 use Rattle.data.specs.Packet.{mostMessages, closedTests, openTests, isClosed, isOpen, goodPacket, noPacket, endRefusals, endOf}
@@ -58,10 +58,9 @@ module _ (p : Packet) (kind c i : ℕ) (w b : List ℕ) where
   opened-open : NoneHolds (openRefusals p kind c i w b) → isOpen (opened kind c w (keyFor b c i)) ≡ true
   unfolding openRefusals vectorRefusals
   opened-open n =
-      opens kind c (keyFor b c i) 0 (sessionVector c w) (not-false _ (n .1 .0))
-      (none-key (not (goodPacket p)) (not (isClosed p)) c i b
-      (none-left (keyRefusals (not (goodPacket p)) (not (isClosed p)) c i b) ((zeroFor c w, ZeroVector) ∷ []) (n .1 .1 .1)))
-      (omega arith) (session-right c w)
+      let m = none-left (keyRefusals (isKind kind) (not (goodPacket p)) (not (isClosed p)) c i b) ((zeroFor c w, ZeroVector) ∷ []) (n .1) in
+      opens kind c (keyFor b c i) 0 (sessionVector c w) (none-ranged (isKind kind) (not (goodPacket p)) (not (isClosed p)) c i b m .0)
+      (none-key (isKind kind) (not (goodPacket p)) (not (isClosed p)) c i b m) (omega arith) (session-right c w)
 
   open-never : neverDone (openRefusals p kind c i w b) ≡ true
   unfolding openRefusals vectorRefusals keyRefusals

@@ -4,14 +4,9 @@ use mathlib.Core.Bool.{Bool, true, false, not}
 use mathlib.Core.List.{List}
 use Prim.Native.Nat.{ℕ}
 use lib.Dec.{eqb}
-use lib.ListN.{length}
-use borrow.Author.Tests.{eq-eqb, ne-eqb, not-true, not-false}
-use Rattle.octets.proofs.TestLaws.{and-false-r}
 use Rattle.answers.specs.declared.Answer.{Answer}
-use Rattle.answers.specs.declared.Answer.the-variants.{Done, WrongLength, OutOfRange}
+use Rattle.answers.specs.declared.Answer.the-variants.{Done}
 use Rattle.answers.specs.Numbers.{isDone}
-use Rattle.keybook.specs.Book.{bookOctets}
-use Rattle.session.specs.Session.{vectorOctets}
 use Rattle.session.specs.Ladder.{vectorKeyOf}
 use Rattle.session.proofs.BegunLaws.{Alike, both-bad, the-same, vector-begun-refused, vector-begun}
 use Rattle.data.specs.declared.packet.Packet.{Packet}
@@ -29,30 +24,14 @@ packet-alike p good g = go (goodPacket p) refl
     go false t = both-bad (ap not (g ∙ t)) (ap not t)
     go true t = the-same (ap not g) (ap not (kind-closed p t))
 
-module _ (p : Packet) (kind c i : ℕ) (w b : List ℕ) where
-  pub open-vector-length : (length w ≡ vectorOctets → ⊥) → (WrongLength, p) ≡ openOf p kind c i w b
+module _ (p : Packet) (kind c i : ℕ) (w b : List ℕ) (is good : Bool) (k : is ≡ isKind kind) (g : good ≡ goodPacket p) (a : Answer) (key : List ℕ)
+    (e : (a, key) ≡ vectorKeyOf is (not good) (not (eqb (p .kind) 0)) c i w b) where
+  pub open-refused : isDone a ≡ false → (a, p) ≡ openOf p kind c i w b
   unfolding openOf openRefusals
-  open-vector-length n = rw (ne-eqb _ _ n)
+  open-refused =
+      vector-begun-refused p (opened kind c w) (isKind kind) (not good) (not (eqb (p .kind) 0)) _ _ (packet-alike p good g) c i b w a key (rw k at e)
 
-  pub open-book-length : not (eqb (length b) bookOctets) ≡ true → (WrongLength, p) ≡ openOf p kind c i w b
+  pub open-done : isDone a ≡ true → (Done, opened kind c w key) ≡ openOf p kind c i w b
   unfolding openOf openRefusals
-  open-book-length n = rw (not-true (eqb (length b) bookOctets) n, and-false-r (eqb (length w) vectorOctets))
-
-  module _ (lw : length w ≡ vectorOctets) (lb : not (eqb (length b) bookOctets) ≡ false) where
-    pub open-no-kind : isKind kind ≡ false → (OutOfRange, p) ≡ openOf p kind c i w b
-    unfolding openOf openRefusals
-    open-no-kind e = rw (eq-eqb _ _ lw, not-false (eqb (length b) bookOctets) lb, e)
-
-    module _ (is : isKind kind ≡ true) (good : Bool) (g : good ≡ goodPacket p) (a : Answer) (key : List ℕ)
-        (e : (a, key) ≡ vectorKeyOf (not good) (not (eqb (p .kind) 0)) c i w b) where
-      pub open-refused : isDone a ≡ false → (a, p) ≡ openOf p kind c i w b
-      unfolding openOf openRefusals
-      open-refused d =
-          rw (eq-eqb _ _ lw, not-false (eqb (length b) bookOctets) lb, is)
-          (vector-begun-refused p (opened kind c w) (not good) (not (eqb (p .kind) 0)) _ _ (packet-alike p good g) c i b w a key e d)
-
-      pub open-done : isDone a ≡ true → (Done, opened kind c w key) ≡ openOf p kind c i w b
-      unfolding openOf openRefusals
-      open-done d =
-          rw (eq-eqb _ _ lw, not-false (eqb (length b) bookOctets) lb, is)
-          (vector-begun p (opened kind c w) (not good) (not (eqb (p .kind) 0)) _ _ (packet-alike p good g) c i b w a key e d)
+  open-done =
+      vector-begun p (opened kind c w) (isKind kind) (not good) (not (eqb (p .kind) 0)) _ _ (packet-alike p good g) c i b w a key (rw k at e)

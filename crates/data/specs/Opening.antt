@@ -1,24 +1,18 @@
 -- How a packet begins (document 01, "Data"): with the book, vector and order of a voice start, and the kind besides.
-use mathlib.Core.List.{List, _∷_}
-use mathlib.Core.Bool.{_&&_, not}
+use mathlib.Core.List.{List}
+use mathlib.Core.Bool.{not}
 use Prim.Native.Nat.{ℕ}
-use lib.Dec.{eqb}
-use lib.ListN.{length}
 use Rattle.answers.specs.declared.Answer.{Answer}
-use Rattle.answers.specs.declared.Answer.the-variants.{WrongLength, OutOfRange}
 use Rattle.answers.specs.Outcomes.{Refusals, outcome}
-use Rattle.keybook.specs.Book.{bookOctets}
-use Rattle.session.specs.Session.{vectorOctets, sessionVector}
+use Rattle.session.specs.Session.{sessionVector}
 use Rattle.session.specs.Ladder.{keyFor, vectorRefusals}
 use Rattle.data.specs.declared.packet.Packet.{Packet}
 use Rattle.data.specs.Kinds.{isKind}
 use Rattle.data.specs.Packet.{isClosed, goodPacket}
 
--- 2 of vector and book, 3 of the kind, and then as of a voice start: 3, 4 of the packet, 9 with one, 4 of the book, 5, 6, 8
+-- as of a voice start, with the kind besides: 2 of vector and book, 3 of kind, cipher and key ID, 4 of the packet, 9 with one, 4 of the book, 5, 6, 8
 unfoldable pub openRefusals : Packet → ℕ → ℕ → ℕ → List ℕ → List ℕ → Refusals
-openRefusals p kind c i w b =
-    (not (eqb (length w) vectorOctets && eqb (length b) bookOctets), WrongLength) ∷ (not (isKind kind), OutOfRange)
-    ∷ vectorRefusals (not (goodPacket p)) (not (isClosed p)) c i w b
+openRefusals p kind c i w b = vectorRefusals (isKind kind) (not (goodPacket p)) (not (isClosed p)) c i w b
 
 -- a packet before its first message
 abbrev pub opened : ℕ → ℕ → List ℕ → List ℕ → Packet

@@ -7,27 +7,14 @@ use crate::packet::Packet;
 use crate::packet::Taken;
 use crate::packet::good_packet;
 use answers::Answer;
-use keybook::BOOK_OCTETS;
-use session::VECTOR_OCTETS;
 use session::ladder::opening_key_with;
 use session::session_vector;
 
 pub fn open(packet: Packet, kind: u8, cipher: u8, id: u8, vector: &[u8], book: &[u8]) -> Taken
     ensures { λ r. ⌜ (r .answer, r .packet) ≡ openOf packet kind cipher id (now (vector .entry)) (now (book .entry)) ⌝ }
 {
-    if vector.len() != VECTOR_OCTETS || book.len() != BOOK_OCTETS {
-        return Taken {
-            answer: Answer::WrongLength,
-            packet,
-        };
-    }
-    if !is_kind(kind) {
-        return Taken {
-            answer: Answer::OutOfRange,
-            packet,
-        };
-    }
     let ready = opening_key_with(
+        is_kind(kind),
         !good_packet(packet),
         packet.kind != NONE,
         cipher,

@@ -96,8 +96,8 @@ begun-left : (n : ℕ) (b : List ℕ) (c : Call) (end m i : ℕ) (w : List ℕ) 
 unfolding openRefusals
 begun-left n b c end m i w o p =
     renewing theCalls n b (OfCall n o) c (begun end m w (keyFor b m i)) (openRefusals (standing c) m i w b)
-    (vector-never (isBad (standing c)) (stands (standing c)) m i b w)
-    (λ h s. begins m i (keyFor b m i) refl p (none-ready-vector (isBad (standing c)) (stands (standing c)) m i b w h) refl refl)
+    (vector-never true (isBad (standing c)) (stands (standing c)) m i b w)
+    (λ h s. begins m i (keyFor b m i) refl p (none-ready-vector true (isBad (standing c)) (stands (standing c)) m i b w h) refl refl)
 
 call-left : (n : ℕ) (b : List ℕ) (c : Call) (o : CallOperation) → Left theCalls n b (OfCall n o) c (callStep b c o .0) (callStep b c o .1 .0)
 unfolding callStep openOf startOf joinOf voiceBy lostOf endOf announceOf joinRefusals endRefusals
@@ -106,8 +106,8 @@ call-left n b c (Start m i w) = begun-left n b c sendingEnd m i w (Start m i w) 
 call-left n b c (Join m i) =
     let u = joined-under m (keyFor b m i) in
     renewing theCalls n b (OfCall n (Join m i)) c (written (joined m (keyFor b m i))) (joinRefusals (standing c) m i b)
-    (key-never (isBad (standing c)) (stands (standing c)) m i b)
-    (λ h s. begins m i (keyFor b m i) refl by-join (none-ready (isBad (standing c)) (stands (standing c)) m i b h) (u .0) (u .1))
+    (key-never true (isBad (standing c)) (stands (standing c)) m i b)
+    (λ h s. begins m i (keyFor b m i) refl by-join (none-ready true (isBad (standing c)) (stands (standing c)) m i b h) (u .0) (u .1))
 call-left n b c (Voice mask frame) =
     keeping theCalls n b (OfCall n (Voice mask frame)) (λ (r : Call × List ℕ). r .0) (c, frame) (voiceRefusals (standing c) mask frame)
     (voiceAfter stream mask frame (standing c)) (and-false-r (eqb n n)) (rw (voice-moves stream c mask frame (standing c)) (slot-kept c))
@@ -130,5 +130,5 @@ device-left d (OfCall m o) n =
     of-number theCalls (d .book) (OfCall m o) m (r .1 .0) (d .calls) (r .0) (call-left m (d .book) (d .calls m) o) (λ n q. rw (ne-eqb m n q)) n
 device-left d (OfPacket m o) n = as-it-was theCalls n (d .book) (OfPacket m o) refl (d .calls n) (packetStep (d .book) (d .packets m) o .0)
 
-pub calls-loaded : (os : List Operation) (n : ℕ) → Held theCalls n (history os) (deviceAfter os .calls n)
+pub calls-loaded : (os : List Operation) (n : ℕ) → Held theCalls n (history step os) (deviceAfter step os .calls n)
 calls-loaded = always-loaded theCalls (λ n s. s refl) device-left

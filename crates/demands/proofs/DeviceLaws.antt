@@ -2,21 +2,24 @@
 use mathlib.Core.Path.{_≡_, refl, sym, ap, _∙_}
 use mathlib.Core.Bool.{Bool, true, false}
 use mathlib.Core.List.{List, []}
-use Prim.Native.Nat.{ℕ, _≤_}
+use Prim.Native.Nat.{ℕ}
 use native.Mathlib.Omega.{arith}
 use lib.Dec.{eqb}
 use borrow.Author.Tests.{eqb-true, eqb-false}
 use Rattle.octets.specs.Tests.{pick}
 use Rattle.answers.specs.declared.Answer.{Answer}
 use Rattle.answers.specs.declared.Answer.the-variants.{Done}
-use Rattle.answers.specs.Numbers.{numberOf}
+use Rattle.answers.specs.Numbers.{numberOf, isOneOf, operationNumbers}
+use Rattle.answers.specs.Outcomes.{Refusals}
 use Rattle.answers.proofs.OutcomeLaws.{Refusal}
+use Rattle.answers.proofs.TableLaws.{DecidedBy, Settles, settles}
 use Rattle.ciphers.specs.Keystream.{stream}
 use Rattle.keyentry.specs.Entry.{loadRefusals, completeRefusals, blank, loaded, completed}
 use Rattle.keybook.specs.Book.{bookRefusals}
 use Rattle.keybook.specs.Operations as operations
 use Rattle.keybook.specs.History as book
-use Rattle.session.specs.Ladder.{keyFor, keyRefusals, vectorRefusals}
+use Rattle.session.specs.Ladder as ladder
+use Rattle.session.specs.Ladder.{keyFor, vectorRefusals}
 use Rattle.voice.specs.declared.call.Call.{Call}
 use Rattle.voice.specs.Call.{sendingEnd, receivingEnd, standing, closed, written, endRefusals, endOf}
 use Rattle.voice.specs.Opening.{joinRefusals, openRefusals, begun, openOf, startOf, joined, joinOf}
@@ -27,13 +30,13 @@ use Rattle.data.specs.declared.packet.Packet.{Packet}
 use Rattle.data.specs.Packet as packet
 use Rattle.data.specs.Opening as opening
 use Rattle.data.specs.Message as message
-use Rattle.demands.specs.Device.{withNone, Device, CallOperation, Open, Start, Join, Voice, Lost, End, Announce, NextVector, callStep, lentCall, PacketOperation, OpenPacket, Message, LostMessage, EndPacket, packetStep, lentPacket, Operation, OfBook, OfCall, OfPacket, withNumber, step, lent}
-use Rattle.demands.specs.Demand1.{Same}
-use Rattle.answers.proofs.TableLaws.{Settles, settles}
+use Rattle.demands.specs.Device.{withNone, Device, CallOperation, Open, Start, Join, Voice, Lost, End, Announce, NextVector, callStep, lentCall, PacketOperation, OpenPacket, Message, LostMessage, EndPacket, packetStep, lentPacket, Operation, OfBook, OfCall, OfPacket, withNumber, step}
+use Rattle.demands.specs.Refusals.{keyRefusals, callRefusals, packetRefusals, refusalsOf}
+use Rattle.demands.specs.Demand1.{Same, SameBeside}
 
 -- ---- on the book, a call, a packet
 
-book-settles : (b : List ℕ) (o : book.Operation) → Settles b (book.step o b)
+book-settles : (b : List ℕ) (o : book.Operation) → Settles b (keyRefusals b o) (book.step o b)
 unfolding book.step operations.beginOf operations.addOf operations.finishOf operations.eraseOf operations.beginRefusals operations.addRefusals
     operations.finishRefusals operations.eraseRefusals bookRefusals loadRefusals completeRefusals
 book-settles b (book.Begin c i) = settles b (operations.beginRefusals b c i) (Done, operations.beginAfter b c i) refl (omega arith)
@@ -44,12 +47,12 @@ book-settles b (book.Finish c i) =
 book-settles b (book.Erase c i) = settles b (operations.eraseRefusals b c i) (Done, operations.withFor b c i blank) refl (omega arith)
 
 -- an operation that writes no lent octets
-none-lent : {S : Type 0} {before : S} {o : Answer × S} → Settles before o → Settles (before, []) (withNone o)
-none-lent {S} s = record { number = s .number; keeps = λ h. ap (λ (x : S). (x, [])) (s .keeps h) }
+none-lent : {S : Type 0} {before : S} {rs : Refusals} {o : Answer × S} → Settles before rs o → Settles (before, []) rs (withNone o)
+none-lent {S} s = record { number = s .number; decided = s .decided; keeps = λ h. ap (λ (x : S). (x, [])) (s .keeps h) }
 
-call-settles : (b : List ℕ) (c : Call) (o : CallOperation) → Settles (c, lentCall o) (callStep b c o)
-unfolding callStep openOf startOf joinOf voiceBy lostOf endOf announceOf nextVectorOf openRefusals joinRefusals vectorRefusals keyRefusals voiceRefusals
-    lostRefusals endRefusals announceRefusals nextRefusals
+call-settles : (b : List ℕ) (c : Call) (o : CallOperation) → Settles (c, lentCall o) (callRefusals b c o) (callStep b c o)
+unfolding callStep openOf startOf joinOf voiceBy lostOf endOf announceOf nextVectorOf openRefusals joinRefusals vectorRefusals ladder.keyRefusals
+    voiceRefusals lostRefusals endRefusals announceRefusals nextRefusals
 call-settles b c (Open n i w) = none-lent (settles c (openRefusals (standing c) n i w b) (Done, begun receivingEnd n w (keyFor b n i)) refl (omega arith))
 call-settles b c (Start n i w) = none-lent (settles c (openRefusals (standing c) n i w b) (Done, begun sendingEnd n w (keyFor b n i)) refl (omega arith))
 call-settles b c (Join n i) = none-lent (settles c (joinRefusals (standing c) n i b) (Done, written (joined n (keyFor b n i))) refl (omega arith))
@@ -60,11 +63,11 @@ call-settles b c End = none-lent (settles c (endRefusals (standing c)) (Done, wr
 call-settles b c (Announce w) = none-lent (settles c (announceRefusals (standing c) w) (Done, written (told w (standing c))) refl (omega arith))
 call-settles b c (NextVector out) =
     let s = settles out (nextRefusals (standing c) out) (Done, following (standing c)) refl (omega arith) in
-    record { number = s .number; keeps = λ h. ap (λ (x : List ℕ). (c, x)) (s .keeps h) }
+    record { number = s .number; decided = s .decided; keeps = λ h. ap (λ (x : List ℕ). (c, x)) (s .keeps h) }
 
-packet-settles : (b : List ℕ) (p : Packet) (o : PacketOperation) → Settles (p, lentPacket o) (packetStep b p o)
-unfolding packetStep opening.openOf message.messageOf message.lostOf packet.endOf opening.openRefusals vectorRefusals keyRefusals message.messageRefusals
-    message.lostRefusals packet.endRefusals
+packet-settles : (b : List ℕ) (p : Packet) (o : PacketOperation) → Settles (p, lentPacket o) (packetRefusals b p o) (packetStep b p o)
+unfolding packetStep opening.openOf message.messageOf message.lostOf packet.endOf opening.openRefusals vectorRefusals ladder.keyRefusals
+    message.messageRefusals message.lostRefusals packet.endRefusals
 packet-settles b p (OpenPacket kind c i w) =
     none-lent (settles p (opening.openRefusals p kind c i w b) (Done, opening.opened kind c w (keyFor b c i)) refl (omega arith))
 packet-settles b p (Message octets) =
@@ -86,18 +89,35 @@ by-number {A} P m x f n its others = go (eqb n m) refl
 same-number : {A : Type 0} (m : ℕ) {x : A} (f : ℕ → A) → x ≡ f m → (n : ℕ) → withNumber m x f n ≡ f n
 same-number {A} m {x} f e n = by-number (λ (y : A). y ≡ f n) m x f n (λ q. e ∙ ap f (sym q)) (λ q. refl)
 
-pub answers-by-table : (d : Device) (o : Operation) → numberOf (step d o .0) ≤ 14
+pub answers-by-table : (d : Device) (o : Operation) → isOneOf (numberOf (step d o .0)) operationNumbers ≡ true
 unfolding step
 answers-by-table d (OfBook o) = book-settles (d .book) o .number
 answers-by-table d (OfCall n o) = call-settles (d .book) (d .calls n) o .number
 answers-by-table d (OfPacket n o) = packet-settles (d .book) (d .packets n) o .number
 
-pub refusal-changes-nothing : (d : Device) (o : Operation) → Refusal (step d o .0) → Same (step d o .1 .0) d × (step d o .1 .1 ≡ lent o)
+-- what an operation answers is decided by its refusals, in their order
+pub refusals-decide : (d : Device) (o : Operation) → DecidedBy (refusalsOf d o) (step d o .0)
 unfolding step
-refusal-changes-nothing d (OfBook o) h = (record { book = book-settles (d .book) o .keeps h; calls = λ n. refl; packets = λ n. refl }, refl)
+refusals-decide d (OfBook o) = book-settles (d .book) o .decided
+refusals-decide d (OfCall n o) = call-settles (d .book) (d .calls n) o .decided
+refusals-decide d (OfPacket n o) = packet-settles (d .book) (d .packets n) o .decided
+
+pub refusal-changes-nothing : (d : Device) (o : Operation) → Refusal (step d o .0) → Same (step d o .1 .0) d
+unfolding step
+refusal-changes-nothing d (OfBook o) h = record { book = book-settles (d .book) o .keeps h; calls = λ n. refl; packets = λ n. refl }
 refusal-changes-nothing d (OfCall m o) h =
     let e = call-settles (d .book) (d .calls m) o .keeps h in
-    (record { book = refl; calls = same-number m (d .calls) (ap (λ (r : Call × List ℕ). r .0) e); packets = λ n. refl }, ap (λ (r : Call × List ℕ). r .1) e)
+    record { book = refl; calls = same-number m (d .calls) (ap (λ (r : Call × List ℕ). r .0) e); packets = λ n. refl }
 refusal-changes-nothing d (OfPacket m o) h =
     let e = packet-settles (d .book) (d .packets m) o .keeps h in
-    (record { book = refl; calls = λ n. refl; packets = same-number m (d .packets) (ap (λ (r : Packet × List ℕ). r .0) e) }, ap (λ (r : Packet × List ℕ). r .1) e)
+    record { book = refl; calls = λ n. refl; packets = same-number m (d .packets) (ap (λ (r : Packet × List ℕ). r .0) e) }
+
+-- every other number's is as it was
+others-stay : {A : Type 0} (m : ℕ) (x : A) (f : ℕ → A) (n : ℕ) → (n ≡ m → ⊥) → withNumber m x f n ≡ f n
+others-stay {A} m x f n q = by-number (λ (y : A). y ≡ f n) m x f n (λ e. absurd (q e)) (λ e. refl)
+
+pub reaches-its-own : (d : Device) (o : Operation) → SameBeside o (step d o .1 .0) d
+unfolding step
+reaches-its-own d (OfBook o) = ((λ n. refl), (λ n. refl))
+reaches-its-own d (OfCall m o) = (refl, others-stay m (callStep (d .book) (d .calls m) o .1 .0) (d .calls), (λ n. refl))
+reaches-its-own d (OfPacket m o) = (refl, (λ n. refl), others-stay m (packetStep (d .book) (d .packets m) o .1 .0) (d .packets))

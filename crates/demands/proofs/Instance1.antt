@@ -64,8 +64,8 @@ books = (refl, refl, refl, refl)
 abbrev withBook : List ℕ → Device
 withBook b = record { book = b; calls = λ n. noCall; packets = λ n. packet.noPacket }
 
-loads : (os : List Operation) (o : book.Operation) {b c : List ℕ} → deviceAfter os ≡ withBook b → book.step o b ≡ (Done, c)
-    → deviceAfter (OfBook o ∷ os) ≡ withBook c
+loads : (os : List Operation) (o : book.Operation) {b c : List ℕ} → deviceAfter step os ≡ withBook b → book.step o b ≡ (Done, c)
+    → deviceAfter step (OfBook o ∷ os) ≡ withBook c
 unfolding deviceAfter step
 loads os o d e =
     ap (λ (x : Device). step x (OfBook o) .1 .0) d ∙ ap (λ (r : Answer × List ℕ). withBook (r .1)) e
@@ -73,11 +73,11 @@ loads os o d e =
 abbrev pub loading : List Operation
 loading = OfBook (book.Finish 2 0) ∷ OfBook (book.Add 2 0 last) ∷ OfBook (book.Add 2 0 first) ∷ OfBook (book.Begin 2 0) ∷ []
 
-none-yet : deviceAfter [] ≡ withBook (replicate 576 0)
+none-yet : deviceAfter step [] ≡ withBook (replicate 576 0)
 unfolding deviceAfter
 none-yet = refl
 
-is-loaded : deviceAfter loading ≡ withBook ready
+is-loaded : deviceAfter step loading ≡ withBook ready
 is-loaded =
     loads (OfBook (book.Add 2 0 last) ∷ OfBook (book.Add 2 0 first) ∷ OfBook (book.Begin 2 0) ∷ []) (book.Finish 2 0)
     (loads (OfBook (book.Add 2 0 first) ∷ OfBook (book.Begin 2 0) ∷ []) (book.Add 2 0 last)
@@ -101,22 +101,22 @@ told-stands = refl
 abbrev pub opening-call : List Operation
 opening-call = OfCall 0 (Open 2 0 seed) ∷ loading
 
-is-open : deviceAfter opening-call .calls 0 ≡ told
+is-open : deviceAfter step opening-call .calls 0 ≡ told
 unfolding deviceAfter step callStep
 is-open = ap (λ (d : Device). step d (OfCall 0 (Open 2 0 seed)) .1 .0 .calls 0) is-loaded ∙ ap (λ (r : Answer × Call). r .1) opens
 
 -- every word of a slot
-pub word-done : numberOf (step (deviceAfter opening-call) (OfCall 0 (Voice 15 silence)) .0) ≡ 0
+pub word-done : numberOf (step (deviceAfter step opening-call) (OfCall 0 (Voice 15 silence)) .0) ≡ 0
 unfolding step callStep
 word-done =
     ap (λ (c : Call). numberOf (voiceOf c 15 silence .0)) is-open
     ∙ ap (λ (r : Answer × (Call × List ℕ)). numberOf (r .0)) (voice-heard told 15 silence (omega arith) refl 2 desABCD 0 seed told-stands)
 
-pub word-turned : WordsTurned (history opening-call) 0 (deviceAfter opening-call .calls 0) 15 silence (step (deviceAfter opening-call) (OfCall 0 (Voice 15 silence)) .1 .1)
+pub word-turned : WordsTurned (history step opening-call) 0 (deviceAfter step opening-call .calls 0) 15 silence (step (deviceAfter step opening-call) (OfCall 0 (Voice 15 silence)) .1 .1)
 word-turned = ours-meets-1 .words opening-call 0 15 silence word-done
 
 -- and under this key
-pub word-key : deviceAfter opening-call .calls 0 .key ≡ desABCD
+pub word-key : deviceAfter step opening-call .calls 0 .key ≡ desABCD
 word-key = ap (λ (c : Call). c .key) is-open
 
 -- ---- and a packet
@@ -138,7 +138,7 @@ dcalls-go = (refl, (refl, tt))
 abbrev pub opening-packet : List Operation
 opening-packet = OfPacket 0 (OpenPacket 1 2 0 seed) ∷ loading
 
-is-opened : deviceAfter opening-packet .packets 0 ≡ dcalls
+is-opened : deviceAfter step opening-packet .packets 0 ≡ dcalls
 unfolding deviceAfter step packetStep
 is-opened =
     ap (λ (d : Device). step d (OfPacket 0 (OpenPacket 1 2 0 seed)) .1 .0 .packets 0) is-loaded ∙ ap (λ (r : Answer × Packet). r .1) opens-packet
@@ -146,14 +146,14 @@ is-opened =
 abbrev blanks : List ℕ
 blanks = replicate 22 0
 
-pub message-is-done : numberOf (step (deviceAfter opening-packet) (OfPacket 0 (Message blanks)) .0) ≡ 0
+pub message-is-done : numberOf (step (deviceAfter step opening-packet) (OfPacket 0 (Message blanks)) .0) ≡ 0
 unfolding step packetStep
 message-is-done =
     ap (λ (p : Packet). numberOf (messageOf p blanks .0)) is-opened
     ∙ sym (ap (λ (r : Answer × (Packet × List ℕ)). numberOf (r .0)) (message-done dcalls blanks dcalls-go refl))
 
-pub message-turned : MessageTurned (history opening-packet) 0 (deviceAfter opening-packet .packets 0) blanks (step (deviceAfter opening-packet) (OfPacket 0 (Message blanks)) .1 .1)
+pub message-turned : MessageTurned (history step opening-packet) 0 (deviceAfter step opening-packet .packets 0) blanks (step (deviceAfter step opening-packet) (OfPacket 0 (Message blanks)) .1 .1)
 message-turned = ours-meets-1 .messages opening-packet 0 blanks message-is-done
 
-pub message-key : deviceAfter opening-packet .packets 0 .key ≡ desABCD
+pub message-key : deviceAfter step opening-packet .packets 0 .key ≡ desABCD
 message-key = ap (λ (p : Packet). p .key) is-opened

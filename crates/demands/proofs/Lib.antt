@@ -18,6 +18,8 @@ pub mod SenderLeaves
 pub mod Instance
 pub mod Meets2
 pub mod DeviceLaws
+pub mod RefusalOrder
+pub mod RefusedLaws
 pub mod LoadedLaws
 pub mod CallsLoaded
 pub mod PacketsLoaded

@@ -24,14 +24,14 @@ keysIn (OfBook o ∷ os) = o ∷ keysIn os
 keysIn (OfCall n o ∷ os) = keysIn os
 keysIn (OfPacket n o ∷ os) = keysIn os
 
-book-is : (os : List Operation) → deviceAfter os .book ≡ book.bookAfter (keysIn os)
+book-is : (os : List Operation) → deviceAfter step os .book ≡ book.bookAfter (keysIn os)
 unfolding deviceAfter step keysIn book.bookAfter
 book-is [] = refl
 book-is (OfBook o ∷ os) = ap (λ (b : List ℕ). book.step o b .1) (book-is os)
 book-is (OfCall n o ∷ os) = book-is os
 book-is (OfPacket n o ∷ os) = book-is os
 
-keys-are : (os : List Operation) → keyOperations (history os) ≡ book.history (keysIn os)
+keys-are : (os : List Operation) → keyOperations (history step os) ≡ book.history (keysIn os)
 unfolding history step keysIn keyOperations book.history
 keys-are [] = refl
 keys-are (OfBook o ∷ os) = ap₂ (λ (b : List ℕ) (h : book.History). (o, book.step o b .0) ∷ h) (book-is os) (keys-are os)
@@ -39,7 +39,7 @@ keys-are (OfCall n o ∷ os) = keys-are os
 keys-are (OfPacket n o ∷ os) = keys-are os
 
 -- a key that the device's book hands out is one that its history tells of
-ready-told : (os : List Operation) (c i : ℕ) (k : List ℕ) → readyKeyOf (deviceAfter os .book) c i ≡ (Done, k) → book.Told (keyOperations (history os)) c i k
+ready-told : (os : List Operation) (c i : ℕ) (k : List ℕ) → readyKeyOf (deviceAfter step os .book) c i ≡ (Done, k) → book.Told (keyOperations (history step os)) c i k
 ready-told os c i k q = rw (keys-are os) (ready-only-if-told (keysIn os) c i k (rw (book-is os) at q))
 
 -- ---- one operation more
@@ -105,26 +105,26 @@ module _ (H : Holder) where
     abbrev pub Held : History → H .State → Type 0
     Held h x = H .stands x → Loaded (H .opens n) (H .renews n) h (H .cipher x) (H .key x)
 
-    loaded-on : (os : List Operation) (o : Operation) (x y : H .State) → Held (history os) x
-        → Left (deviceAfter os .book) o x (step (deviceAfter os) o .0) y → Held (history (o ∷ os)) y
+    loaded-on : (os : List Operation) (o : Operation) (x y : H .State) → Held (history step os) x
+        → Left (deviceAfter step os .book) o x (step (deviceAfter step os) o .0) y → Held (history step (o ∷ os)) y
     unfolding history
     loaded-on os o x y held left s = go (left s)
       where
         a : Answer
-        a = step (deviceAfter os) o .0
+        a = step (deviceAfter step os) o .0
 
-        go : Way (deviceAfter os .book) o x a y → Loaded (H .opens n) (H .renews n) ((o, a) ∷ history os) (H .cipher y) (H .key y)
-        go (stays u (r, c, k)) = still-loaded (H .opens n) (H .renews n) (history os) o a u (rw (c, k) at (held r))
-        go (begins c i k d p q e f) = rw (e, f) at (just-loaded (H .opens n) (H .renews n) (history os) o a i d p (ready-told os c i k q))
+        go : Way (deviceAfter step os .book) o x a y → Loaded (H .opens n) (H .renews n) ((o, a) ∷ history step os) (H .cipher y) (H .key y)
+        go (stays u (r, c, k)) = still-loaded (H .opens n) (H .renews n) (history step os) o a u (rw (c, k) at (held r))
+        go (begins c i k d p q e f) = rw (e, f) at (just-loaded (H .opens n) (H .renews n) (history step os) o a i d p (ready-told os c i k q))
 
   -- so what stands holds a loaded key throughout, if nothing stands at first and every operation leaves a key in one of the ways
   pub always-loaded : ((n : ℕ) → H .stands (H .of atFirst n) → ⊥)
       → ((d : Device) (o : Operation) (n : ℕ) → Left n (d .book) o (H .of d n) (step d o .0) (H .of (step d o .1 .0) n))
-      → (os : List Operation) (n : ℕ) → Held n (history os) (H .of (deviceAfter os) n)
+      → (os : List Operation) (n : ℕ) → Held n (history step os) (H .of (deviceAfter step os) n)
   unfolding deviceAfter
   always-loaded none left [] n = λ s. absurd (none n s)
   always-loaded none left (o ∷ os) n =
-      loaded-on n os o (H .of (deviceAfter os) n) (H .of (step (deviceAfter os) o .1 .0) n) (always-loaded none left os n) (left (deviceAfter os) o n)
+      loaded-on n os o (H .of (deviceAfter step os) n) (H .of (step (deviceAfter step os) o .1 .0) n) (always-loaded none left os n) (left (deviceAfter step os) o n)
 
 -- ---- what an operation leaves
 

@@ -1,5 +1,5 @@
 -- Demand 1 is met. Assumes nothing.
-use mathlib.Core.Path.{_≡_, refl, ap}
+use mathlib.Core.Path.{_≡_, ap}
 use mathlib.Core.List.{List}
 use Prim.Native.Nat.{ℕ, _≤_}
 use native.Mathlib.Omega.{arith}
@@ -17,42 +17,46 @@ use Rattle.data.proofs.MessageBits as bits
 use Rattle.demands.specs.Device.{callStep, Voice, packetStep, Message, Operation, OfCall, OfPacket, step, deviceAfter, history}
 use Rattle.demands.specs.Demand1.{WordsTurned, MessageTurned, Demand1}
 use Rattle.data.proofs.MessageBits.{done-open}
-use Rattle.demands.proofs.DeviceLaws.{answers-by-table, refusal-changes-nothing}
+use Rattle.demands.proofs.DeviceLaws.{answers-by-table, refusal-changes-nothing, reaches-its-own}
+use Rattle.demands.proofs.RefusedLaws.{wrong-is-refused, undone-untouched, only-slots-held}
 use Rattle.demands.proofs.CallsLoaded.{calls-loaded}
 use Rattle.demands.proofs.PacketsLoaded.{packets-loaded}
 
-no-key : (b : List ℕ) (c i : ℕ) → 1 ≤ numberOf (readyKeyOf b c i .0) → readyKeyOf b c i .1 ≡ replicate keyRoom 0
+-- a refused ready key is zeros
+pub no-key : (b : List ℕ) (c i : ℕ) → 1 ≤ numberOf (readyKeyOf b c i .0) → readyKeyOf b c i .1 ≡ replicate keyRoom 0
 unfolding noKey
 no-key b c i l = refused-ready-no-key b c i (λ e. omega (arith, ap numberOf e))
 
-words : (os : List Operation) (n mask : ℕ) (frame : List ℕ) → numberOf (step (deviceAfter os) (OfCall n (Voice mask frame)) .0) ≡ 0
-    → WordsTurned (history os) n (deviceAfter os .calls n) mask frame (step (deviceAfter os) (OfCall n (Voice mask frame)) .1 .1)
+words : (os : List Operation) (n mask : ℕ) (frame : List ℕ) → numberOf (step (deviceAfter step os) (OfCall n (Voice mask frame)) .0) ≡ 0
+    → WordsTurned (history step os) n (deviceAfter step os .calls n) mask frame (step (deviceAfter step os) (OfCall n (Voice mask frame)) .1 .1)
 unfolding step callStep
 words os n mask frame z =
-    let c : Call = deviceAfter os .calls n in
+    let c : Call = deviceAfter step os .calls n in
     record {
       turned = done-turned stream c mask frame z;
       loaded = calls-loaded os n (none-open c mask frame (voice-taken stream c mask frame (omega arith)));
     }
 
-messages : (os : List Operation) (n : ℕ) (message : List ℕ) → numberOf (step (deviceAfter os) (OfPacket n (Message message)) .0) ≡ 0
-    → MessageTurned (history os) n (deviceAfter os .packets n) message (step (deviceAfter os) (OfPacket n (Message message)) .1 .1)
+messages : (os : List Operation) (n : ℕ) (message : List ℕ) → numberOf (step (deviceAfter step os) (OfPacket n (Message message)) .0) ≡ 0
+    → MessageTurned (history step os) n (deviceAfter step os .packets n) message (step (deviceAfter step os) (OfPacket n (Message message)) .1 .1)
 unfolding step packetStep
 messages os n message z =
-    let p : Packet = deviceAfter os .packets n in
+    let p : Packet = deviceAfter step os .packets n in
     record {
       turned = ap (λ (r : Packet × List ℕ). r .1) (bits.done-turned p message z);
       loaded = packets-loaded os n (open-some p (done-open p message z));
     }
 
-pub ours-meets-1 : Demand1
+pub ours-meets-1 : Demand1 step
 unfolding step
 ours-meets-1 =
     record {
       answers = answers-by-table;
+      refused = wrong-is-refused;
       changes-nothing = refusal-changes-nothing;
-      no-key = no-key;
-      keys-apart = λ d o n. (refl, refl);
+      untouched = undone-untouched;
+      held = only-slots-held;
+      apart = reaches-its-own;
       words = words;
       messages = messages;
     }

@@ -11,6 +11,7 @@ use Rattle.keybook.specs.History as book
 use Rattle.session.specs.Ladder.{keyFor}
 use Rattle.session.proofs.LadderLaws.{vector-never}
 use Rattle.data.specs.declared.packet.Packet.{Packet}
+use Rattle.data.specs.Kinds.{isKind}
 use Rattle.data.specs.Packet as packet
 use Rattle.data.specs.Opening as opening
 use Rattle.data.specs.Message as message
@@ -37,10 +38,10 @@ packet-left : (n : ℕ) (b : List ℕ) (p : Packet) (o : PacketOperation) → Le
 unfolding packetStep opening.openOf message.messageOf message.lostOf packet.endOf opening.openRefusals packet.endRefusals
 packet-left n b p (OpenPacket kind c i w) =
     renewing thePackets n b (OfPacket n (OpenPacket kind c i w)) p (opening.opened kind c w (keyFor b c i)) (opening.openRefusals p kind c i w b)
-    (vector-never (not (packet.goodPacket p)) (not (packet.isClosed p)) c i b w)
+    (vector-never (isKind kind) (not (packet.goodPacket p)) (not (packet.isClosed p)) c i b w)
     (λ h s.
     begins c i (keyFor b c i) refl (by-opening kind w)
-    (none-ready-vector (not (packet.goodPacket p)) (not (packet.isClosed p)) c i b w (h .1 .1)) refl refl)
+    (none-ready-vector (isKind kind) (not (packet.goodPacket p)) (not (packet.isClosed p)) c i b w h) refl refl)
 packet-left n b p (Message octets) =
     keeping thePackets n b (OfPacket n (Message octets)) (λ (r : Packet × List ℕ). r .0) (p, octets) (message.messageRefusals p octets)
     (Done, (message.counted p, message.messageTurned p octets)) (and-false-r (eqb n n)) (λ s. (s, refl, refl))
@@ -59,5 +60,5 @@ device-left d (OfPacket m o) n =
     let r = packetStep (d .book) (d .packets m) o in
     of-number thePackets (d .book) (OfPacket m o) m (r .1 .0) (d .packets) (r .0) (packet-left m (d .book) (d .packets m) o) (λ n q. rw (ne-eqb m n q)) n
 
-pub packets-loaded : (os : List Operation) (n : ℕ) → Held thePackets n (history os) (deviceAfter os .packets n)
+pub packets-loaded : (os : List Operation) (n : ℕ) → Held thePackets n (history step os) (deviceAfter step os .packets n)
 packets-loaded = always-loaded thePackets (λ n s. s refl) device-left

@@ -66,16 +66,16 @@ unfinished-loads-none opens renews h c k n l =
     true≢false (ap isFinished (sym (l .told .is-finished)) ∙ unfinished (l .before) (after finishing (l .since) ((l .opening, Done) ∷ l .before) m .1) c (l .id))
 
 -- so no word and no message is turned
-module _ (os : List Operation) (none : NoneDone finishing (history os)) (n : ℕ) where
-  pub no-word : (mask : ℕ) (frame : List ℕ) → numberOf (step (deviceAfter os) (OfCall n (Voice mask frame)) .0) ≡ 0 → ⊥
+module _ (os : List Operation) (none : NoneDone finishing (history step os)) (n : ℕ) where
+  pub no-word : (mask : ℕ) (frame : List ℕ) → numberOf (step (deviceAfter step os) (OfCall n (Voice mask frame)) .0) ≡ 0 → ⊥
   no-word mask frame z =
       let t = ours-meets-1 .words os n mask frame z in
-      unfinished-loads-none (OpensCall n) (renewsCall n) (history os) (deviceAfter os .calls n .cipher) (deviceAfter os .calls n .key) none (t .loaded)
+      unfinished-loads-none (OpensCall n) (renewsCall n) (history step os) (deviceAfter step os .calls n .cipher) (deviceAfter step os .calls n .key) none (t .loaded)
 
-  pub no-message : (message : List ℕ) → numberOf (step (deviceAfter os) (OfPacket n (Message message)) .0) ≡ 0 → ⊥
+  pub no-message : (message : List ℕ) → numberOf (step (deviceAfter step os) (OfPacket n (Message message)) .0) ≡ 0 → ⊥
   no-message message z =
       let t = ours-meets-1 .messages os n message z in
-      unfinished-loads-none (OpensPacket n) (renewsPacket n) (history os) (deviceAfter os .packets n .cipher) (deviceAfter os .packets n .key) none (t .loaded)
+      unfinished-loads-none (OpensPacket n) (renewsPacket n) (history step os) (deviceAfter step os .packets n .cipher) (deviceAfter step os .packets n .key) none (t .loaded)
 
 -- version one: half a key is added, the finish is refused, and a call is opened all the same
 pub version-one : (c : ℕ) (k half w : List ℕ)

@@ -1,31 +1,85 @@
--- Demand 1: every operation answers for all lent octets and numbers; a refusal changes nothing; and no key that isn't completely loaded ever touches a
--- word or a message. (That each ends is part of every proof of code.)
+-- Demand 1, of any device: every operation answers by the table for all lent octets and numbers; what is wrong is refused, and a refusal changes nothing;
+-- an operation reaches only what it is for; and no key that isn't completely loaded ever touches a word or a message. (That each ends is part of every
+-- proof of code.)
 use mathlib.Core.Path.{_≡_}
 use mathlib.Core.List.{List, [], _∷_, _++_}
 use mathlib.Core.Bool.{Bool, true, false, _&&_}
 use Prim.Native.Nat.{ℕ, _≤_}
 use lib.Dec.{eqb}
-use lib.ListN.{replicate}
+use lib.ListN.{length}
 use Rattle.answers.specs.declared.Answer.the-variants.{Done}
-use Rattle.answers.specs.Numbers.{numberOf, isDone}
+use Rattle.answers.specs.Numbers.{numberOf, isDone, isOneOf, operationNumbers}
 use Rattle.ciphers.specs.Keystream.{stream}
-use Rattle.keyentry.specs.Entry.{keyRoom}
-use Rattle.keybook.specs.Operations.{readyKeyOf}
+use Rattle.keybook.specs.Book.{goodBook}
 use Rattle.keybook.specs.History as book
 use Rattle.keybook.specs.History.{Told}
 use Rattle.voice.specs.Frame.{ofSlot, protect}
 use Rattle.voice.specs.declared.call.Call.{Call}
+use Rattle.voice.specs.Call.{receivingEnd, goodCall}
 use Rattle.data.specs.declared.packet.Packet.{Packet}
+use Rattle.data.specs.Kinds.{messageOctets}
+use Rattle.data.specs.Packet.{goodPacket}
 use Rattle.data.specs.Message.{messageTurned}
-use Rattle.demands.specs.Device.{Device, CallOperation, Open, Start, Join, Voice, Lost, End, Announce, NextVector, PacketOperation, OpenPacket, Message, LostMessage, EndPacket, Operation, OfBook, OfCall, OfPacket, lent, step, History, deviceAfter, history, keyOperations}
+use Rattle.demands.specs.Device.{Device, CallOperation, Open, Start, Join, Voice, Lost, End, Announce, NextVector, PacketOperation, OpenPacket, Message, LostMessage, EndPacket, Operation, OfBook, OfCall, OfPacket, Step, lent, History, deviceAfter, history, keyOperations}
 
--- ---- a refusal changes nothing
+-- ---- what an operation has to be given, or it is refused: lengths, numbers, the book where it reads it, and what it is for
+
+-- a good book of 576 octets, a cipher type of 1 to 3 and a key ID of at most 63
+pub record Keyed (b : List ℕ) (c i : ℕ) : Type 0 where
+  pub long : length b ≡ 576
+  pub good : goodBook b ≡ true
+  pub cipher : (1 ≤ c) × (c ≤ 3)
+  pub id : i ≤ 63
+
+-- add is given at most 32 octets
+abbrev pub RightKey : List ℕ → book.Operation → Type 0
+RightKey b (book.Begin c i) = Keyed b c i
+RightKey b (book.Add c i xs) = Keyed b c i × (length xs ≤ 32)
+RightKey b (book.Finish c i) = Keyed b c i
+RightKey b (book.Erase c i) = Keyed b c i
+
+-- a vector has 8 octets, a frame 28, and a mask is at most 15
+abbrev pub RightCall : List ℕ → Call → CallOperation → Type 0
+RightCall b c (Open cipher i w) = Keyed b cipher i × (length w ≡ 8) × (goodCall c ≡ true)
+RightCall b c (Start cipher i w) = Keyed b cipher i × (length w ≡ 8) × (goodCall c ≡ true)
+RightCall b c (Join cipher i) = Keyed b cipher i × (goodCall c ≡ true)
+RightCall b c (Voice mask frame) = (length frame ≡ 28) × (mask ≤ 15) × (goodCall c ≡ true)
+RightCall b c Lost = goodCall c ≡ true
+RightCall b c End = goodCall c ≡ true
+RightCall b c (Announce w) = (length w ≡ 8) × (goodCall c ≡ true)
+RightCall b c (NextVector out) = (length out ≡ 8) × (goodCall c ≡ true)
+
+-- a message kind is 1 to 4, and a message has the length of its packet's kind
+abbrev pub RightPacket : List ℕ → Packet → PacketOperation → Type 0
+RightPacket b p (OpenPacket kind c i w) = Keyed b c i × ((1 ≤ kind) × (kind ≤ 4)) × (length w ≡ 8) × (goodPacket p ≡ true)
+RightPacket b p (Message octets) = (length octets ≡ messageOctets (p .kind)) × (goodPacket p ≡ true)
+RightPacket b p LostMessage = goodPacket p ≡ true
+RightPacket b p EndPacket = goodPacket p ≡ true
+
+abbrev pub Right : Device → Operation → Type 0
+Right d (OfBook o) = RightKey (d .book) o
+Right d (OfCall n o) = RightCall (d .book) (d .calls n) o
+Right d (OfPacket n o) = RightPacket (d .book) (d .packets n) o
+
+-- ---- what it reaches
 
 -- book, calls and packets are the same
 pub record Same (d e : Device) : Type 0 where
   pub book : d .book ≡ e .book
   pub calls : (n : ℕ) → d .calls n ≡ e .calls n
   pub packets : (n : ℕ) → d .packets n ≡ e .packets n
+
+-- all but what the operation is for is the same: the book, or the call, or packet, of its number
+abbrev pub SameBeside : Operation → Device → Device → Type 0
+SameBeside (OfBook o) d e = ((n : ℕ) → d .calls n ≡ e .calls n) × ((n : ℕ) → d .packets n ≡ e .packets n)
+SameBeside (OfCall m o) d e = (d .book ≡ e .book) × ((n : ℕ) → (n ≡ m → ⊥) → d .calls n ≡ e .calls n) × ((n : ℕ) → d .packets n ≡ e .packets n)
+SameBeside (OfPacket m o) d e = (d .book ≡ e .book) × ((n : ℕ) → d .calls n ≡ e .calls n) × ((n : ℕ) → (n ≡ m → ⊥) → d .packets n ≡ e .packets n)
+
+-- ---- what may be held
+
+-- a voice slot in a receiving call whose session vector is unknown
+pub data Unknown (d : Device) : Operation → Type 0 where
+  slot : (n mask : ℕ) (frame : List ℕ) → d .calls n .end ≡ receivingEnd → d .calls n .known ≡ false → Unknown d (OfCall n (Voice mask frame))
 
 -- ---- which key it is
 
@@ -95,17 +149,21 @@ pub record MessageTurned (h : History) (n : ℕ) (p : Packet) (message after : L
 
 -- ---- the demand
 
-pub record Demand1 : Type 0 where
-  -- on every device, good or bad: the answer is a number of the table that an operation can give (15 is the program's)
-  pub answers : (d : Device) (o : Operation) → numberOf (step d o .0) ≤ 14
-  -- and any but 0 and 1 leaves the device and the lent octets as they were
-  pub changes-nothing : (d : Device) (o : Operation) → 2 ≤ numberOf (step d o .0) → Same (step d o .1 .0) d × (step d o .1 .1 ≡ lent o)
-  -- a refused ready key is zeros
-  pub no-key : (b : List ℕ) (c i : ℕ) → 1 ≤ numberOf (readyKeyOf b c i .0) → readyKeyOf b c i .1 ≡ replicate keyRoom 0
-  -- a key operation, erase too, reaches no call and no packet
-  pub keys-apart : (d : Device) (o : book.Operation) (n : ℕ) → (step d (OfBook o) .1 .0 .calls n ≡ d .calls n) × (step d (OfBook o) .1 .0 .packets n ≡ d .packets n)
+pub record Demand1 (st : Step) : Type 0 where
+  -- on every device, good or bad: the answer is a number of the table that an operation can give
+  pub answers : (d : Device) (o : Operation) → isOneOf (numberOf (st d o .0)) operationNumbers ≡ true
+  -- what is not right is refused
+  pub refused : (d : Device) (o : Operation) → (Right d o → ⊥) → 2 ≤ numberOf (st d o .0)
+  -- any answer but 0 and 1 leaves the device as it was
+  pub changes-nothing : (d : Device) (o : Operation) → 2 ≤ numberOf (st d o .0) → Same (st d o .1 .0) d
+  -- any but 0 leaves the lent octets as they came
+  pub untouched : (d : Device) (o : Operation) → (numberOf (st d o .0) ≡ 0 → ⊥) → st d o .1 .1 ≡ lent o
+  -- only a slot is held
+  pub held : (d : Device) (o : Operation) → numberOf (st d o .0) ≡ 1 → Unknown d o
+  -- an operation reaches only what it is for: a key operation, erase too, no call and no packet
+  pub apart : (d : Device) (o : Operation) → SameBeside o (st d o .1 .0) d
   -- over every list of operations from an all-zero book with no call and no packet: whenever words are turned, and whenever a message is
-  pub words : (os : List Operation) (n mask : ℕ) (frame : List ℕ) → numberOf (step (deviceAfter os) (OfCall n (Voice mask frame)) .0) ≡ 0
-      → WordsTurned (history os) n (deviceAfter os .calls n) mask frame (step (deviceAfter os) (OfCall n (Voice mask frame)) .1 .1)
-  pub messages : (os : List Operation) (n : ℕ) (message : List ℕ) → numberOf (step (deviceAfter os) (OfPacket n (Message message)) .0) ≡ 0
-      → MessageTurned (history os) n (deviceAfter os .packets n) message (step (deviceAfter os) (OfPacket n (Message message)) .1 .1)
+  pub words : (os : List Operation) (n mask : ℕ) (frame : List ℕ) → numberOf (st (deviceAfter st os) (OfCall n (Voice mask frame)) .0) ≡ 0
+      → WordsTurned (history st os) n (deviceAfter st os .calls n) mask frame (st (deviceAfter st os) (OfCall n (Voice mask frame)) .1 .1)
+  pub messages : (os : List Operation) (n : ℕ) (message : List ℕ) → numberOf (st (deviceAfter st os) (OfPacket n (Message message)) .0) ≡ 0
+      → MessageTurned (history st os) n (deviceAfter st os .packets n) message (st (deviceAfter st os) (OfPacket n (Message message)) .1 .1)

@@ -101,7 +101,12 @@ module _ {A : Type 0} where
   abbrev pub withNumber : ℕ → A → (ℕ → A) → ℕ → A
   withNumber n x f m = pick (eqb m n) x (f m)
 
-unfoldable pub step : Device → Operation → Answer × (Device × List ℕ)
+-- what a device answers to an operation, what it is then, and the octets that the operation may write
+abbrev pub Step : Type 0
+Step = Device → Operation → Answer × (Device × List ℕ)
+
+-- ours
+unfoldable pub step : Step
 step d (OfBook o) = let r = book.step o (d .book) in (r .0, (record { book = r .1; calls = d .calls; packets = d .packets }, []))
 step d (OfCall n o) =
     let r = callStep (d .book) (d .calls n) o in
@@ -121,15 +126,16 @@ lent (OfPacket n o) = lentPacket o
 abbrev pub History : Type 0
 History = List (Operation × Answer)
 
--- the device after operations from the first on
-unfoldable pub deviceAfter : List Operation → Device
-deviceAfter [] = atFirst
-deviceAfter (o ∷ os) = step (deviceAfter os) o .1 .0
+module _ (st : Step) where
+  -- the device after operations from the first on
+  unfoldable pub deviceAfter : List Operation → Device
+  deviceAfter [] = atFirst
+  deviceAfter (o ∷ os) = st (deviceAfter os) o .1 .0
 
--- and what they answered
-unfoldable pub history : List Operation → History
-history [] = []
-history (o ∷ os) = (o, step (deviceAfter os) o .0) ∷ history os
+  -- and what they answered
+  unfoldable pub history : List Operation → History
+  history [] = []
+  history (o ∷ os) = (o, st (deviceAfter os) o .0) ∷ history os
 
 -- the key operations of a history
 abbrev pub ontoKeys : Operation → Answer → book.History → book.History

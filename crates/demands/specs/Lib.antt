@@ -7,5 +7,6 @@ pub mod Demand3
 pub mod Others
 pub mod OurSender
 pub mod Device
+pub mod Refusals
 pub mod Demand1
 pub mod Demand2

@@ -31,46 +31,46 @@ module _ {S : Type 0} (before : S) (make : List ℕ → S) where
         ap (λ (p : Answer × List ℕ). (Done, make (p .1))) (given-is rs key never e d)
         ∙ sym (none-settles rs before (Done, make key) (given-none rs key never e d))
 
-  module _ (bad busy bad′ busy′ : Bool) (same : Alike bad busy bad′ busy′) (c i : ℕ) (b : List ℕ) where
-    key-alike : (last : Answer × S) → settled before (keyRefusals bad busy c i b) last ≡ settled before (keyRefusals bad′ busy′ c i b) last
+  module _ (ranged bad busy bad′ busy′ : Bool) (same : Alike bad busy bad′ busy′) (c i : ℕ) (b : List ℕ) where
+    key-alike : (last : Answer × S) → settled before (keyRefusals ranged bad busy c i b) last ≡ settled before (keyRefusals ranged bad′ busy′ c i b) last
     unfolding keyRefusals
     key-alike last = go same
       where
-        go : Alike bad busy bad′ busy′ → settled before (keyRefusals bad busy c i b) last ≡ settled before (keyRefusals bad′ busy′ c i b) last
+        go : Alike bad busy bad′ busy′ → settled before (keyRefusals ranged bad busy c i b) last ≡ settled before (keyRefusals ranged bad′ busy′ c i b) last
         go (both-bad p q) = rw (p, q)
         go (the-same p q) = rw (p, q)
 
-    module _ (a : Answer) (key : List ℕ) (e : (a, key) ≡ keyOf bad busy c i b) where
-      pub key-begun-refused : isDone a ≡ false → (a, before) ≡ outcome before (keyRefusals bad′ busy′ c i b) (make (keyFor b c i))
+    module _ (a : Answer) (key : List ℕ) (e : (a, key) ≡ keyOf ranged bad busy c i b) where
+      pub key-begun-refused : isDone a ≡ false → (a, before) ≡ outcome before (keyRefusals ranged bad′ busy′ c i b) (make (keyFor b c i))
       unfolding keyOf
-      key-begun-refused d = began-refused (keyRefusals bad busy c i b) (keyFor b c i) (key-never bad busy c i b) e d ∙ key-alike (Done, make (keyFor b c i))
+      key-begun-refused d = began-refused (keyRefusals ranged bad busy c i b) (keyFor b c i) (key-never ranged bad busy c i b) e d ∙ key-alike (Done, make (keyFor b c i))
 
-      pub key-begun : isDone a ≡ true → (Done, make key) ≡ outcome before (keyRefusals bad′ busy′ c i b) (make (keyFor b c i))
+      pub key-begun : isDone a ≡ true → (Done, make key) ≡ outcome before (keyRefusals ranged bad′ busy′ c i b) (make (keyFor b c i))
       unfolding keyOf
-      key-begun d = began-done (keyRefusals bad busy c i b) (keyFor b c i) (key-never bad busy c i b) e d ∙ key-alike (Done, make (keyFor b c i))
+      key-begun d = began-done (keyRefusals ranged bad busy c i b) (keyFor b c i) (key-never ranged bad busy c i b) e d ∙ key-alike (Done, make (keyFor b c i))
 
     module _ (w : List ℕ) where
-      vector-alike : (last : Answer × S) → settled before (vectorRefusals bad busy c i w b) last ≡ settled before (vectorRefusals bad′ busy′ c i w b) last
+      vector-alike : (last : Answer × S) → settled before (vectorRefusals ranged bad busy c i w b) last ≡ settled before (vectorRefusals ranged bad′ busy′ c i w b) last
       unfolding vectorRefusals keyRefusals
       vector-alike last = go same
         where
-          go : Alike bad busy bad′ busy′ → settled before (vectorRefusals bad busy c i w b) last ≡ settled before (vectorRefusals bad′ busy′ c i w b) last
+          go : Alike bad busy bad′ busy′ → settled before (vectorRefusals ranged bad busy c i w b) last ≡ settled before (vectorRefusals ranged bad′ busy′ c i w b) last
           go (both-bad p q) = rw (p, q)
           go (the-same p q) = rw (p, q)
 
-      module _ (a : Answer) (key : List ℕ) (e : (a, key) ≡ vectorKeyOf bad busy c i w b) where
-        pub vector-begun-refused : isDone a ≡ false → (a, before) ≡ outcome before (vectorRefusals bad′ busy′ c i w b) (make (keyFor b c i))
+      module _ (a : Answer) (key : List ℕ) (e : (a, key) ≡ vectorKeyOf ranged bad busy c i w b) where
+        pub vector-begun-refused : isDone a ≡ false → (a, before) ≡ outcome before (vectorRefusals ranged bad′ busy′ c i w b) (make (keyFor b c i))
         unfolding vectorKeyOf
         vector-begun-refused d =
-            began-refused (vectorRefusals bad busy c i w b) (keyFor b c i) (vector-never bad busy c i b w) e d ∙ vector-alike (Done, make (keyFor b c i))
+            began-refused (vectorRefusals ranged bad busy c i w b) (keyFor b c i) (vector-never ranged bad busy c i b w) e d ∙ vector-alike (Done, make (keyFor b c i))
 
-        pub vector-begun : isDone a ≡ true → (Done, make key) ≡ outcome before (vectorRefusals bad′ busy′ c i w b) (make (keyFor b c i))
+        pub vector-begun : isDone a ≡ true → (Done, make key) ≡ outcome before (vectorRefusals ranged bad′ busy′ c i w b) (make (keyFor b c i))
         unfolding vectorKeyOf
         vector-begun d =
-            began-done (vectorRefusals bad busy c i w b) (keyFor b c i) (vector-never bad busy c i b w) e d ∙ vector-alike (Done, make (keyFor b c i))
+            began-done (vectorRefusals ranged bad busy c i w b) (keyFor b c i) (vector-never ranged bad busy c i b w) e d ∙ vector-alike (Done, make (keyFor b c i))
 
-pub begun-sized : (bad busy : Bool) (c i : ℕ) (w b : List ℕ) {o : Answer × List ℕ} → o ≡ vectorKeyOf bad busy c i w b → isDone (o .0) ≡ true
+pub begun-sized : (ranged bad busy : Bool) (c i : ℕ) (w b : List ℕ) {o : Answer × List ℕ} → o ≡ vectorKeyOf ranged bad busy c i w b → isDone (o .0) ≡ true
     → length w ≡ vectorOctets
 unfolding vectorKeyOf
-begun-sized bad busy c i w b e d =
-    vector-sized bad busy c i b w (given-none (vectorRefusals bad busy c i w b) (keyFor b c i) (vector-never bad busy c i b w) e d)
+begun-sized ranged bad busy c i w b e d =
+    vector-sized ranged bad busy c i b w (given-none (vectorRefusals ranged bad busy c i w b) (keyFor b c i) (vector-never ranged bad busy c i b w) e d)

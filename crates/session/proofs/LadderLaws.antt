@@ -24,51 +24,52 @@ module _ (rs : Refusals) (key : List ℕ) (never : neverDone rs ≡ true) {o : A
   pub given-is : isDone (o .0) ≡ true → o ≡ (Done, key)
   given-is d = e ∙ none-settles rs noKey (Done, key) (given-none d)
 
-module _ (isBad busy : Bool) (c i : ℕ) (b : List ℕ) where
+module _ (ranged isBad busy : Bool) (c i : ℕ) (b : List ℕ) where
   abbrev asked : Refusals
-  asked = keyRefusals isBad busy c i b
+  asked = keyRefusals ranged isBad busy c i b
 
-  pub key-refused : (n : ℕ) → Refuses asked n → (answerAt asked n, noKey) ≡ keyOf isBad busy c i b
+  pub key-refused : (n : ℕ) → Refuses asked n → (answerAt asked n, noKey) ≡ keyOf ranged isBad busy c i b
   unfolding keyOf
   key-refused = refused-at noKey asked (Done, keyFor b c i)
 
-  pub key-ready : length b ≡ bookOctets → named c i ≡ true → isBad ≡ false → busy ≡ false → readyKeyOf b c i ≡ keyOf isBad busy c i b
+  pub key-ready : length b ≡ bookOctets → ranged ≡ true → named c i ≡ true → isBad ≡ false → busy ≡ false
+      → readyKeyOf b c i ≡ keyOf ranged isBad busy c i b
   unfolding keyOf keyRefusals readyKeyOf readyRefusals bookRefusals notReady
-  key-ready l n e f = rw (eq-eqb _ _ l, n, e, f)
+  key-ready l r n e f = rw (eq-eqb _ _ l, r, n, e, f)
 
   pub key-never : neverDone asked ≡ true
   unfolding keyRefusals
   key-never = refl
 
-  pub key-none : {o : Answer × List ℕ} → o ≡ keyOf isBad busy c i b → isDone (o .0) ≡ true → NoneHolds asked
+  pub key-none : {o : Answer × List ℕ} → o ≡ keyOf ranged isBad busy c i b → isDone (o .0) ≡ true → NoneHolds asked
   unfolding keyOf
   key-none = given-none asked (keyFor b c i) key-never
 
   module _ (w : List ℕ) where
     abbrev askedWith : Refusals
-    askedWith = vectorRefusals isBad busy c i w b
+    askedWith = vectorRefusals ranged isBad busy c i w b
 
-    pub vector-length : (length w ≡ vectorOctets → ⊥) → (answerAt askedWith 0, noKey) ≡ vectorKeyOf isBad busy c i w b
+    pub vector-length : (length w ≡ vectorOctets → ⊥) → (answerAt askedWith 0, noKey) ≡ vectorKeyOf ranged isBad busy c i w b
     unfolding vectorKeyOf vectorRefusals
     vector-length n = rw (ne-eqb _ _ n)
 
     module _ (l : length w ≡ vectorOctets) where
       -- the ladder without the vector refuses first
-      pub vector-key-refused : {o : Answer × List ℕ} → o ≡ keyOf isBad busy c i b → isDone (o .0) ≡ false → o ≡ vectorKeyOf isBad busy c i w b
+      pub vector-key-refused : {o : Answer × List ℕ} → o ≡ keyOf ranged isBad busy c i b → isDone (o .0) ≡ false → o ≡ vectorKeyOf ranged isBad busy c i w b
       unfolding vectorKeyOf vectorRefusals keyOf
       vector-key-refused e d =
           e
           ∙ first-decides asked ((zeroFor c w, ZeroVector) ∷ []) noKey (keyFor b c i) (sym (ap (λ (o : Answer × List ℕ). isDone (o .0)) e) ∙ d)
           ∙ rw (eq-eqb _ _ l)
 
-      vector-left : NoneHolds asked → vectorKeyOf isBad busy c i w b ≡ outcome noKey ((zeroFor c w, ZeroVector) ∷ []) (keyFor b c i)
+      vector-left : NoneHolds asked → vectorKeyOf ranged isBad busy c i w b ≡ outcome noKey ((zeroFor c w, ZeroVector) ∷ []) (keyFor b c i)
       unfolding vectorKeyOf vectorRefusals
       vector-left n = rw (eq-eqb _ _ l) (none-first asked ((zeroFor c w, ZeroVector) ∷ []) noKey (Done, keyFor b c i) n)
 
-      pub vector-zero : NoneHolds asked → zeroFor c w ≡ true → (ZeroVector, noKey) ≡ vectorKeyOf isBad busy c i w b
+      pub vector-zero : NoneHolds asked → zeroFor c w ≡ true → (ZeroVector, noKey) ≡ vectorKeyOf ranged isBad busy c i w b
       vector-zero n z = sym (vector-left n ∙ rw z)
 
-      pub vector-ready : {o : Answer × List ℕ} → o ≡ keyOf isBad busy c i b → NoneHolds asked → zeroFor c w ≡ false → o ≡ vectorKeyOf isBad busy c i w b
+      pub vector-ready : {o : Answer × List ℕ} → o ≡ keyOf ranged isBad busy c i b → NoneHolds asked → zeroFor c w ≡ false → o ≡ vectorKeyOf ranged isBad busy c i w b
       unfolding keyOf
       vector-ready e n z = e ∙ none-settles asked noKey (Done, keyFor b c i) n ∙ sym (vector-left n ∙ rw z)
 

@@ -66,23 +66,28 @@ module _ (b : List ℕ) (c i : ℕ) (good : goodBook b ≡ true) (ranged : named
       (all-intro (λ j. eqb (getD (drop (keyOctets c) (keyIn e)) j 0) 0) (length (drop (keyOctets c) (keyIn e))) (λ j l. eq-eqb _ _ (rest-zero j)))
 
 -- where nothing refuses the key
-module _ (bad busy : Bool) (c i : ℕ) (b : List ℕ) (n : NoneHolds (keyRefusals bad busy c i b)) where
-  pub none-named : (1 ≤ c) × (c ≤ 3)
+module _ (ranged bad busy : Bool) (c i : ℕ) (b : List ℕ) (n : NoneHolds (keyRefusals ranged bad busy c i b)) where
+  -- its own numbers are in range, and so are cipher and key ID
+  pub none-ranged : (ranged ≡ true) × (named c i ≡ true)
   unfolding keyRefusals
-  none-named = named-some c i (not-false _ (n .1 .0))
+  none-ranged = let q = not-false (ranged && named c i) (n .1 .0) in (and-left ranged (named c i) q, and-right ranged (named c i) q)
+
+  pub none-named : (1 ≤ c) × (c ≤ 3)
+  none-named = named-some c i (none-ranged .1)
 
   pub none-key : keyRight c (keyFor b c i) ≡ true
   unfolding keyRefusals
-  none-key = key-right b c i (not-false _ (n .1 .1 .1 .1 .0)) (not-false _ (n .1 .0)) (not-false _ (n .1 .1 .1 .1 .1 .0)) (not-false _ (n .1 .1 .1 .1 .1 .1 .0))
+  none-key = key-right b c i (not-false _ (n .1 .1 .1 .1 .0)) (none-ranged .1) (not-false _ (n .1 .1 .1 .1 .1 .0)) (not-false _ (n .1 .1 .1 .1 .1 .1 .0))
 
 -- where nothing refuses the key, the book hands it out
-module _ (bad busy : Bool) (c i : ℕ) (b : List ℕ) where
-  pub none-ready : NoneHolds (keyRefusals bad busy c i b) → readyKeyOf b c i ≡ (Done, keyFor b c i)
+module _ (ranged bad busy : Bool) (c i : ℕ) (b : List ℕ) where
+  pub none-ready : NoneHolds (keyRefusals ranged bad busy c i b) → readyKeyOf b c i ≡ (Done, keyFor b c i)
   unfolding keyRefusals keyOf
   none-ready n =
-      key-ready bad busy c i b (eqb-true _ _ (not-false _ (n .0))) (not-false _ (n .1 .0)) (n .1 .1 .0) (n .1 .1 .1 .0)
-      ∙ none-settles (keyRefusals bad busy c i b) noKey (Done, keyFor b c i) n
+      let q = none-ranged ranged bad busy c i b n in
+      key-ready ranged bad busy c i b (eqb-true _ _ (not-false _ (n .0))) (q .0) (q .1) (n .1 .1 .0) (n .1 .1 .1 .0)
+      ∙ none-settles (keyRefusals ranged bad busy c i b) noKey (Done, keyFor b c i) n
 
-  pub none-ready-vector : (w : List ℕ) → NoneHolds (vectorRefusals bad busy c i w b) → readyKeyOf b c i ≡ (Done, keyFor b c i)
+  pub none-ready-vector : (w : List ℕ) → NoneHolds (vectorRefusals ranged bad busy c i w b) → readyKeyOf b c i ≡ (Done, keyFor b c i)
   unfolding vectorRefusals
-  none-ready-vector w n = none-ready (none-left (keyRefusals bad busy c i b) _ (n .1))
+  none-ready-vector w n = none-ready (none-left (keyRefusals ranged bad busy c i b) _ (n .1))

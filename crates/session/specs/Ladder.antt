@@ -1,5 +1,5 @@
--- What an opening asks, in the order of document 01, "Answer numbers", of what is to be opened (bad, or busy: it stands already) and of the book. The ready key
--- comes out of the book in one way. The packet's opening asks the same.
+-- What an opening asks, in the order of document 01, "Answer numbers", of the opening's own numbers (ranged: they are in range), of what is
+-- to be opened (bad, or busy: it stands already) and of the book. The ready key comes out of the book in one way. The packet's opening asks the same.
 use mathlib.Core.List.{List, [], _∷_, _++_}
 use mathlib.Core.Bool.{Bool, _&&_, not}
 use Prim.Native.Nat.{ℕ}
@@ -23,23 +23,24 @@ abbrev pub withoutKey : Answer → Answer × List ℕ
 withoutKey a = (a, noKey)
 
 -- 2 book length, 3, 4 of what is opened, 9, 4 of the book, 5, 6
-unfoldable pub keyRefusals : Bool → Bool → ℕ → ℕ → List ℕ → Refusals
-keyRefusals isBad busy c i b =
-    (not (eqb (length b) bookOctets), WrongLength) ∷ (not (named c i), OutOfRange) ∷ (isBad, Bad) ∷ (busy, NotNow)
-    ∷ (not (goodBook b), Bad) ∷ (not (has b c i), NoEntry) ∷ (not (isReady (entryFor b c i)), NotReady) ∷ []
+unfoldable pub keyRefusals : Bool → Bool → Bool → ℕ → ℕ → List ℕ → Refusals
+keyRefusals ranged isBad busy c i b =
+    (not (eqb (length b) bookOctets), WrongLength) ∷ (not (ranged && named c i), OutOfRange)
+    ∷ (isBad, Bad) ∷ (busy, NotNow) ∷ (not (goodBook b), Bad)
+    ∷ (not (has b c i), NoEntry) ∷ (not (isReady (entryFor b c i)), NotReady) ∷ []
 
 -- the ready key, or the refusal and no key
-unfoldable pub keyOf : Bool → Bool → ℕ → ℕ → List ℕ → Answer × List ℕ
-keyOf isBad busy c i b = outcome noKey (keyRefusals isBad busy c i b) (keyFor b c i)
+unfoldable pub keyOf : Bool → Bool → Bool → ℕ → ℕ → List ℕ → Answer × List ℕ
+keyOf ranged isBad busy c i b = outcome noKey (keyRefusals ranged isBad busy c i b) (keyFor b c i)
 
 -- a vector of zeros, DES and AES
 unfoldable pub zeroFor : ℕ → List ℕ → Bool
 zeroFor c w = not (scrambles c) && allZero w
 
 -- with a vector: its length is asked with the book's, for scramble too, and 8 at the end
-unfoldable pub vectorRefusals : Bool → Bool → ℕ → ℕ → List ℕ → List ℕ → Refusals
-vectorRefusals isBad busy c i w b =
-    (not (eqb (length w) vectorOctets), WrongLength) ∷ (keyRefusals isBad busy c i b ++ ((zeroFor c w, ZeroVector) ∷ []))
+unfoldable pub vectorRefusals : Bool → Bool → Bool → ℕ → ℕ → List ℕ → List ℕ → Refusals
+vectorRefusals ranged isBad busy c i w b =
+    (not (eqb (length w) vectorOctets), WrongLength) ∷ (keyRefusals ranged isBad busy c i b ++ ((zeroFor c w, ZeroVector) ∷ []))
 
-unfoldable pub vectorKeyOf : Bool → Bool → ℕ → ℕ → List ℕ → List ℕ → Answer × List ℕ
-vectorKeyOf isBad busy c i w b = outcome noKey (vectorRefusals isBad busy c i w b) (keyFor b c i)
+unfoldable pub vectorKeyOf : Bool → Bool → Bool → ℕ → ℕ → List ℕ → List ℕ → Answer × List ℕ
+vectorKeyOf ranged isBad busy c i w b = outcome noKey (vectorRefusals ranged isBad busy c i w b) (keyFor b c i)

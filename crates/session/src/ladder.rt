@@ -20,14 +20,14 @@ fn refused(answer: Answer) -> Ready
     }
 }
 
-// The ready key for what is to be opened: it is bad, or busy, by the caller's word.
-pub fn opening_key(bad: bool, busy: bool, cipher: u8, id: u8, book: &[u8]) -> Ready
-    ensures { λ r. ⌜ (r .answer, r .key) ≡ keyOf bad busy cipher id (now (book .entry)) ⌝ }
+// The ready key for what is to be opened. By the caller's word, its own numbers are in range, and it is bad, or busy.
+pub fn opening_key(ranged: bool, bad: bool, busy: bool, cipher: u8, id: u8, book: &[u8]) -> Ready
+    ensures { λ r. ⌜ (r .answer, r .key) ≡ keyOf ranged bad busy cipher id (now (book .entry)) ⌝ }
 {
     if book.len() != BOOK_OCTETS {
         return refused(Answer::WrongLength);
     }
-    if !is_named(cipher, id) {
+    if !ranged || !is_named(cipher, id) {
         return refused(Answer::OutOfRange);
     }
     if bad {
@@ -51,6 +51,7 @@ fn is_zero_for(cipher: u8, vector: &[u8]) -> bool
 
 // The same, for an opening that is given a vector.
 pub fn opening_key_with(
+    ranged: bool,
     bad: bool,
     busy: bool,
     cipher: u8,
@@ -58,12 +59,12 @@ pub fn opening_key_with(
     vector: &[u8],
     book: &[u8],
 ) -> Ready
-    ensures { λ r. ⌜ (r .answer, r .key) ≡ vectorKeyOf bad busy cipher id (now (vector .entry)) (now (book .entry)) ⌝ }
+    ensures { λ r. ⌜ (r .answer, r .key) ≡ vectorKeyOf ranged bad busy cipher id (now (vector .entry)) (now (book .entry)) ⌝ }
 {
     if vector.len() != VECTOR_OCTETS {
         return refused(Answer::WrongLength);
     }
-    let ready = opening_key(bad, busy, cipher, id, book);
+    let ready = opening_key(ranged, bad, busy, cipher, id, book);
     let answer = ready.answer;
     if answer.number() != 0 {
         return ready;

@@ -40,12 +40,12 @@ session-right end c w z = go (scrambles c) refl
         go′ true = refl
         go′ false = refl
 
-module _ (bad busy : Bool) (c i : ℕ) (b : List ℕ) (n : NoneHolds (keyRefusals bad busy c i b)) where
+module _ (bad busy : Bool) (c i : ℕ) (b : List ℕ) (n : NoneHolds (keyRefusals true bad busy c i b)) where
   ranged : (1 ≤ c) × (c ≤ 3)
-  ranged = none-named bad busy c i b n
+  ranged = none-named true bad busy c i b n
 
   key : keyRight c (keyFor b c i) ≡ true
-  key = none-key bad busy c i b n
+  key = none-key true bad busy c i b n
 
   joined-good : goodCall (written (joined c (keyFor b c i))) ≡ true
   joined-good = go (scrambles c) refl
@@ -72,8 +72,8 @@ module _ (call : Call) (good : goodCall call ≡ true) (c i : ℕ) (b : List ℕ
     unfolding openRefusals vectorRefusals
     done-good end low high n =
         begun-good (isBad (standing call)) (stands (standing call)) c i b
-        (none-left (keyRefusals (isBad (standing call)) (stands (standing call)) c i b) ((zeroFor c w, ZeroVector) ∷ []) (n .1)) end low high w
-        (none-right (keyRefusals (isBad (standing call)) (stands (standing call)) c i b) ((zeroFor c w, ZeroVector) ∷ []) (n .1) .0)
+        (none-left (keyRefusals true (isBad (standing call)) (stands (standing call)) c i b) ((zeroFor c w, ZeroVector) ∷ []) (n .1)) end low high w
+        (none-right (keyRefusals true (isBad (standing call)) (stands (standing call)) c i b) ((zeroFor c w, ZeroVector) ∷ []) (n .1) .0)
 
     pub open-good : goodCall (openOf call c i w b .1) ≡ true
     unfolding openOf

@@ -33,20 +33,20 @@ module _ (call : Call) (good : Bool) (g : good ≡ goodCall call) (c i : ℕ) (b
   abbrev busy : Bool
   busy = not (eqb (call .end) closedEnd)
 
-  module _ (a : Answer) (key : List ℕ) (e : (a, key) ≡ keyOf (not good) busy c i b) where
+  module _ (a : Answer) (key : List ℕ) (e : (a, key) ≡ keyOf true (not good) busy c i b) where
     pub join-refused : isDone a ≡ false → (a, call) ≡ joinOf call c i b
     unfolding joinOf joinRefusals
-    join-refused = key-begun-refused call (λ k. written (joined c k)) (not good) busy _ _ (call-alike call good g) c i b a key e
+    join-refused = key-begun-refused call (λ k. written (joined c k)) true (not good) busy _ _ (call-alike call good g) c i b a key e
 
     pub join-done : isDone a ≡ true → (Done, written (joined c key)) ≡ joinOf call c i b
     unfolding joinOf joinRefusals
-    join-done = key-begun call (λ k. written (joined c k)) (not good) busy _ _ (call-alike call good g) c i b a key e
+    join-done = key-begun call (λ k. written (joined c k)) true (not good) busy _ _ (call-alike call good g) c i b a key e
 
-  module _ (w : List ℕ) (a : Answer) (key : List ℕ) (e : (a, key) ≡ vectorKeyOf (not good) busy c i w b) (end : ℕ) where
+  module _ (w : List ℕ) (a : Answer) (key : List ℕ) (e : (a, key) ≡ vectorKeyOf true (not good) busy c i w b) (end : ℕ) where
     pub begun-refused : isDone a ≡ false → (a, call) ≡ begunOf end call c i w b
     unfolding openRefusals
-    begun-refused = vector-begun-refused call (begun end c w) (not good) busy _ _ (call-alike call good g) c i b w a key e
+    begun-refused = vector-begun-refused call (begun end c w) true (not good) busy _ _ (call-alike call good g) c i b w a key e
 
     pub begun-done : isDone a ≡ true → (Done, begun end c w key) ≡ begunOf end call c i w b
     unfolding openRefusals
-    begun-done = vector-begun call (begun end c w) (not good) busy _ _ (call-alike call good g) c i b w a key e
+    begun-done = vector-begun call (begun end c w) true (not good) busy _ _ (call-alike call good g) c i b w a key e

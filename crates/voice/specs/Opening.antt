@@ -14,13 +14,13 @@ use Rattle.voice.specs.Call.{sendingEnd, receivingEnd, Standing, receivi
 abbrev pub superframeSlots : ℕ
 superframeSlots = 4
 
--- 2, 3, 4 of the call, 9 while a call stands, 4 of the book, 5, 6
+-- 2, 3 of cipher and key ID (it has no numbers of its own), 4 of the call, 9 while a call stands, 4 of the book, 5, 6
 unfoldable pub joinRefusals : Standing → ℕ → ℕ → List ℕ → Refusals
-joinRefusals s c i b = keyRefusals (isBad s) (stands s) c i b
+joinRefusals s c i b = keyRefusals true (isBad s) (stands s) c i b
 
 -- the same, with the vector's 2 first and its 8 last
 unfoldable pub openRefusals : Standing → ℕ → ℕ → List ℕ → List ℕ → Refusals
-openRefusals s c i w b = vectorRefusals (isBad s) (stands s) c i w b
+openRefusals s c i w b = vectorRefusals true (isBad s) (stands s) c i w b
 
 -- a call at one of its ends, at position 0 of its first session, vector known
 abbrev pub begun : ℕ → ℕ → List ℕ → List ℕ → Call

@@ -23,6 +23,7 @@ fn begin(end: u8, call: Call, cipher: u8, id: u8, vector: &[u8], book: &[u8]) ->
     ensures { λ r. ⌜ (r .answer, r .call) ≡ begunOf end call cipher id (now (vector .entry)) (now (book .entry)) ⌝ }
 {
     let ready = opening_key_with(
+        true,
         !good_call(call),
         call.end != CLOSED,
         cipher,
@@ -87,7 +88,7 @@ fn joining(cipher: u8, key: [u8; KEY_ROOM]) -> Call
 pub fn join(call: Call, cipher: u8, id: u8, book: &[u8]) -> Stepped
     ensures { λ r. ⌜ (r .answer, r .call) ≡ joinOf call cipher id (now (book .entry)) ⌝ }
 {
-    let ready = opening_key(!good_call(call), call.end != CLOSED, cipher, id, book);
+    let ready = opening_key(true, !good_call(call), call.end != CLOSED, cipher, id, book);
     let answer = ready.answer;
     if answer.number() != 0 {
         return Stepped { answer, call };

@@ -14,5 +14,5 @@ begin-spec =
     (λ c κs. search needs)
     (λ c κs. search needs)
     (λ c. begun-refused _ _ (c .before .before .before .before .good-call .ensures) _ _ _ _ _ _ (c .before .before .opening-key-with .ensures) _ (not-done (c .before .before .opening-key-with .result .answer) (c .before .number .ensures) (c .if1 .taken)))
-    (λ c κs. begun-sized _ _ _ _ _ _ (c .before .before .before .opening-key-with .ensures) (is-done (c .before .before .before .opening-key-with .result .answer) (c .before .before .number .ensures) (c .before .if1 .left)))
+    (λ c κs. begun-sized _ _ _ _ _ _ _ (c .before .before .before .opening-key-with .ensures) (is-done (c .before .before .before .opening-key-with .result .answer) (c .before .before .number .ensures) (c .before .if1 .left)))
     (λ c. rw (c .session-vector .ensures) (begun-done _ _ (c .before .before .before .before .before .before .good-call .ensures) _ _ _ _ _ _ (c .before .before .before .before .opening-key-with .ensures) _ (is-done (c .before .before .before .before .opening-key-with .result .answer) (c .before .before .before .number .ensures) (c .before .before .if1 .left)))))

@@ -1,0 +1,57 @@
+-- Every operation's refusals stand in the order in which document 01 has them count, whatever the device. Assumes nothing.
+use mathlib.Core.Path.{_≡_, refl}
+use mathlib.Core.Bool.{true, false}
+use mathlib.Core.List.{List, [], _∷_}
+use Prim.Native.Nat.{ℕ}
+use Rattle.answers.specs.Order.{refusalOrder, numbersOf, inOrder}
+use Rattle.keyentry.specs.Entry.{loadRefusals, completeRefusals}
+use Rattle.keybook.specs.Book.{bookRefusals}
+use Rattle.keybook.specs.Operations.{beginRefusals, addRefusals, finishRefusals, eraseRefusals, notReady, readyRefusals}
+use Rattle.keybook.specs.History as book
+use Rattle.session.specs.Ladder as ladder
+use Rattle.voice.specs.Call.{endRefusals}
+use Rattle.voice.specs.Opening.{joinRefusals, openRefusals}
+use Rattle.voice.specs.Slot.{lostRefusals, voiceRefusals}
+use Rattle.voice.specs.Vector.{announceRefusals, nextRefusals}
+use Rattle.data.specs.Packet as packet
+use Rattle.data.specs.Opening as opening
+use Rattle.data.specs.Message as message
+use Rattle.demands.specs.Device.{Device, Open, Start, Join, Voice, Lost, End, Announce, NextVector, OpenPacket, Message, LostMessage, EndPacket, Operation, OfBook, OfCall, OfPacket}
+use Rattle.demands.specs.Refusals.{refusalsOf, orderOf}
+
+pub in-order : (d : Device) (o : Operation) → inOrder (orderOf o) (numbersOf (refusalsOf d o)) ≡ true
+unfolding beginRefusals addRefusals finishRefusals eraseRefusals bookRefusals loadRefusals completeRefusals openRefusals joinRefusals ladder.vectorRefusals
+    ladder.keyRefusals voiceRefusals lostRefusals endRefusals announceRefusals nextRefusals opening.openRefusals message.messageRefusals
+    message.lostRefusals packet.endRefusals
+in-order d (OfBook (book.Begin c i)) = refl
+in-order d (OfBook (book.Add c i xs)) = refl
+in-order d (OfBook (book.Finish c i)) = refl
+in-order d (OfBook (book.Erase c i)) = refl
+in-order d (OfCall n (Open c i w)) = refl
+in-order d (OfCall n (Start c i w)) = refl
+in-order d (OfCall n (Join c i)) = refl
+in-order d (OfCall n (Voice mask frame)) = refl
+in-order d (OfCall n Lost) = refl
+in-order d (OfCall n End) = refl
+in-order d (OfCall n (Announce w)) = refl
+in-order d (OfCall n (NextVector out)) = refl
+in-order d (OfPacket n (OpenPacket kind c i w)) = refl
+in-order d (OfPacket n (Message octets)) = refl
+in-order d (OfPacket n LostMessage) = refl
+in-order d (OfPacket n EndPacket) = refl
+
+-- the one exception is all of its own list
+pub message-order : (d : Device) (n : ℕ) (octets : List ℕ) → numbersOf (refusalsOf d (OfPacket n (Message octets))) ≡ 4 ∷ 9 ∷ 2 ∷ []
+unfolding message.messageRefusals message.lostRefusals
+message-order d n octets = refl
+
+-- and so do those of the ready key
+pub ready-in-order : (b : List ℕ) (c i : ℕ) → inOrder refusalOrder (numbersOf (readyRefusals b c i)) ≡ true
+unfolding readyRefusals bookRefusals notReady
+ready-in-order b c i = refl
+
+-- ---- what the test throws out
+
+-- an opening that asks whether a call stands before whether it is bad, or for a good book before whether a call stands
+pub wrong-orders : (inOrder refusalOrder (2 ∷ 2 ∷ 3 ∷ 9 ∷ 4 ∷ 4 ∷ 5 ∷ 6 ∷ 8 ∷ []) ≡ false) × (inOrder refusalOrder (2 ∷ 2 ∷ 3 ∷ 4 ∷ 4 ∷ 9 ∷ 5 ∷ 6 ∷ 8 ∷ []) ≡ false)
+wrong-orders = (refl, refl)

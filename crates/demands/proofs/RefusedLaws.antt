@@ -1,0 +1,218 @@
+-- What an operation is not refused was right, what is not done leaves the lent octets, and only a slot whose vector is unknown is held. Assumes nothing.
+use mathlib.Core.Path.{_≡_, refl, sym, ap, _∙_}
+use mathlib.Core.Bool.{Bool, true, false, _&&_, not}
+use mathlib.Core.List.{List}
+use Prim.Native.Nat.{ℕ, zero, suc, _≤_, _<_}
+use native.Mathlib.Omega.{arith}
+use lib.Dec.{leb, eqb}
+use lib.ListN.{length}
+use borrow.Author.Tests.{eqb-true, leb-true, ltb-false, not-false}
+use Rattle.octets.proofs.TestLaws.{and-left, and-right}
+use Rattle.answers.specs.declared.Answer.{Answer}
+use Rattle.answers.specs.declared.Answer.the-variants.{Done}
+use Rattle.answers.specs.Numbers.{numberOf}
+use Rattle.answers.specs.Outcomes.{Refusals, outcome}
+use Rattle.answers.proofs.OutcomeLaws.{NoneHolds, Refusal, none-settles, refusal-keeps}
+use Rattle.answers.proofs.TableLaws.{DecidedBy}
+use Rattle.keyentry.specs.Entry as entry
+use Rattle.keyentry.specs.Entry.{named}
+use Rattle.keybook.specs.Book.{bookOctets, goodBook, bookRefusals}
+use Rattle.keybook.specs.Operations as operations
+use Rattle.keybook.specs.Operations.{beginRefusals, addRefusals, finishRefusals, eraseRefusals}
+use Rattle.keybook.specs.History as book
+use Rattle.session.specs.Session.{vectorOctets}
+use Rattle.session.specs.Ladder as ladder
+use Rattle.ciphers.specs.Keystream.{stream}
+use Rattle.voice.specs.declared.call.Call.{Call}
+use Rattle.voice.specs.Call.{sendingEnd, receivingEnd, goodCall, Standing, closed, receiving, standing, written, endRefusals, endOf}
+use Rattle.voice.specs.Opening.{joinRefusals, openRefusals, begun, openOf, startOf, joined, joinOf}
+use Rattle.voice.specs.Slot.{slotOn, lostRefusals, lostOf, voiceRefusals, voiceAfter, voiceOf}
+use Rattle.voice.specs.Vector.{told, announceRefusals, announceOf, following, nextRefusals, nextVectorOf}
+use Rattle.voice.proofs.CallLaws.{Stands, none, sender, receiver, good-by, good-stands}
+use Rattle.voice.proofs.SlotLaws.{by-voice, none-good, undone-stays}
+use Rattle.data.specs.declared.packet.Packet.{Packet}
+use Rattle.data.specs.Kinds.{isKind, messageOctets}
+use Rattle.data.specs.Packet as packet
+use Rattle.data.specs.Opening as opening
+use Rattle.data.specs.Message as message
+use Rattle.demands.specs.Device.{Device, CallOperation, Open, Start, Join, Voice, Lost, End, Announce, NextVector, callStep, lentCall, PacketOperation, OpenPacket, Message, LostMessage, EndPacket, packetStep, lentPacket, Operation, OfBook, OfCall, OfPacket, step, lent}
+use Rattle.demands.specs.Refusals.{keyRefusals, callRefusals, packetRefusals, refusalsOf}
+use Rattle.demands.specs.Demand1.{Keyed, RightKey, RightCall, RightPacket, Right, Unknown, slot}
+use Rattle.demands.proofs.DeviceLaws.{refusals-decide}
+
+-- ---- what nothing refuses is right
+
+-- a length that is asked for
+sized : (n m : ℕ) → not (eqb n m) ≡ false → n ≡ m
+sized n m e = eqb-true n m (not-false (eqb n m) e)
+
+keyed : (b : List ℕ) (c i : ℕ) (own : Bool) → not (eqb (length b) bookOctets) ≡ false → not (own && named c i) ≡ false → not (goodBook b) ≡ false → Keyed b c i
+unfolding named
+keyed b c i own l n g =
+    let m : named c i ≡ true = and-right own (named c i) (not-false (own && named c i) n) in
+    let r = and-right (leb 1 c) (leb c 3 && leb i 63) m in
+    record {
+      long = sized (length b) bookOctets l;
+      good = not-false (goodBook b) g;
+      cipher = (leb-true 1 c (and-left (leb 1 c) (leb c 3 && leb i 63) m), leb-true c 3 (and-left (leb c 3) (leb i 63) r));
+      id = leb-true i 63 (and-right (leb c 3) (leb i 63) r);
+    }
+
+key-right : (b : List ℕ) (o : book.Operation) → NoneHolds (keyRefusals b o) → RightKey b o
+unfolding beginRefusals addRefusals finishRefusals eraseRefusals bookRefusals
+key-right b (book.Begin c i) n = keyed b c i true (n .0) (n .1 .0) (n .1 .1 .0)
+key-right b (book.Add c i xs) n = (keyed b c i true (n .1 .0) (n .1 .1 .0) (n .1 .1 .1 .0), ltb-false 32 (length xs) (n .0))
+key-right b (book.Finish c i) n = keyed b c i true (n .0) (n .1 .0) (n .1 .1 .0)
+key-right b (book.Erase c i) n = keyed b c i true (n .0) (n .1 .0) (n .1 .1 .0)
+
+-- open and start
+begun-right : (b : List ℕ) (c : Call) (m i : ℕ) (w : List ℕ) → NoneHolds (openRefusals (standing c) m i w b)
+    → Keyed b m i × (length w ≡ 8) × (goodCall c ≡ true)
+unfolding openRefusals ladder.vectorRefusals ladder.keyRefusals
+begun-right b c m i w n =
+    (keyed b m i true (n .1 .0) (n .1 .1 .0) (n .1 .1 .1 .1 .1 .0), sized (length w) vectorOctets (n .0), good-by c (n .1 .1 .1 .0))
+
+call-right : (b : List ℕ) (c : Call) (o : CallOperation) → NoneHolds (callRefusals b c o) → RightCall b c o
+unfolding joinRefusals ladder.keyRefusals voiceRefusals lostRefusals endRefusals announceRefusals nextRefusals
+call-right b c (Open m i w) n = begun-right b c m i w n
+call-right b c (Start m i w) n = begun-right b c m i w n
+call-right b c (Join m i) n = (keyed b m i true (n .0) (n .1 .0) (n .1 .1 .1 .1 .0), good-by c (n .1 .1 .0))
+call-right b c (Voice mask frame) n = (sized (length frame) 28 (n .0), ltb-false 15 mask (n .1 .0), good-by c (n .1 .1 .0))
+call-right b c Lost n = good-by c (n .0)
+call-right b c End n = good-by c (n .0)
+call-right b c (Announce w) n = (sized (length w) vectorOctets (n .0), good-by c (n .1 .0))
+call-right b c (NextVector out) n = (sized (length out) vectorOctets (n .0), good-by c (n .1 .0))
+
+packet-right : (b : List ℕ) (p : Packet) (o : PacketOperation) → NoneHolds (packetRefusals b p o) → RightPacket b p o
+unfolding opening.openRefusals ladder.vectorRefusals ladder.keyRefusals message.messageRefusals message.lostRefusals packet.endRefusals isKind
+packet-right b p (OpenPacket kind c i w) n =
+    let k = and-left (isKind kind) (named c i) (not-false (isKind kind && named c i) (n .1 .1 .0)) in (
+      keyed b c i (isKind kind) (n .1 .0) (n .1 .1 .0) (n .1 .1 .1 .1 .1 .0),
+      (leb-true 1 kind (and-left (leb 1 kind) (leb kind 4) k), leb-true kind 4 (and-right (leb 1 kind) (leb kind 4) k)),
+      sized (length w) vectorOctets (n .0),
+      not-false (packet.goodPacket p) (n .1 .1 .1 .0),
+    )
+packet-right b p (Message octets) n = (sized (length octets) (messageOctets (p .kind)) (n .1 .1 .0), not-false (packet.goodPacket p) (n .0))
+packet-right b p LostMessage n = not-false (packet.goodPacket p) (n .0)
+packet-right b p EndPacket n = not-false (packet.goodPacket p) (n .0)
+
+unrefused-right : (d : Device) (o : Operation) → NoneHolds (refusalsOf d o) → Right d o
+unrefused-right d (OfBook o) = key-right (d .book) o
+unrefused-right d (OfCall n o) = call-right (d .book) (d .calls n) o
+unrefused-right d (OfPacket n o) = packet-right (d .book) (d .packets n) o
+
+from-two : (n : ℕ) → (n < 2 → ⊥) → 2 ≤ n
+from-two zero f = absurd (f (omega arith))
+from-two (suc zero) f = absurd (f (omega arith))
+from-two (suc (suc n)) f = omega arith
+
+pub wrong-is-refused : (d : Device) (o : Operation) → (Right d o → ⊥) → Refusal (step d o .0)
+wrong-is-refused d o w = from-two (numberOf (step d o .0)) (λ l. w (unrefused-right d o (refusals-decide d o .only-then l)))
+
+-- ---- what is not done leaves the lent octets; and what is held
+
+-- an operation that is done where nothing refuses it: what is not done leaves all as it was
+undone : {S : Type 0} (before after : S) (rs : Refusals) → (numberOf (outcome before rs after .0) ≡ 0 → ⊥) → outcome before rs after .1 ≡ before
+undone before after rs n = refusal-keeps before rs (Done, after) (λ e. n (ap numberOf e))
+
+call-untouched : (b : List ℕ) (c : Call) (o : CallOperation) → (numberOf (callStep b c o .0) ≡ 0 → ⊥) → callStep b c o .1 .1 ≡ lentCall o
+unfolding callStep nextVectorOf
+call-untouched b c (Open m i w) n = refl
+call-untouched b c (Start m i w) n = refl
+call-untouched b c (Join m i) n = refl
+call-untouched b c (Voice mask frame) n = undone-stays stream c mask frame n
+call-untouched b c Lost n = refl
+call-untouched b c End n = refl
+call-untouched b c (Announce w) n = refl
+call-untouched b c (NextVector out) n = undone out (following (standing c)) (nextRefusals (standing c) out) n
+
+packet-untouched : (b : List ℕ) (p : Packet) (o : PacketOperation) → (numberOf (packetStep b p o .0) ≡ 0 → ⊥) → packetStep b p o .1 .1 ≡ lentPacket o
+unfolding packetStep message.messageOf
+packet-untouched b p (OpenPacket kind c i w) n = refl
+packet-untouched b p (Message octets) n =
+    ap (λ (r : Packet × List ℕ). r .1) (undone (p, octets) (message.counted p, message.messageTurned p octets) (message.messageRefusals p octets) n)
+packet-untouched b p LostMessage n = refl
+packet-untouched b p EndPacket n = refl
+
+pub undone-untouched : (d : Device) (o : Operation) → (numberOf (step d o .0) ≡ 0 → ⊥) → step d o .1 .1 ≡ lent o
+unfolding step
+undone-untouched d (OfBook o) n = refl
+undone-untouched d (OfCall m o) n = call-untouched (d .book) (d .calls m) o n
+undone-untouched d (OfPacket m o) n = packet-untouched (d .book) (d .packets m) o n
+
+-- such an operation is never held
+not-held : {S : Type 0} (before after : S) (rs : Refusals) → DecidedBy rs (outcome before rs after .0) → numberOf (outcome before rs after .0) ≡ 1 → ⊥
+not-held {S} before after rs d z =
+    let e : numberOf (outcome before rs after .0) ≡ 0 = ap (λ (o : Answer × S). numberOf (o .0)) (none-settles rs before (Done, after) (d .only-then (omega arith))) in
+    omega arith
+
+slot-held : (c : Call) (mask : ℕ) (frame : List ℕ) → numberOf (voiceOf c mask frame .0) ≡ 1 → (c .end ≡ receivingEnd) × (c .known ≡ false)
+slot-held c mask frame =
+    by-voice stream c mask frame (λ o. numberOf (o .0) ≡ 1 → (c .end ≡ receivingEnd) × (c .known ≡ false)) (λ a r z. absurd (omega arith))
+    (λ n z. go (good-stands c (none-good c mask frame n)) z)
+  where
+    known-not : (known : Bool) → numberOf (voiceAfter stream mask frame (receiving (c .cipher) (c .key) (c .position) known (c .vector)) .0) ≡ 1 → known ≡ false
+    known-not true z = absurd (omega arith)
+    known-not false z = refl
+
+    number : (s : Standing) → ℕ
+    number s = numberOf (voiceAfter stream mask frame s .0)
+
+    go : Stands c → number (standing c) ≡ 1 → (c .end ≡ receivingEnd) × (c .known ≡ false)
+    go (none o e s) z = let q : _≡_ {A = ℕ} 0 1 = sym (ap number s) ∙ z in absurd (omega arith)
+    go (sender o e s) z = let q : _≡_ {A = ℕ} 0 1 = sym (ap number s) ∙ z in absurd (omega arith)
+    go (receiver o e s) z = (e, known-not (c .known) (sym (ap number s) ∙ z))
+
+pub only-slots-held : (d : Device) (o : Operation) → numberOf (step d o .0) ≡ 1 → Unknown d o
+unfolding step book.step operations.beginOf operations.addOf operations.finishOf operations.eraseOf callStep openOf startOf joinOf lostOf endOf announceOf
+    nextVectorOf packetStep opening.openOf message.messageOf message.lostOf packet.endOf
+only-slots-held d (OfBook (book.Begin c i)) z =
+    let b = d .book in
+    absurd (not-held b (operations.beginAfter b c i) (operations.beginRefusals b c i) (refusals-decide d (OfBook (book.Begin c i))) z)
+only-slots-held d (OfBook (book.Add c i xs)) z =
+    let b = d .book in
+    absurd (not-held b (operations.withFor b c i (entry.loaded (operations.entryFor b c i) xs)) (operations.addRefusals b c i xs)
+    (refusals-decide d (OfBook (book.Add c i xs))) z)
+only-slots-held d (OfBook (book.Finish c i)) z =
+    let b = d .book in
+    absurd (not-held b (operations.withFor b c i (entry.completed (operations.entryFor b c i))) (operations.finishRefusals b c i)
+    (refusals-decide d (OfBook (book.Finish c i))) z)
+only-slots-held d (OfBook (book.Erase c i)) z =
+    let b = d .book in
+    absurd (not-held b (operations.withFor b c i entry.blank) (operations.eraseRefusals b c i) (refusals-decide d (OfBook (book.Erase c i))) z)
+only-slots-held d (OfCall n (Open c i w)) z =
+    let t = d .calls n in
+    absurd (not-held t (begun receivingEnd c w (ladder.keyFor (d .book) c i)) (openRefusals (standing t) c i w (d .book)) (refusals-decide d (OfCall n (Open c i w))) z)
+only-slots-held d (OfCall n (Start c i w)) z =
+    let t = d .calls n in
+    absurd (not-held t (begun sendingEnd c w (ladder.keyFor (d .book) c i)) (openRefusals (standing t) c i w (d .book)) (refusals-decide d (OfCall n (Start c i w))) z)
+only-slots-held d (OfCall n (Join c i)) z =
+    let t = d .calls n in
+    absurd (not-held t (written (joined c (ladder.keyFor (d .book) c i))) (joinRefusals (standing t) c i (d .book)) (refusals-decide d (OfCall n (Join c i))) z)
+only-slots-held d (OfCall n (Voice mask frame)) z = let h = slot-held (d .calls n) mask frame z in slot n mask frame (h .0) (h .1)
+only-slots-held d (OfCall n Lost) z =
+    let t = d .calls n in
+    absurd (not-held t (written (slotOn (standing t))) (lostRefusals (standing t)) (refusals-decide d (OfCall n Lost)) z)
+only-slots-held d (OfCall n End) z =
+    let t = d .calls n in
+    absurd (not-held t (written closed) (endRefusals (standing t)) (refusals-decide d (OfCall n End)) z)
+only-slots-held d (OfCall n (Announce w)) z =
+    let t = d .calls n in
+    absurd (not-held t (written (told w (standing t))) (announceRefusals (standing t) w) (refusals-decide d (OfCall n (Announce w))) z)
+only-slots-held d (OfCall n (NextVector out)) z =
+    let t = d .calls n in
+    absurd (not-held out (following (standing t)) (nextRefusals (standing t) out) (refusals-decide d (OfCall n (NextVector out))) z)
+only-slots-held d (OfPacket n (OpenPacket kind c i w)) z =
+    let p = d .packets n in
+    absurd (not-held p (opening.opened kind c w (ladder.keyFor (d .book) c i)) (opening.openRefusals p kind c i w (d .book))
+    (refusals-decide d (OfPacket n (OpenPacket kind c i w))) z)
+only-slots-held d (OfPacket n (Message octets)) z =
+    let p = d .packets n in
+    absurd (not-held (p, octets) (message.counted p, message.messageTurned p octets) (message.messageRefusals p octets)
+    (refusals-decide d (OfPacket n (Message octets))) z)
+only-slots-held d (OfPacket n LostMessage) z =
+    let p = d .packets n in
+    absurd (not-held p (message.counted p) (message.lostRefusals p) (refusals-decide d (OfPacket n LostMessage)) z)
+only-slots-held d (OfPacket n EndPacket) z =
+    let p = d .packets n in
+    absurd (not-held p packet.noPacket (packet.endRefusals p) (refusals-decide d (OfPacket n EndPacket)) z)

@@ -1,0 +1,56 @@
+-- What refuses each operation, all in one table, and the order in which it counts (document 01, "Answer numbers": "Several at once").
+use mathlib.Core.List.{List, [], _∷_}
+use Prim.Native.Nat.{ℕ}
+use Rattle.answers.specs.Outcomes.{Refusals}
+use Rattle.answers.specs.Order.{refusalOrder}
+use Rattle.keybook.specs.Operations.{beginRefusals, addRefusals, finishRefusals, eraseRefusals}
+use Rattle.keybook.specs.History as book
+use Rattle.voice.specs.declared.call.Call.{Call}
+use Rattle.voice.specs.Call.{standing, endRefusals}
+use Rattle.voice.specs.Opening.{joinRefusals, openRefusals}
+use Rattle.voice.specs.Slot.{lostRefusals, voiceRefusals}
+use Rattle.voice.specs.Vector.{announceRefusals, nextRefusals}
+use Rattle.data.specs.declared.packet.Packet.{Packet}
+use Rattle.data.specs.Packet as packet
+use Rattle.data.specs.Opening as opening
+use Rattle.data.specs.Message as message
+use Rattle.demands.specs.Device.{Device, CallOperation, Open, Start, Join, Voice, Lost, End, Announce, NextVector, PacketOperation, OpenPacket, Message, LostMessage, EndPacket, Operation, OfBook, OfCall, OfPacket}
+
+abbrev pub keyRefusals : List ℕ → book.Operation → Refusals
+keyRefusals b (book.Begin c i) = beginRefusals b c i
+keyRefusals b (book.Add c i xs) = addRefusals b c i xs
+keyRefusals b (book.Finish c i) = finishRefusals b c i
+keyRefusals b (book.Erase c i) = eraseRefusals b c i
+
+abbrev pub callRefusals : List ℕ → Call → CallOperation → Refusals
+callRefusals b c (Open cipher i w) = openRefusals (standing c) cipher i w b
+callRefusals b c (Start cipher i w) = openRefusals (standing c) cipher i w b
+callRefusals b c (Join cipher i) = joinRefusals (standing c) cipher i b
+callRefusals b c (Voice mask frame) = voiceRefusals (standing c) mask frame
+callRefusals b c Lost = lostRefusals (standing c)
+callRefusals b c End = endRefusals (standing c)
+callRefusals b c (Announce w) = announceRefusals (standing c) w
+callRefusals b c (NextVector out) = nextRefusals (standing c) out
+
+abbrev pub packetRefusals : List ℕ → Packet → PacketOperation → Refusals
+packetRefusals b p (OpenPacket kind c i w) = opening.openRefusals p kind c i w b
+packetRefusals b p (Message octets) = message.messageRefusals p octets
+packetRefusals b p LostMessage = message.lostRefusals p
+packetRefusals b p EndPacket = packet.endRefusals p
+
+abbrev pub refusalsOf : Device → Operation → Refusals
+refusalsOf d (OfBook o) = keyRefusals (d .book) o
+refusalsOf d (OfCall n o) = callRefusals (d .book) (d .calls n) o
+refusalsOf d (OfPacket n o) = packetRefusals (d .book) (d .packets n) o
+
+-- the paper's order for every operation but one: a data message's length depends on its packet, so there 4 and 9 come before 2
+abbrev packetOrder : PacketOperation → List ℕ
+packetOrder (OpenPacket kind c i w) = refusalOrder
+packetOrder (Message octets) = 4 ∷ 9 ∷ 2 ∷ []
+packetOrder LostMessage = refusalOrder
+packetOrder EndPacket = refusalOrder
+
+abbrev pub orderOf : Operation → List ℕ
+orderOf (OfBook o) = refusalOrder
+orderOf (OfCall n o) = refusalOrder
+orderOf (OfPacket n o) = packetOrder o
