@@ -25,5 +25,6 @@ pub mod CallsLoaded
 pub mod PacketsLoaded
 pub mod Meets1
 pub mod ThrownOut1
+pub mod DevicesThrownOut
 pub mod Instance1
 pub mod ThrownOut2

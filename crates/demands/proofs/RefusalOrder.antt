@@ -1,6 +1,6 @@
 -- Every operation's refusals stand in the order in which document 01 has them count, whatever the device. Assumes nothing.
 use mathlib.Core.Path.{_≡_, refl}
-use mathlib.Core.Bool.{true, false}
+use mathlib.Core.Bool.{true, false, not}
 use mathlib.Core.List.{List, [], _∷_}
 use Prim.Native.Nat.{ℕ}
 use Rattle.answers.specs.Order.{refusalOrder, numbersOf, inOrder}
@@ -8,34 +8,43 @@ use Rattle.keyentry.specs.Entry.{loadRefusals, completeRefusals}
 use Rattle.keybook.specs.Book.{bookRefusals}
 use Rattle.keybook.specs.Operations.{beginRefusals, addRefusals, finishRefusals, eraseRefusals, notReady, readyRefusals}
 use Rattle.keybook.specs.History as book
-use Rattle.session.specs.Ladder as ladder
-use Rattle.voice.specs.Call.{endRefusals}
+use Rattle.session.proofs.LadderLaws.{key-in-order, vector-in-order}
+use Rattle.voice.specs.Call.{Standing, standing, isBad, stands, endRefusals}
 use Rattle.voice.specs.Opening.{joinRefusals, openRefusals}
 use Rattle.voice.specs.Slot.{lostRefusals, voiceRefusals}
 use Rattle.voice.specs.Vector.{announceRefusals, nextRefusals}
+use Rattle.data.specs.Kinds.{isKind}
 use Rattle.data.specs.Packet as packet
 use Rattle.data.specs.Opening as opening
 use Rattle.data.specs.Message as message
 use Rattle.demands.specs.Device.{Device, Open, Start, Join, Voice, Lost, End, Announce, NextVector, OpenPacket, Message, LostMessage, EndPacket, Operation, OfBook, OfCall, OfPacket}
 use Rattle.demands.specs.Refusals.{refusalsOf, orderOf}
 
+-- open and start
+begun-in-order : (s : Standing) (c i : ℕ) (w b : List ℕ) → inOrder refusalOrder (numbersOf (openRefusals s c i w b)) ≡ true
+unfolding openRefusals
+begun-in-order s c i w b = vector-in-order true (isBad s) (stands s) c i b w
+
 pub in-order : (d : Device) (o : Operation) → inOrder (orderOf o) (numbersOf (refusalsOf d o)) ≡ true
-unfolding beginRefusals addRefusals finishRefusals eraseRefusals bookRefusals loadRefusals completeRefusals openRefusals joinRefusals ladder.vectorRefusals
-    ladder.keyRefusals voiceRefusals lostRefusals endRefusals announceRefusals nextRefusals opening.openRefusals message.messageRefusals
-    message.lostRefusals packet.endRefusals
+unfolding beginRefusals addRefusals finishRefusals eraseRefusals bookRefusals loadRefusals completeRefusals joinRefusals voiceRefusals lostRefusals
+    endRefusals announceRefusals nextRefusals opening.openRefusals message.messageRefusals message.lostRefusals packet.endRefusals
 in-order d (OfBook (book.Begin c i)) = refl
 in-order d (OfBook (book.Add c i xs)) = refl
 in-order d (OfBook (book.Finish c i)) = refl
 in-order d (OfBook (book.Erase c i)) = refl
-in-order d (OfCall n (Open c i w)) = refl
-in-order d (OfCall n (Start c i w)) = refl
-in-order d (OfCall n (Join c i)) = refl
+in-order d (OfCall n (Open c i w)) = begun-in-order (standing (d .calls n)) c i w (d .book)
+in-order d (OfCall n (Start c i w)) = begun-in-order (standing (d .calls n)) c i w (d .book)
+in-order d (OfCall n (Join c i)) =
+    let s = standing (d .calls n) in
+    key-in-order true (isBad s) (stands s) c i (d .book)
 in-order d (OfCall n (Voice mask frame)) = refl
 in-order d (OfCall n Lost) = refl
 in-order d (OfCall n End) = refl
 in-order d (OfCall n (Announce w)) = refl
 in-order d (OfCall n (NextVector out)) = refl
-in-order d (OfPacket n (OpenPacket kind c i w)) = refl
+in-order d (OfPacket n (OpenPacket kind c i w)) =
+    let p = d .packets n in
+    vector-in-order (isKind kind) (not (packet.goodPacket p)) (not (packet.isClosed p)) c i (d .book) w
 in-order d (OfPacket n (Message octets)) = refl
 in-order d (OfPacket n LostMessage) = refl
 in-order d (OfPacket n EndPacket) = refl

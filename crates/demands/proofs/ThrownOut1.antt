@@ -12,9 +12,8 @@ use Rattle.answers.specs.declared.Answer.the-variants.{Done, NotReady}
 use Rattle.answers.specs.Numbers.{numberOf, isDone}
 use Rattle.keybook.specs.History as book
 use Rattle.keybook.proofs.HistoryLaws.{one-told}
-use Rattle.demands.specs.Device.{CallOperation, Open, Start, Join, Voice, Lost, End, Announce, NextVector, PacketOperation, OpenPacket, Message, LostMessage, EndPacket, Operation, OfBook, OfCall, OfPacket, step, History, deviceAfter, history, keyOperations}
-use Rattle.demands.specs.Demand1.{OpensCall, by-open, by-start, by-join, OpensPacket, by-opening, renewsCall, renewsPacket, NoneDone, Loaded}
-use Rattle.demands.proofs.Meets1.{ours-meets-1}
+use Rattle.demands.specs.Device.{CallOperation, Open, Start, Join, Voice, Lost, End, Announce, NextVector, PacketOperation, OpenPacket, Message, LostMessage, EndPacket, Operation, OfBook, OfCall, OfPacket, Step, History, deviceAfter, history, keyOperations}
+use Rattle.demands.specs.Demand1.{OpensCall, by-open, by-start, by-join, OpensPacket, by-opening, renewsCall, renewsPacket, NoneDone, Loaded, Demand1}
 
 -- ---- without a finish that was done no key is loaded
 
@@ -65,23 +64,31 @@ unfinished-loads-none opens renews h c k n l =
     let m : NoneDone finishing (l .since ++ ((l .opening, Done) ∷ l .before)) = rw (l .is-history) at n in
     true≢false (ap isFinished (sym (l .told .is-finished)) ∙ unfinished (l .before) (after finishing (l .since) ((l .opening, Done) ∷ l .before) m .1) c (l .id))
 
--- so no word and no message is turned
-module _ (os : List Operation) (none : NoneDone finishing (history step os)) (n : ℕ) where
-  pub no-word : (mask : ℕ) (frame : List ℕ) → numberOf (step (deviceAfter step os) (OfCall n (Voice mask frame)) .0) ≡ 0 → ⊥
+-- so a device that turns a word or a message there does not meet the demand
+module _ (st : Step) (os : List Operation) (none : NoneDone finishing (history st os)) (n : ℕ) (meets : Demand1 st) where
+  pub no-word : (mask : ℕ) (frame : List ℕ) → numberOf (st (deviceAfter st os) (OfCall n (Voice mask frame)) .0) ≡ 0 → ⊥
   no-word mask frame z =
-      let t = ours-meets-1 .words os n mask frame z in
-      unfinished-loads-none (OpensCall n) (renewsCall n) (history step os) (deviceAfter step os .calls n .cipher) (deviceAfter step os .calls n .key) none (t .loaded)
+      let t = meets .words os n mask frame z in
+      unfinished-loads-none (OpensCall n) (renewsCall n) (history st os) (deviceAfter st os .calls n .cipher) (deviceAfter st os .calls n .key) none (t .loaded)
 
-  pub no-message : (message : List ℕ) → numberOf (step (deviceAfter step os) (OfPacket n (Message message)) .0) ≡ 0 → ⊥
+  pub no-message : (message : List ℕ) → numberOf (st (deviceAfter st os) (OfPacket n (Message message)) .0) ≡ 0 → ⊥
   no-message message z =
-      let t = ours-meets-1 .messages os n message z in
-      unfinished-loads-none (OpensPacket n) (renewsPacket n) (history step os) (deviceAfter step os .packets n .cipher) (deviceAfter step os .packets n .key) none (t .loaded)
+      let t = meets .messages os n message z in
+      unfinished-loads-none (OpensPacket n) (renewsPacket n) (history st os) (deviceAfter st os .packets n .cipher) (deviceAfter st os .packets n .key) none
+      (t .loaded)
 
--- version one: half a key is added, the finish is refused, and a call is opened all the same
-pub version-one : (c : ℕ) (k half w : List ℕ)
-    → Loaded (OpensCall 0) (renewsCall 0)
-    ((OfCall 0 (Open 2 0 w), Done) ∷ (OfBook (book.Finish 2 0), NotReady) ∷ (OfBook (book.Add 2 0 half), Done) ∷ (OfBook (book.Begin 2 0), Done) ∷ []) c k → ⊥
-version-one c k half w = unfinished-loads-none (OpensCall 0) (renewsCall 0) _ c k (refl, (refl, (refl, (refl, tt))))
+-- version one: half a key is added, the finish is refused, and a call is opened all the same, in whichever way; or a packet
+abbrev pub tooEarly : ℕ → ℕ → List ℕ → Operation → History
+tooEarly c i half o = (o, Done) ∷ (OfBook (book.Finish c i), NotReady) ∷ (OfBook (book.Add c i half), Done) ∷ (OfBook (book.Begin c i), Done) ∷ []
+
+module _ (n c i d : ℕ) (half k : List ℕ) where
+  pub version-one : (o : Operation) → OpensCall n c i o → Loaded (OpensCall n) (renewsCall n) (tooEarly c i half o) d k → ⊥
+  version-one _ (by-open w) = unfinished-loads-none (OpensCall n) (renewsCall n) _ d k (refl, (refl, (refl, (refl, tt))))
+  version-one _ (by-start w) = unfinished-loads-none (OpensCall n) (renewsCall n) _ d k (refl, (refl, (refl, (refl, tt))))
+  version-one _ by-join = unfinished-loads-none (OpensCall n) (renewsCall n) _ d k (refl, (refl, (refl, (refl, tt))))
+
+  pub version-one-packet : (o : Operation) → OpensPacket n c i o → Loaded (OpensPacket n) (renewsPacket n) (tooEarly c i half o) d k → ⊥
+  version-one-packet _ (by-opening kind w) = unfinished-loads-none (OpensPacket n) (renewsPacket n) _ d k (refl, (refl, (refl, (refl, tt))))
 
 -- ---- one opening stands, and so one key is loaded
 
@@ -117,6 +124,15 @@ module _ (opens : ℕ → ℕ → Operation → Type 0) (renews : Operation → 
       let a = told-at h c k l (l′ .since) (l′ .before) (l′ .opening) r (l′ .still-stands) (l′ .is-history) in
       let b = told-at h c′ k′ l′ (l′ .since) (l′ .before) (l′ .opening) r (l′ .still-stands) (l′ .is-history) in
       (a .0 ∙ sym (b .0), one-told (a .1) (b .1))
+
+  -- an opening right after its key was erased, whatever came before
+  erased-loads-none : (c i d : ℕ) (k : List ℕ) (o : Operation) (h : History) → opens c i o
+      → Loaded opens renews ((o, Done) ∷ (OfBook (book.Erase c i), Done) ∷ h) d k → ⊥
+  unfolding keyOperations book.telling
+  erased-loads-none c i d k o h p l =
+      let t = told-at _ d k l [] ((OfBook (book.Erase c i), Done) ∷ h) o (renewing c i o p) tt refl .1 in
+      let u = subst (λ (q : ℕ × ℕ). book.Told (keyOperations ((OfBook (book.Erase c i), Done) ∷ h)) (q .0) (q .1) k) (sym (naming c i o p)) t in
+      true≢false (ap isFinished (sym (u .is-finished)) ∙ rw (eq-eqb c c refl, eq-eqb i i refl))
 
 -- the cipher and key ID that an opening names
 abbrev callNames : CallOperation → ℕ × ℕ
@@ -168,11 +184,11 @@ module _ (n : ℕ) where
       → Loaded (OpensPacket n) (renewsPacket n) h c′ k′ → (c ≡ c′) × (k ≡ k′)
   one-key-packet = one-key (OpensPacket n) (renewsPacket n) openingNames packet-renews packet-names
 
--- an opening right after its key was erased, whatever came before
-pub erased : (c i d : ℕ) (k w : List ℕ) (h : History)
-    → Loaded (OpensCall 0) (renewsCall 0) ((OfCall 0 (Open c i w), Done) ∷ (OfBook (book.Erase c i), Done) ∷ h) d k → ⊥
-unfolding keyOperations book.telling
-erased c i d k w h l =
-    let t = told-at (OpensCall 0) (renewsCall 0) openingNames (call-renews 0) (call-names 0) _ d k l [] ((OfBook (book.Erase c i), Done) ∷ h)
-    (OfCall 0 (Open c i w)) refl tt refl in
-    true≢false (ap isFinished (sym (t .1 .is-finished)) ∙ rw (eq-eqb c c refl, eq-eqb i i refl))
+  -- an opening of any kind, right after its key was erased
+  pub erased : (c i d : ℕ) (k : List ℕ) (o : Operation) (h : History) → OpensCall n c i o
+      → Loaded (OpensCall n) (renewsCall n) ((o, Done) ∷ (OfBook (book.Erase c i), Done) ∷ h) d k → ⊥
+  erased = erased-loads-none (OpensCall n) (renewsCall n) openingNames call-renews call-names
+
+  pub erased-packet : (c i d : ℕ) (k : List ℕ) (o : Operation) (h : History) → OpensPacket n c i o
+      → Loaded (OpensPacket n) (renewsPacket n) ((o, Done) ∷ (OfBook (book.Erase c i), Done) ∷ h) d k → ⊥
+  erased-packet = erased-loads-none (OpensPacket n) (renewsPacket n) openingNames packet-renews packet-names

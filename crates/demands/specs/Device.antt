@@ -101,6 +101,13 @@ module _ {A : Type 0} where
   abbrev pub withNumber : ℕ → A → (ℕ → A) → ℕ → A
   withNumber n x f m = pick (eqb m n) x (f m)
 
+-- a device after an operation on the call, or packet, of number n
+abbrev pub withCall : Device → ℕ → Answer × (Call × List ℕ) → Answer × (Device × List ℕ)
+withCall d n r = (r .0, (record { book = d .book; calls = withNumber n (r .1 .0) (d .calls); packets = d .packets }, r .1 .1))
+
+abbrev pub withPacket : Device → ℕ → Answer × (Packet × List ℕ) → Answer × (Device × List ℕ)
+withPacket d n r = (r .0, (record { book = d .book; calls = d .calls; packets = withNumber n (r .1 .0) (d .packets) }, r .1 .1))
+
 -- what a device answers to an operation, what it is then, and the octets that the operation may write
 abbrev pub Step : Type 0
 Step = Device → Operation → Answer × (Device × List ℕ)
@@ -108,12 +115,8 @@ Step = Device → Operation → Answer × (Device × List ℕ)
 -- ours
 unfoldable pub step : Step
 step d (OfBook o) = let r = book.step o (d .book) in (r .0, (record { book = r .1; calls = d .calls; packets = d .packets }, []))
-step d (OfCall n o) =
-    let r = callStep (d .book) (d .calls n) o in
-    (r .0, (record { book = d .book; calls = withNumber n (r .1 .0) (d .calls); packets = d .packets }, r .1 .1))
-step d (OfPacket n o) =
-    let r = packetStep (d .book) (d .packets n) o in
-    (r .0, (record { book = d .book; calls = d .calls; packets = withNumber n (r .1 .0) (d .packets) }, r .1 .1))
+step d (OfCall n o) = withCall d n (callStep (d .book) (d .calls n) o)
+step d (OfPacket n o) = withPacket d n (packetStep (d .book) (d .packets n) o)
 
 abbrev pub lent : Operation → List ℕ
 lent (OfBook o) = []

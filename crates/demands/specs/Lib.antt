@@ -9,4 +9,5 @@ pub mod OurSender
 pub mod Device
 pub mod Refusals
 pub mod Demand1
+pub mod OtherDevices
 pub mod Demand2

@@ -9,6 +9,7 @@ use Rattle.answers.specs.declared.Answer.{Answer}
 use Rattle.answers.specs.declared.Answer.the-variants.{Done, ZeroVector}
 use Rattle.answers.specs.Numbers.{isDone}
 use Rattle.answers.specs.Outcomes.{Refusals, outcome}
+use Rattle.answers.specs.Order.{refusalOrder, numbersOf, inOrder}
 use Rattle.answers.proofs.OutcomeLaws.{NoneHolds, neverDone, none-first, none-settles, done-none, Refuses, answerAt, refused-at, first-decides}
 use Rattle.keyentry.specs.Entry.{named}
 use Rattle.keybook.specs.Book.{bookOctets, bookRefusals}
@@ -27,6 +28,11 @@ module _ (rs : Refusals) (key : List ℕ) (never : neverDone rs ≡ true) {o : A
 module _ (ranged isBad busy : Bool) (c i : ℕ) (b : List ℕ) where
   abbrev asked : Refusals
   asked = keyRefusals ranged isBad busy c i b
+
+  -- it asks in the order in which refusals count
+  pub key-in-order : inOrder refusalOrder (numbersOf asked) ≡ true
+  unfolding keyRefusals
+  key-in-order = refl
 
   pub key-refused : (n : ℕ) → Refuses asked n → (answerAt asked n, noKey) ≡ keyOf ranged isBad busy c i b
   unfolding keyOf
@@ -48,6 +54,10 @@ module _ (ranged isBad busy : Bool) (c i : ℕ) (b : List ℕ) where
   module _ (w : List ℕ) where
     abbrev askedWith : Refusals
     askedWith = vectorRefusals ranged isBad busy c i w b
+
+    pub vector-in-order : inOrder refusalOrder (numbersOf askedWith) ≡ true
+    unfolding vectorRefusals keyRefusals
+    vector-in-order = refl
 
     pub vector-length : (length w ≡ vectorOctets → ⊥) → (answerAt askedWith 0, noKey) ≡ vectorKeyOf ranged isBad busy c i w b
     unfolding vectorKeyOf vectorRefusals

@@ -1,0 +1,190 @@
+-- The devices that demand 1 throws out, each by one part of it: noise for a held frame, a bad book taken, everything held, a key operation that reaches a call,
+-- and version one, which takes half a key. Assumes nothing.
+use mathlib.Core.Path.{_≡_, refl, sym, ap, _∙_}
+use mathlib.Core.Bool.{Bool, true, false, true≢false}
+use mathlib.Core.List.{List, [], _∷_, _++_}
+use Prim.Native.Nat.{ℕ, _≤_}
+use native.Mathlib.Omega.{arith}
+use lib.Dec.{eqb}
+use lib.ListN.{getD, replicate}
+use Rattle.octets.specs.Tests.{pick, allBelow, firstBelow}
+use Rattle.octets.specs.Lists.{replaced, allZero}
+use Rattle.octets.proofs.TestLaws.{and-false-r}
+use Rattle.ciphers.specs.Keys.{oddOctet, scrambleKey, desKey, keyAllowed}
+use Rattle.answers.specs.declared.Answer.{Answer}
+use Rattle.answers.specs.declared.Answer.the-variants.{Done}
+use Rattle.answers.specs.Numbers.{numberOf, isDone}
+use Rattle.keyentry.specs.Entry as entry
+use Rattle.keybook.specs.Book as rules
+use Rattle.keybook.specs.Operations as operations
+use Rattle.keybook.specs.History as book
+use Rattle.session.specs.Session.{noVector, keyRight}
+use Rattle.session.specs.Ladder.{keyRefusals, zeroFor, vectorRefusals}
+use Rattle.session.specs.Samples.{seed, desABCD}
+use Rattle.voice.specs.declared.call.Call.{Call}
+use Rattle.voice.specs.Call.{vectorRight, closedTests, openTests, isClosed, isOpen, noCall, sending, receiving, standing, written}
+use Rattle.voice.specs.Opening.{openRefusals, joinRefusals}
+use Rattle.voice.specs.Slot.{zeroAfter, voiceOf}
+use Rattle.voice.proofs.SlotSteps.{voice-sent, voice-heard, voice-held}
+use Rattle.data.specs.Packet as packet
+use Rattle.demands.specs.Marked.{holding}
+use Rattle.demands.specs.Device.{Device, CallOperation, Open, Start, Join, Voice, callStep, Operation, OfBook, OfCall, OfPacket, Step, step, deviceAfter, history}
+use Rattle.demands.specs.Demand1.{Unknown, slot, NoneDone, Demand1}
+use Rattle.demands.specs.OtherDevices.{noise, noisy, wiping, holdingAll, ending, hastyCall, hasty}
+use Rattle.demands.proofs.Samples.{silence}
+use Rattle.demands.proofs.ThrownOut1.{finishing, no-word}
+
+-- a device with this book, these calls and no packet
+abbrev having : List ℕ → (ℕ → Call) → Device
+having b calls = record { book = b; calls = calls; packets = λ n. packet.noPacket }
+
+-- ---- noise for a held frame
+
+-- a DES receiver that joined
+abbrev listening : Call
+listening = written (receiving 2 desABCD 4 false noVector)
+
+listens : standing listening ≡ receiving 2 desABCD 4 false noVector
+unfolding standing isClosed closedTests isOpen openTests keyRight vectorRight keyAllowed desKey oddOctet allZero allBelow
+listens = refl
+
+pub noisy-thrown-out : Demand1 noisy → ⊥
+unfolding step callStep
+noisy-thrown-out meets =
+    let d = having [] (λ n. listening) in
+    let o = OfCall 0 (Voice 15 silence) in
+    let e : numberOf (step d o .0) ≡ 1 =
+    ap (λ (r : Answer × (Call × List ℕ)). numberOf (r .0)) (voice-held listening 15 silence (omega arith) refl 2 desABCD 4 noVector listens) in
+    let u : pick (eqb (numberOf (step d o .0)) 1) noise (step d o .1 .1) ≡ silence = meets .untouched d o (λ z. omega arith) in
+    let q : noise ≡ silence = rw e at u in
+    let r = ap (λ (xs : List ℕ). getD xs 0 0) q in
+    omega arith
+
+-- ---- a bad book taken, by whatever device else
+
+pub wiping-thrown-out : (st : Step) → Demand1 (wiping st) → ⊥
+unfolding rules.goodBook
+wiping-thrown-out st meets =
+    let d = having [] (λ n. noCall) in
+    let r : 2 ≤ 0 = meets .refused d (OfBook (book.Begin 1 0)) (λ k. true≢false (sym (k .good))) in
+    omega arith
+
+-- so is the two of them in one, which answers by the table, changes nothing where it refuses, and turns words and messages as ours
+pub wiping-noise-thrown-out : Demand1 (wiping noisy) → ⊥
+wiping-noise-thrown-out = wiping-thrown-out noisy
+
+-- ---- everything held
+
+abbrev isOnCall : Operation → Bool
+isOnCall (OfBook o) = false
+isOnCall (OfCall n o) = true
+isOnCall (OfPacket n o) = false
+
+on-call : (d : Device) (o : Operation) → Unknown d o → isOnCall o ≡ true
+on-call d _ (slot n mask frame e k) = refl
+
+pub holding-all-thrown-out : Demand1 holdingAll → ⊥
+holding-all-thrown-out meets =
+    let d = having [] (λ n. noCall) in
+    let o = OfBook (book.Begin 1 0) in
+    true≢false (sym (on-call d o (meets .held d o refl)))
+
+-- ---- a key operation that reaches a call
+
+pub ending-thrown-out : (st : Step) → Demand1 (ending st) → ⊥
+ending-thrown-out st meets =
+    let d = having [] (λ n. listening) in
+    let e : noCall ≡ listening = meets .apart d (OfBook (book.Erase 2 0)) .0 0 in
+    let z = ap (λ (c : Call). c .end) e in
+    omega arith
+
+-- ---- version one
+
+-- no finish is asked for, and so none was done
+never-done : (st : Step) (o : Operation) (os : List Operation) → finishing o ≡ false → NoneDone finishing (history st os) → NoneDone finishing (history st (o ∷ os))
+unfolding history
+never-done st o os e n = (rw e (and-false-r (isDone (st (deviceAfter st os) o .0))), n)
+
+none-yet : (st : Step) → NoneDone finishing (history st [])
+unfolding history
+none-yet st = tt
+
+-- half of an AES key, which with zeros after it would be an allowed key too; and of a scramble key
+abbrev halfAes : List ℕ
+halfAes = replicate 16 0x5A
+
+abbrev keptAes : List ℕ
+keptAes = halfAes ++ replicate 16 0
+
+abbrev halfScramble : List ℕ
+halfScramble = 0x01 ∷ []
+
+abbrev keptScramble : List ℕ
+keptScramble = halfScramble ++ replicate 31 0
+
+books : (book.step (book.Begin 3 0) (replicate 576 0) ≡ (Done, holding 3 [])) × (book.step (book.Add 3 0 halfAes) (holding 3 []) ≡ (Done, holding 3 halfAes))
+    × (book.step (book.Begin 1 0) (replicate 576 0) ≡ (Done, holding 1 [])) × (book.step (book.Add 1 0 halfScramble) (holding 1 []) ≡ (Done, holding 1 halfScramble))
+unfolding book.step operations.beginOf operations.addOf operations.beginRefusals operations.beginAfter operations.addRefusals rules.bookRefusals rules.entryOf
+    rules.withEntry rules.apart rules.goodBook rules.findEntry rules.freeEntry entry.named entry.isFor entry.entryRight entry.usedRight entry.readyRight
+    entry.lacks entry.newEntry entry.loadRefusals entry.loaded allZero allBelow firstBelow replaced keyAllowed
+books = (refl, refl, refl, refl)
+
+-- the calls are good
+stand : (standing (written (receiving 3 keptAes 0 true seed)) ≡ receiving 3 keptAes 0 true seed)
+    × (standing (written (sending 3 keptAes 0 seed)) ≡ sending 3 keptAes 0 seed)
+    × (standing (written (receiving 1 keptScramble 0 true noVector)) ≡ receiving 1 keptScramble 0 true noVector)
+unfolding standing isClosed closedTests isOpen openTests keyRight vectorRight keyAllowed scrambleKey allZero allBelow
+stand = (refl, refl, refl)
+
+heard : (c : ℕ) (k : List ℕ) (v : List ℕ) → standing (written (receiving c k 0 true v)) ≡ receiving c k 0 true v
+    → numberOf (voiceOf (written (receiving c k 0 true v)) 15 silence .0) ≡ 0
+heard c k v s =
+    ap (λ (r : Answer × (Call × List ℕ)). numberOf (r .0)) (voice-heard (written (receiving c k 0 true v)) 15 silence (omega arith) refl c k 0 v s)
+
+-- half a key of cipher c is added, a call is opened all the same, and its first slot is turned
+module _ (isHasty : CallOperation → Bool) where
+  module _ (c : ℕ) (half : List ℕ) (begins : book.step (book.Begin c 0) (replicate 576 0) ≡ (Done, holding c []))
+      (adds : book.step (book.Add c 0 half) (holding c []) ≡ (Done, holding c half)) where
+    half-loaded : List Operation
+    half-loaded = OfBook (book.Add c 0 half) ∷ OfBook (book.Begin c 0) ∷ []
+
+    is-half : deviceAfter (hasty isHasty) half-loaded ≡ having (holding c half) (λ n. noCall)
+    unfolding deviceAfter step half-loaded
+    is-half =
+        ap (λ (r : Answer × List ℕ). having (book.step (book.Add c 0 half) (r .1) .1) (λ n. noCall)) begins
+        ∙ ap (λ (r : Answer × List ℕ). having (r .1) (λ n. noCall)) adds
+
+    half-key-fails : (o : CallOperation) (call : Call) → hastyCall isHasty (holding c half) noCall o ≡ (Done, (call, []))
+        → numberOf (voiceOf call 15 silence .0) ≡ 0 → Demand1 (hasty isHasty) → ⊥
+    unfolding deviceAfter callStep half-loaded
+    half-key-fails o call opens turns meets =
+        let st = hasty isHasty in
+        no-word st (OfCall 0 o ∷ half-loaded)
+        (never-done st (OfCall 0 o) half-loaded refl
+        (never-done st (OfBook (book.Add c 0 half)) (OfBook (book.Begin c 0) ∷ []) refl (never-done st (OfBook (book.Begin c 0)) [] refl (none-yet st))))
+        0 meets 15 silence
+        (ap (λ (d : Device). numberOf (voiceOf (hastyCall isHasty (d .book) (d .calls 0) o .1 .0) 15 silence .0)) is-half
+        ∙ ap (λ (r : Answer × (Call × List ℕ)). numberOf (voiceOf (r .1 .0) 15 silence .0)) opens
+        ∙ turns)
+
+  -- hasty in open, in start or in join: each alone is thrown out
+  pub hasty-open-thrown-out : isHasty (Open 3 0 seed) ≡ true → Demand1 (hasty isHasty) → ⊥
+  unfolding openRefusals vectorRefusals keyRefusals zeroFor standing isClosed closedTests allZero allBelow firstBelow entry.named entry.isFor
+      entry.entryRight entry.usedRight entry.readyRight entry.lacks rules.entryOf rules.findEntry rules.apart rules.goodBook
+  hasty-open-thrown-out e =
+      half-key-fails 3 halfAes (books .0) (books .1) (Open 3 0 seed) (written (receiving 3 keptAes 0 true seed)) (rw e) (heard 3 keptAes seed (stand .0))
+
+  pub hasty-start-thrown-out : isHasty (Start 3 0 seed) ≡ true → Demand1 (hasty isHasty) → ⊥
+  unfolding openRefusals vectorRefusals keyRefusals zeroFor standing isClosed closedTests allZero allBelow firstBelow entry.named entry.isFor
+      entry.entryRight entry.usedRight entry.readyRight entry.lacks rules.entryOf rules.findEntry rules.apart rules.goodBook zeroAfter
+  hasty-start-thrown-out e =
+      half-key-fails 3 halfAes (books .0) (books .1) (Start 3 0 seed) (written (sending 3 keptAes 0 seed)) (rw e)
+      (ap (λ (r : Answer × (Call × List ℕ)). numberOf (r .0))
+      (voice-sent (written (sending 3 keptAes 0 seed)) 15 silence (omega arith) refl 3 keptAes 0 seed (stand .1) refl))
+
+  pub hasty-join-thrown-out : isHasty (Join 1 0) ≡ true → Demand1 (hasty isHasty) → ⊥
+  unfolding joinRefusals keyRefusals standing isClosed closedTests allZero allBelow firstBelow entry.named entry.isFor entry.entryRight entry.usedRight
+      entry.readyRight entry.lacks rules.entryOf rules.findEntry rules.apart rules.goodBook
+  hasty-join-thrown-out e =
+      half-key-fails 1 halfScramble (books .2) (books .3) (Join 1 0) (written (receiving 1 keptScramble 0 true noVector)) (rw e)
+      (heard 1 keptScramble noVector (stand .2))

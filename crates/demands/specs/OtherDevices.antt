@@ -1,0 +1,77 @@
+-- Devices that demand 1 throws out: each does what the user fears.
+use mathlib.Core.Bool.{Bool, true, false}
+use mathlib.Core.List.{List, [], _∷_}
+use Prim.Native.Nat.{ℕ}
+use lib.Dec.{eqb}
+use lib.ListN.{replicate}
+use Rattle.octets.specs.Tests.{pick}
+use Rattle.answers.specs.declared.Answer.{Answer}
+use Rattle.answers.specs.declared.Answer.the-variants.{Done, Held, NotReady}
+use Rattle.answers.specs.Numbers.{numberOf}
+use Rattle.answers.specs.Outcomes.{Refusals, outcome}
+use Rattle.keybook.specs.Book.{bookOctets, goodBook}
+use Rattle.session.specs.Ladder.{keyFor}
+use Rattle.voice.specs.declared.call.Call.{Call}
+use Rattle.voice.specs.Call.{sendingEnd, receivingEnd, noCall, written}
+use Rattle.voice.specs.Opening.{begun, joined}
+use Rattle.demands.specs.Device.{withNone, Device, CallOperation, Open, Start, Join, Voice, Lost, End, Announce, NextVector, callStep, Operation, OfBook, OfCall, OfPacket, withCall, Step, step, lent}
+use Rattle.demands.specs.Refusals.{callRefusals}
+
+-- octets that nobody said
+abbrev pub noise : List ℕ
+noise = replicate 28 170
+
+-- ours, but a held frame comes back as noise
+abbrev pub noisy : Step
+noisy d o = let r = step d o in (r .0, (r .1 .0, pick (eqb (numberOf (r .0)) 1) noise (r .1 .1)))
+
+-- any device, but where the book is bad everything is done, the book is wiped and noise comes back
+abbrev wipingBy : Bool → Step → Step
+wipingBy true st d o = st d o
+wipingBy false st d o = (Done, (record { book = replicate bookOctets 0; calls = d .calls; packets = d .packets }, noise))
+
+abbrev pub wiping : Step → Step
+wiping st d o = wipingBy (goodBook (d .book)) st d o
+
+-- one that holds everything and changes nothing
+abbrev pub holdingAll : Step
+holdingAll d o = (Held, (d, lent o))
+
+-- any device, but a key operation ends call 0
+abbrev endingBy : Operation → Device → Device
+endingBy (OfBook o) d = record { book = d .book; calls = λ n. pick (eqb n 0) noCall (d .calls n); packets = d .packets }
+endingBy (OfCall n o) d = d
+endingBy (OfPacket n o) d = d
+
+abbrev pub ending : Step → Step
+ending st d o = let r = st d o in (r .0, (endingBy o (r .1 .0), r .1 .1))
+
+-- ---- version one: it began to talk while the key loader was still sending
+
+-- refusals without those by number n
+abbrev unasked : ℕ → Refusals → Refusals
+unasked n [] = []
+unasked n (r ∷ rs) = pick (eqb (numberOf (r .1)) n) (unasked n rs) (r ∷ unasked n rs)
+
+-- ours, but the openings of a call that are hasty do not ask whether the entry is ready
+module _ (isHasty : CallOperation → Bool) where
+  abbrev hastyRefusals : List ℕ → Call → CallOperation → Refusals
+  hastyRefusals b c o = pick (isHasty o) (unasked (numberOf NotReady) (callRefusals b c o)) (callRefusals b c o)
+
+  abbrev opened : List ℕ → Call → CallOperation → Call → Answer × (Call × List ℕ)
+  opened b c o after = withNone (outcome c (hastyRefusals b c o) after)
+
+  abbrev pub hastyCall : List ℕ → Call → CallOperation → Answer × (Call × List ℕ)
+  hastyCall b c (Open cipher i w) = opened b c (Open cipher i w) (begun receivingEnd cipher w (keyFor b cipher i))
+  hastyCall b c (Start cipher i w) = opened b c (Start cipher i w) (begun sendingEnd cipher w (keyFor b cipher i))
+  hastyCall b c (Join cipher i) = opened b c (Join cipher i) (written (joined cipher (keyFor b cipher i)))
+  hastyCall b c (Voice mask frame) = callStep b c (Voice mask frame)
+  hastyCall b c Lost = callStep b c Lost
+  hastyCall b c End = callStep b c End
+  hastyCall b c (Announce w) = callStep b c (Announce w)
+  hastyCall b c (NextVector out) = callStep b c (NextVector out)
+
+  abbrev pub hasty : Step
+  hasty d (OfBook o) = step d (OfBook o)
+  hasty d (OfCall n o) = withCall d n (hastyCall (d .book) (d .calls n) o)
+  hasty d (OfPacket n o) = step d (OfPacket n o)
