@@ -1,18 +1,18 @@
 -- What an operation answers is a number of document 01's table, settled by its refusals in their order; and a refusal leaves all as it was. Assumes nothing.
-use mathlib.Core.Path.{_≡_, refl, sym, ap, subst}
+use mathlib.Core.Path.{_≡_, refl, sym, ap, subst, _∙_}
 use mathlib.Core.Bool.{Bool, true, false, _&&_, true≢false}
 use mathlib.Core.Logic.{inl, inr}
 use mathlib.Core.List.{[], _∷_}
-use Prim.Native.Nat.{ℕ, _<_}
+use Prim.Native.Nat.{_<_}
 use native.Mathlib.Omega.{arith}
 use Rattle.octets.proofs.TestLaws.{and-left, and-right}
 use Rattle.answers.specs.declared.Answer.{Answer}
 use Rattle.answers.specs.declared.Answer.the-variants.{Done, Held, WrongLength, OutOfRange, Bad, NoEntry, NotReady, NotAllowed, ZeroVector, NotNow, BadMask, Already, Full, TooMany, NextZero, Malformed}
 use Rattle.answers.specs.Numbers.{numberOf, isOneOf, operationNumbers}
-use Rattle.answers.specs.Outcomes.{Refusals, settled}
+use Rattle.answers.specs.Outcomes.{Refusals, settled, answered}
 use Rattle.answers.specs.Order.{refusalOrder}
 use Rattle.answers.proofs.OutcomeLaws as outcomes
-use Rattle.answers.proofs.OutcomeLaws.{Refusal, NoneHolds, Among, by-refusals, Refuses, answerAt, refused-at, none-settles}
+use Rattle.answers.proofs.OutcomeLaws.{Refusal, NoneHolds, Among, by-refusals, none-settles, around}
 
 -- every refusal is one of the table
 abbrev pub inTable : Refusals → Bool
@@ -63,28 +63,31 @@ among-table a (r ∷ rs) t (inl e) =
     (of-table (r .1) (and-left (isOneOf (numberOf (r .1)) refusalOrder) (inTable rs) t))
 among-table a (r ∷ rs) t (inr m) = among-table a rs (and-right (isOneOf (numberOf (r .1)) refusalOrder) (inTable rs) t) m
 
--- an answer is the first refusal's whose test holds; where none holds, and only there, it is 0 or 1
-pub record DecidedBy (rs : Refusals) (a : Answer) : Type 0 where
-  pub refused : (n : ℕ) → Refuses rs n → a ≡ answerAt rs n
-  pub taken : NoneHolds rs → numberOf a < 2
-  pub only-then : numberOf a < 2 → NoneHolds rs
+-- where no test holds, the last answer is given
+none-answered : (rs : Refusals) (a : Answer) → NoneHolds rs → answered rs a ≡ a
+none-answered rs a n = ap (λ (o : Answer × Unit {0}). o .0) (none-settles rs tt (a, tt) n)
 
 module _ {S : Type 0} where
-  -- an outcome answers by the table and by its refusals, and where it refuses leaves all as it was before
-  pub record Settles (before : S) (rs : Refusals) (o : Answer × S) : Type 0 where
+  -- an outcome answers by the table and by its refusals, or a where none of them holds; and where it refuses leaves all as it was before
+  pub record Settles (before : S) (rs : Refusals) (a : Answer) (o : Answer × S) : Type 0 where
     pub number : isOneOf (numberOf (o .0)) operationNumbers ≡ true
-    pub decided : DecidedBy rs (o .0)
+    pub answer : o .0 ≡ answered rs a
+    -- 0 and 1 are given only where none holds
+    pub none-holds : numberOf (o .0) < 2 → NoneHolds rs
     pub keeps : Refusal (o .0) → o .1 ≡ before
 
-  pub settles : (before : S) (rs : Refusals) (last : Answer × S) → inTable rs ≡ true → numberOf (last .0) < 2 → Settles before rs (settled before rs last)
+  pub settles : (before : S) (rs : Refusals) (last : Answer × S) → inTable rs ≡ true → numberOf (last .0) < 2
+      → Settles before rs (last .0) (settled before rs last)
   settles before rs last t l =
       record {
-        number = by-refusals (λ o. isOneOf (numberOf (o .0)) operationNumbers ≡ true) before rs last (λ a m. among-table a rs t m .0) (λ n. under-two (last .0) l);
-        decided =
-            record {
-              refused = λ n h. sym (ap (λ (o : Answer × S). o .0) (refused-at before rs last n h));
-              taken = λ n. subst (λ (o : Answer × S). numberOf (o .0) < 2) (sym (none-settles rs before last n)) l;
-              only-then = by-refusals (λ o. numberOf (o .0) < 2 → NoneHolds rs) before rs last (λ a m h. absurd (omega (arith, among-table a rs t m .1))) (λ n h. n);
-            };
+        number =
+            by-refusals (λ o. isOneOf (numberOf (o .0)) operationNumbers ≡ true) before rs last (λ a m. among-table a rs t m .0)
+            (λ n. under-two (last .0) l);
+        answer = ap (λ (o : Answer × Unit {0}). o .0) (around (λ (x : S). tt {0}) before rs last);
+        none-holds =
+            by-refusals (λ o. numberOf (o .0) < 2 → NoneHolds rs) before rs last (λ a m h. absurd (omega (arith, among-table a rs t m .1))) (λ n h. n);
         keeps = outcomes.keeps before rs last l;
       }
+
+  pub not-refused : {before : S} {rs : Refusals} {a : Answer} {o : Answer × S} → Settles before rs a o → numberOf (o .0) < 2 → o .0 ≡ a
+  not-refused {before} {rs} {a} {o} s l = s .answer ∙ none-answered rs a (s .none-holds l)

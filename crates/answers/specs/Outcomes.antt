@@ -18,3 +18,7 @@ module _ {S : Type 0} where
   -- the outcome of an operation that is done where nothing refuses it
   abbrev pub outcome : S → Refusals → S → Answer × S
   outcome before rs after = settled before rs (Done, after)
+
+-- the answer alone
+abbrev pub answered : Refusals → Answer → Answer
+answered rs last = settled {S = Unit {0}} tt rs (last, tt) .0

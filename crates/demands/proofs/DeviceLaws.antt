@@ -1,8 +1,8 @@
 -- Every operation on a device answers by the table, and where it refuses leaves book, calls, packets and lent octets as they were. Assumes nothing.
-use mathlib.Core.Path.{_≡_, refl, sym, ap, _∙_}
+use mathlib.Core.Path.{_≡_, refl, sym, ap, subst, _∙_}
 use mathlib.Core.Bool.{Bool, true, false}
 use mathlib.Core.List.{List, []}
-use Prim.Native.Nat.{ℕ}
+use Prim.Native.Nat.{ℕ, _<_}
 use native.Mathlib.Omega.{arith}
 use lib.Dec.{eqb}
 use borrow.Author.Tests.{eqb-true, eqb-false}
@@ -10,9 +10,9 @@ use Rattle.octets.specs.Tests.{pick}
 use Rattle.answers.specs.declared.Answer.{Answer}
 use Rattle.answers.specs.declared.Answer.the-variants.{Done}
 use Rattle.answers.specs.Numbers.{numberOf, isOneOf, operationNumbers}
-use Rattle.answers.specs.Outcomes.{Refusals}
-use Rattle.answers.proofs.OutcomeLaws.{Refusal}
-use Rattle.answers.proofs.TableLaws.{DecidedBy, Settles, settles}
+use Rattle.answers.specs.Outcomes.{Refusals, answered}
+use Rattle.answers.proofs.OutcomeLaws.{Refusal, NoneHolds}
+use Rattle.answers.proofs.TableLaws.{Settles, settles}
 use Rattle.ciphers.specs.Keystream.{stream}
 use Rattle.keyentry.specs.Entry.{loadRefusals, completeRefusals, blank, loaded, completed}
 use Rattle.keybook.specs.Book.{bookRefusals}
@@ -21,7 +21,7 @@ use Rattle.keybook.specs.History as book
 use Rattle.session.specs.Ladder as ladder
 use Rattle.session.specs.Ladder.{keyFor, vectorRefusals}
 use Rattle.voice.specs.declared.call.Call.{Call}
-use Rattle.voice.specs.Call.{sendingEnd, receivingEnd, standing, closed, written, endRefusals, endOf}
+use Rattle.voice.specs.Call.{sendingEnd, receivingEnd, Standing, closed, bad, sending, receiving, standing, written, endRefusals, endOf}
 use Rattle.voice.specs.Opening.{joinRefusals, openRefusals, begun, openOf, startOf, joined, joinOf}
 use Rattle.voice.specs.Slot.{slotOn, lostRefusals, lostOf, voiceRefusals, voiceAfter, voiceBy}
 use Rattle.voice.specs.Vector.{told, announceRefusals, announceOf, following, nextRefusals, nextVectorOf}
@@ -31,12 +31,12 @@ use Rattle.data.specs.Packet as packet
 use Rattle.data.specs.Opening as opening
 use Rattle.data.specs.Message as message
 use Rattle.demands.specs.Device.{withNone, Device, CallOperation, Open, Start, Join, Voice, Lost, End, Announce, NextVector, callStep, lentCall, PacketOperation, OpenPacket, Message, LostMessage, EndPacket, packetStep, lentPacket, Operation, OfBook, OfCall, OfPacket, withNumber, step}
-use Rattle.demands.specs.Refusals.{keyRefusals, callRefusals, packetRefusals, refusalsOf}
+use Rattle.demands.specs.Refusals.{keyRefusals, callRefusals, packetRefusals, refusalsOf, slotAnswer, callUnrefused, unrefused}
 use Rattle.demands.specs.Demand1.{Same, SameBeside}
 
 -- ---- on the book, a call, a packet
 
-book-settles : (b : List ℕ) (o : book.Operation) → Settles b (keyRefusals b o) (book.step o b)
+pub book-settles : (b : List ℕ) (o : book.Operation) → Settles b (keyRefusals b o) Done (book.step o b)
 unfolding book.step operations.beginOf operations.addOf operations.finishOf operations.eraseOf operations.beginRefusals operations.addRefusals
     operations.finishRefusals operations.eraseRefusals bookRefusals loadRefusals completeRefusals
 book-settles b (book.Begin c i) = settles b (operations.beginRefusals b c i) (Done, operations.beginAfter b c i) refl (omega arith)
@@ -47,25 +47,35 @@ book-settles b (book.Finish c i) =
 book-settles b (book.Erase c i) = settles b (operations.eraseRefusals b c i) (Done, operations.withFor b c i blank) refl (omega arith)
 
 -- an operation that writes no lent octets
-none-lent : {S : Type 0} {before : S} {rs : Refusals} {o : Answer × S} → Settles before rs o → Settles (before, []) rs (withNone o)
-none-lent {S} s = record { number = s .number; decided = s .decided; keeps = λ h. ap (λ (x : S). (x, [])) (s .keeps h) }
+none-lent : {S : Type 0} {before : S} {rs : Refusals} {a : Answer} {o : Answer × S} → Settles before rs a o → Settles (before, []) rs a (withNone o)
+none-lent {S} s = record { number = s .number; answer = s .answer; none-holds = s .none-holds; keeps = λ h. ap (λ (x : S). (x, [])) (s .keeps h) }
 
-call-settles : (b : List ℕ) (c : Call) (o : CallOperation) → Settles (c, lentCall o) (callRefusals b c o) (callStep b c o)
+-- a slot that nothing refuses
+slot-answer : (mask : ℕ) (frame : List ℕ) (s : Standing) → voiceAfter stream mask frame s .0 ≡ slotAnswer s
+slot-answer mask frame closed = refl
+slot-answer mask frame bad = refl
+slot-answer mask frame (sending c k p v) = refl
+slot-answer mask frame (receiving c k p true v) = refl
+slot-answer mask frame (receiving c k p false v) = refl
+
+pub call-settles : (b : List ℕ) (c : Call) (o : CallOperation) → Settles (c, lentCall o) (callRefusals b c o) (callUnrefused c o) (callStep b c o)
 unfolding callStep openOf startOf joinOf voiceBy lostOf endOf announceOf nextVectorOf openRefusals joinRefusals vectorRefusals ladder.keyRefusals
     voiceRefusals lostRefusals endRefusals announceRefusals nextRefusals
 call-settles b c (Open n i w) = none-lent (settles c (openRefusals (standing c) n i w b) (Done, begun receivingEnd n w (keyFor b n i)) refl (omega arith))
 call-settles b c (Start n i w) = none-lent (settles c (openRefusals (standing c) n i w b) (Done, begun sendingEnd n w (keyFor b n i)) refl (omega arith))
 call-settles b c (Join n i) = none-lent (settles c (joinRefusals (standing c) n i b) (Done, written (joined n (keyFor b n i))) refl (omega arith))
 call-settles b c (Voice mask frame) =
-    settles (c, frame) (voiceRefusals (standing c) mask frame) (voiceAfter stream mask frame (standing c)) refl (voice-under-two stream c mask frame (standing c))
+    subst (λ (a : Answer). Settles (c, frame) (voiceRefusals (standing c) mask frame) a (voiceBy stream c mask frame)) (slot-answer mask frame (standing c))
+    (settles (c, frame) (voiceRefusals (standing c) mask frame) (voiceAfter stream mask frame (standing c)) refl
+    (voice-under-two stream c mask frame (standing c)))
 call-settles b c Lost = none-lent (settles c (lostRefusals (standing c)) (Done, written (slotOn (standing c))) refl (omega arith))
 call-settles b c End = none-lent (settles c (endRefusals (standing c)) (Done, written closed) refl (omega arith))
 call-settles b c (Announce w) = none-lent (settles c (announceRefusals (standing c) w) (Done, written (told w (standing c))) refl (omega arith))
 call-settles b c (NextVector out) =
     let s = settles out (nextRefusals (standing c) out) (Done, following (standing c)) refl (omega arith) in
-    record { number = s .number; decided = s .decided; keeps = λ h. ap (λ (x : List ℕ). (c, x)) (s .keeps h) }
+    record { number = s .number; answer = s .answer; none-holds = s .none-holds; keeps = λ h. ap (λ (x : List ℕ). (c, x)) (s .keeps h) }
 
-packet-settles : (b : List ℕ) (p : Packet) (o : PacketOperation) → Settles (p, lentPacket o) (packetRefusals b p o) (packetStep b p o)
+pub packet-settles : (b : List ℕ) (p : Packet) (o : PacketOperation) → Settles (p, lentPacket o) (packetRefusals b p o) Done (packetStep b p o)
 unfolding packetStep opening.openOf message.messageOf message.lostOf packet.endOf opening.openRefusals vectorRefusals ladder.keyRefusals
     message.messageRefusals message.lostRefusals packet.endRefusals
 packet-settles b p (OpenPacket kind c i w) =
@@ -95,12 +105,18 @@ answers-by-table d (OfBook o) = book-settles (d .book) o .number
 answers-by-table d (OfCall n o) = call-settles (d .book) (d .calls n) o .number
 answers-by-table d (OfPacket n o) = packet-settles (d .book) (d .packets n) o .number
 
--- what an operation answers is decided by its refusals, in their order
-pub refusals-decide : (d : Device) (o : Operation) → DecidedBy (refusalsOf d o) (step d o .0)
+-- the answer is the first refusal's that holds, in their order, or else 0, or 1
+pub refusals-decide : (d : Device) (o : Operation) → step d o .0 ≡ answered (refusalsOf d o) (unrefused d o)
 unfolding step
-refusals-decide d (OfBook o) = book-settles (d .book) o .decided
-refusals-decide d (OfCall n o) = call-settles (d .book) (d .calls n) o .decided
-refusals-decide d (OfPacket n o) = packet-settles (d .book) (d .packets n) o .decided
+refusals-decide d (OfBook o) = book-settles (d .book) o .answer
+refusals-decide d (OfCall n o) = call-settles (d .book) (d .calls n) o .answer
+refusals-decide d (OfPacket n o) = packet-settles (d .book) (d .packets n) o .answer
+
+pub unrefused-only : (d : Device) (o : Operation) → numberOf (step d o .0) < 2 → NoneHolds (refusalsOf d o)
+unfolding step
+unrefused-only d (OfBook o) = book-settles (d .book) o .none-holds
+unrefused-only d (OfCall n o) = call-settles (d .book) (d .calls n) o .none-holds
+unrefused-only d (OfPacket n o) = packet-settles (d .book) (d .packets n) o .none-holds
 
 pub refusal-changes-nothing : (d : Device) (o : Operation) → Refusal (step d o .0) → Same (step d o .1 .0) d
 unfolding step

@@ -12,22 +12,20 @@ use Rattle.answers.specs.declared.Answer.{Answer}
 use Rattle.answers.specs.declared.Answer.the-variants.{Done}
 use Rattle.answers.specs.Numbers.{numberOf}
 use Rattle.answers.specs.Outcomes.{Refusals, outcome}
-use Rattle.answers.proofs.OutcomeLaws.{NoneHolds, Refusal, none-settles, refusal-keeps}
-use Rattle.answers.proofs.TableLaws.{DecidedBy}
-use Rattle.keyentry.specs.Entry as entry
+use Rattle.answers.proofs.OutcomeLaws.{NoneHolds, Refusal, refusal-keeps}
+use Rattle.answers.proofs.TableLaws.{Settles, not-refused}
 use Rattle.keyentry.specs.Entry.{named}
 use Rattle.keybook.specs.Book.{bookOctets, goodBook, bookRefusals}
-use Rattle.keybook.specs.Operations as operations
 use Rattle.keybook.specs.Operations.{beginRefusals, addRefusals, finishRefusals, eraseRefusals}
 use Rattle.keybook.specs.History as book
 use Rattle.session.specs.Session.{vectorOctets}
 use Rattle.session.specs.Ladder as ladder
 use Rattle.ciphers.specs.Keystream.{stream}
 use Rattle.voice.specs.declared.call.Call.{Call}
-use Rattle.voice.specs.Call.{sendingEnd, receivingEnd, goodCall, Standing, closed, receiving, standing, written, endRefusals, endOf}
-use Rattle.voice.specs.Opening.{joinRefusals, openRefusals, begun, openOf, startOf, joined, joinOf}
-use Rattle.voice.specs.Slot.{slotOn, lostRefusals, lostOf, voiceRefusals, voiceAfter, voiceOf}
-use Rattle.voice.specs.Vector.{told, announceRefusals, announceOf, following, nextRefusals, nextVectorOf}
+use Rattle.voice.specs.Call.{receivingEnd, goodCall, Standing, receiving, standing, endRefusals}
+use Rattle.voice.specs.Opening.{joinRefusals, openRefusals}
+use Rattle.voice.specs.Slot.{lostRefusals, voiceRefusals, voiceAfter, voiceOf}
+use Rattle.voice.specs.Vector.{announceRefusals, following, nextRefusals, nextVectorOf}
 use Rattle.voice.proofs.CallLaws.{Stands, none, sender, receiver, good-by, good-stands}
 use Rattle.voice.proofs.SlotLaws.{by-voice, none-good, undone-stays}
 use Rattle.data.specs.declared.packet.Packet.{Packet}
@@ -38,7 +36,7 @@ use Rattle.data.specs.Message as message
 use Rattle.demands.specs.Device.{Device, CallOperation, Open, Start, Join, Voice, Lost, End, Announce, NextVector, callStep, lentCall, PacketOperation, OpenPacket, Message, LostMessage, EndPacket, packetStep, lentPacket, Operation, OfBook, OfCall, OfPacket, step, lent}
 use Rattle.demands.specs.Refusals.{keyRefusals, callRefusals, packetRefusals, refusalsOf}
 use Rattle.demands.specs.Demand1.{Keyed, RightKey, RightCall, RightPacket, Right, Unknown, slot}
-use Rattle.demands.proofs.DeviceLaws.{refusals-decide}
+use Rattle.demands.proofs.DeviceLaws.{book-settles, call-settles, packet-settles, unrefused-only}
 
 -- ---- what nothing refuses is right
 
@@ -107,7 +105,7 @@ from-two (suc zero) f = absurd (f (omega arith))
 from-two (suc (suc n)) f = omega arith
 
 pub wrong-is-refused : (d : Device) (o : Operation) → (Right d o → ⊥) → Refusal (step d o .0)
-wrong-is-refused d o w = from-two (numberOf (step d o .0)) (λ l. w (unrefused-right d o (refusals-decide d o .only-then l)))
+wrong-is-refused d o w = from-two (numberOf (step d o .0)) (λ l. w (unrefused-right d o (unrefused-only d o l)))
 
 -- ---- what is not done leaves the lent octets; and what is held
 
@@ -140,11 +138,9 @@ undone-untouched d (OfBook o) n = refl
 undone-untouched d (OfCall m o) n = call-untouched (d .book) (d .calls m) o n
 undone-untouched d (OfPacket m o) n = packet-untouched (d .book) (d .packets m) o n
 
--- such an operation is never held
-not-held : {S : Type 0} (before after : S) (rs : Refusals) → DecidedBy rs (outcome before rs after .0) → numberOf (outcome before rs after .0) ≡ 1 → ⊥
-not-held {S} before after rs d z =
-    let e : numberOf (outcome before rs after .0) ≡ 0 = ap (λ (o : Answer × S). numberOf (o .0)) (none-settles rs before (Done, after) (d .only-then (omega arith))) in
-    omega arith
+-- nor is it ever held
+not-held : {S : Type 0} {before : S} {rs : Refusals} {o : Answer × S} → Settles before rs Done o → numberOf (o .0) ≡ 1 → ⊥
+not-held {o = o} s z = let e = ap numberOf (not-refused s (omega arith)) in omega arith
 
 slot-held : (c : Call) (mask : ℕ) (frame : List ℕ) → numberOf (voiceOf c mask frame .0) ≡ 1 → (c .end ≡ receivingEnd) × (c .known ≡ false)
 slot-held c mask frame =
@@ -163,56 +159,19 @@ slot-held c mask frame =
     go (sender o e s) z = let q : _≡_ {A = ℕ} 0 1 = sym (ap number s) ∙ z in absurd (omega arith)
     go (receiver o e s) z = (e, known-not (c .known) (sym (ap number s) ∙ z))
 
+call-held : (d : Device) (n : ℕ) (o : CallOperation) → numberOf (callStep (d .book) (d .calls n) o .0) ≡ 1 → Unknown d (OfCall n o)
+unfolding callStep
+call-held d n (Open c i w) z = absurd (not-held (call-settles (d .book) (d .calls n) (Open c i w)) z)
+call-held d n (Start c i w) z = absurd (not-held (call-settles (d .book) (d .calls n) (Start c i w)) z)
+call-held d n (Join c i) z = absurd (not-held (call-settles (d .book) (d .calls n) (Join c i)) z)
+call-held d n (Voice mask frame) z = let h = slot-held (d .calls n) mask frame z in slot n mask frame (h .0) (h .1)
+call-held d n Lost z = absurd (not-held (call-settles (d .book) (d .calls n) Lost) z)
+call-held d n End z = absurd (not-held (call-settles (d .book) (d .calls n) End) z)
+call-held d n (Announce w) z = absurd (not-held (call-settles (d .book) (d .calls n) (Announce w)) z)
+call-held d n (NextVector out) z = absurd (not-held (call-settles (d .book) (d .calls n) (NextVector out)) z)
+
 pub only-slots-held : (d : Device) (o : Operation) → numberOf (step d o .0) ≡ 1 → Unknown d o
-unfolding step book.step operations.beginOf operations.addOf operations.finishOf operations.eraseOf callStep openOf startOf joinOf lostOf endOf announceOf
-    nextVectorOf packetStep opening.openOf message.messageOf message.lostOf packet.endOf
-only-slots-held d (OfBook (book.Begin c i)) z =
-    let b = d .book in
-    absurd (not-held b (operations.beginAfter b c i) (operations.beginRefusals b c i) (refusals-decide d (OfBook (book.Begin c i))) z)
-only-slots-held d (OfBook (book.Add c i xs)) z =
-    let b = d .book in
-    absurd (not-held b (operations.withFor b c i (entry.loaded (operations.entryFor b c i) xs)) (operations.addRefusals b c i xs)
-    (refusals-decide d (OfBook (book.Add c i xs))) z)
-only-slots-held d (OfBook (book.Finish c i)) z =
-    let b = d .book in
-    absurd (not-held b (operations.withFor b c i (entry.completed (operations.entryFor b c i))) (operations.finishRefusals b c i)
-    (refusals-decide d (OfBook (book.Finish c i))) z)
-only-slots-held d (OfBook (book.Erase c i)) z =
-    let b = d .book in
-    absurd (not-held b (operations.withFor b c i entry.blank) (operations.eraseRefusals b c i) (refusals-decide d (OfBook (book.Erase c i))) z)
-only-slots-held d (OfCall n (Open c i w)) z =
-    let t = d .calls n in
-    absurd (not-held t (begun receivingEnd c w (ladder.keyFor (d .book) c i)) (openRefusals (standing t) c i w (d .book)) (refusals-decide d (OfCall n (Open c i w))) z)
-only-slots-held d (OfCall n (Start c i w)) z =
-    let t = d .calls n in
-    absurd (not-held t (begun sendingEnd c w (ladder.keyFor (d .book) c i)) (openRefusals (standing t) c i w (d .book)) (refusals-decide d (OfCall n (Start c i w))) z)
-only-slots-held d (OfCall n (Join c i)) z =
-    let t = d .calls n in
-    absurd (not-held t (written (joined c (ladder.keyFor (d .book) c i))) (joinRefusals (standing t) c i (d .book)) (refusals-decide d (OfCall n (Join c i))) z)
-only-slots-held d (OfCall n (Voice mask frame)) z = let h = slot-held (d .calls n) mask frame z in slot n mask frame (h .0) (h .1)
-only-slots-held d (OfCall n Lost) z =
-    let t = d .calls n in
-    absurd (not-held t (written (slotOn (standing t))) (lostRefusals (standing t)) (refusals-decide d (OfCall n Lost)) z)
-only-slots-held d (OfCall n End) z =
-    let t = d .calls n in
-    absurd (not-held t (written closed) (endRefusals (standing t)) (refusals-decide d (OfCall n End)) z)
-only-slots-held d (OfCall n (Announce w)) z =
-    let t = d .calls n in
-    absurd (not-held t (written (told w (standing t))) (announceRefusals (standing t) w) (refusals-decide d (OfCall n (Announce w))) z)
-only-slots-held d (OfCall n (NextVector out)) z =
-    let t = d .calls n in
-    absurd (not-held out (following (standing t)) (nextRefusals (standing t) out) (refusals-decide d (OfCall n (NextVector out))) z)
-only-slots-held d (OfPacket n (OpenPacket kind c i w)) z =
-    let p = d .packets n in
-    absurd (not-held p (opening.opened kind c w (ladder.keyFor (d .book) c i)) (opening.openRefusals p kind c i w (d .book))
-    (refusals-decide d (OfPacket n (OpenPacket kind c i w))) z)
-only-slots-held d (OfPacket n (Message octets)) z =
-    let p = d .packets n in
-    absurd (not-held (p, octets) (message.counted p, message.messageTurned p octets) (message.messageRefusals p octets)
-    (refusals-decide d (OfPacket n (Message octets))) z)
-only-slots-held d (OfPacket n LostMessage) z =
-    let p = d .packets n in
-    absurd (not-held p (message.counted p) (message.lostRefusals p) (refusals-decide d (OfPacket n LostMessage)) z)
-only-slots-held d (OfPacket n EndPacket) z =
-    let p = d .packets n in
-    absurd (not-held p packet.noPacket (packet.endRefusals p) (refusals-decide d (OfPacket n EndPacket)) z)
+unfolding step
+only-slots-held d (OfBook o) z = absurd (not-held (book-settles (d .book) o) z)
+only-slots-held d (OfCall n o) z = call-held d n o z
+only-slots-held d (OfPacket n o) z = absurd (not-held (packet-settles (d .book) (d .packets n) o) z)

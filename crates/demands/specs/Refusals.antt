@@ -1,12 +1,15 @@
--- What refuses each operation, all in one table, and the order in which it counts (document 01, "Answer numbers": "Several at once").
+-- What refuses each operation, all in one table, what it is answered else, and the order in which refusals count (document 01, "Answer numbers": "Several at once").
 use mathlib.Core.List.{List, [], _∷_}
 use Prim.Native.Nat.{ℕ}
+use Rattle.octets.specs.Tests.{pick}
+use Rattle.answers.specs.declared.Answer.{Answer}
+use Rattle.answers.specs.declared.Answer.the-variants.{Done, Held}
 use Rattle.answers.specs.Outcomes.{Refusals}
 use Rattle.answers.specs.Order.{refusalOrder}
 use Rattle.keybook.specs.Operations.{beginRefusals, addRefusals, finishRefusals, eraseRefusals}
 use Rattle.keybook.specs.History as book
 use Rattle.voice.specs.declared.call.Call.{Call}
-use Rattle.voice.specs.Call.{standing, endRefusals}
+use Rattle.voice.specs.Call.{Standing, closed, bad, sending, receiving, standing, endRefusals}
 use Rattle.voice.specs.Opening.{joinRefusals, openRefusals}
 use Rattle.voice.specs.Slot.{lostRefusals, voiceRefusals}
 use Rattle.voice.specs.Vector.{announceRefusals, nextRefusals}
@@ -42,6 +45,28 @@ abbrev pub refusalsOf : Device → Operation → Refusals
 refusalsOf d (OfBook o) = keyRefusals (d .book) o
 refusalsOf d (OfCall n o) = callRefusals (d .book) (d .calls n) o
 refusalsOf d (OfPacket n o) = packetRefusals (d .book) (d .packets n) o
+
+-- what is answered where none of these holds: the operation is done, but a slot in a receiving call whose vector is unknown is held
+abbrev pub slotAnswer : Standing → Answer
+slotAnswer closed = Done
+slotAnswer bad = Done
+slotAnswer (sending c k p v) = Done
+slotAnswer (receiving c k p known v) = pick known Done Held
+
+abbrev pub callUnrefused : Call → CallOperation → Answer
+callUnrefused c (Open cipher i w) = Done
+callUnrefused c (Start cipher i w) = Done
+callUnrefused c (Join cipher i) = Done
+callUnrefused c (Voice mask frame) = slotAnswer (standing c)
+callUnrefused c Lost = Done
+callUnrefused c End = Done
+callUnrefused c (Announce w) = Done
+callUnrefused c (NextVector out) = Done
+
+abbrev pub unrefused : Device → Operation → Answer
+unrefused d (OfBook o) = Done
+unrefused d (OfCall n o) = callUnrefused (d .calls n) o
+unrefused d (OfPacket n o) = Done
 
 -- the paper's order for every operation but one: a data message's length depends on its packet, so there 4 and 9 come before 2
 abbrev packetOrder : PacketOperation → List ℕ
