@@ -11,6 +11,19 @@ use Rattle.answers.specs.Outcomes.{Refusals}
 abbrev pub refusalOrder : List ℕ
 refusalOrder = 2 ∷ 3 ∷ 10 ∷ 4 ∷ 9 ∷ 4 ∷ 5 ∷ 11 ∷ 6 ∷ 13 ∷ 7 ∷ 12 ∷ 8 ∷ 14 ∷ []
 
+-- its parts: of what is given, of the call or packet, of the book, and of a vector of zeros
+abbrev pub ofGiven : List ℕ
+ofGiven = 2 ∷ 3 ∷ 10 ∷ []
+
+abbrev pub ofCall : List ℕ
+ofCall = 4 ∷ 9 ∷ []
+
+abbrev pub ofBook : List ℕ
+ofBook = 4 ∷ 5 ∷ 11 ∷ 6 ∷ 13 ∷ 7 ∷ 12 ∷ []
+
+abbrev pub ofZeros : List ℕ
+ofZeros = 8 ∷ 14 ∷ []
+
 -- the numbers of a list of refusals
 abbrev pub numbersOf : Refusals → List ℕ
 numbersOf [] = []

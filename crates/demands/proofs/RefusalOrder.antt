@@ -1,9 +1,9 @@
 -- Every operation's refusals stand in the order in which document 01 has them count, whatever the device. Assumes nothing.
 use mathlib.Core.Path.{_≡_, refl}
 use mathlib.Core.Bool.{true, false, not}
-use mathlib.Core.List.{List, [], _∷_}
+use mathlib.Core.List.{List, [], _∷_, _++_}
 use Prim.Native.Nat.{ℕ}
-use Rattle.answers.specs.Order.{refusalOrder, numbersOf, inOrder}
+use Rattle.answers.specs.Order.{refusalOrder, ofGiven, ofCall, ofBook, ofZeros, numbersOf, inOrder}
 use Rattle.keyentry.specs.Entry.{loadRefusals, completeRefusals}
 use Rattle.keybook.specs.Book.{bookRefusals}
 use Rattle.keybook.specs.Operations.{beginRefusals, addRefusals, finishRefusals, eraseRefusals, notReady, readyRefusals}
@@ -18,7 +18,7 @@ use Rattle.data.specs.Packet as packet
 use Rattle.data.specs.Opening as opening
 use Rattle.data.specs.Message as message
 use Rattle.demands.specs.Device.{Device, Open, Start, Join, Voice, Lost, End, Announce, NextVector, OpenPacket, Message, LostMessage, EndPacket, Operation, OfBook, OfCall, OfPacket}
-use Rattle.demands.specs.Refusals.{refusalsOf, orderOf}
+use Rattle.demands.specs.Refusals.{refusalsOf, withoutCall, withoutBook, orderOf}
 
 -- open and start
 begun-in-order : (s : Standing) (c i : ℕ) (w b : List ℕ) → inOrder refusalOrder (numbersOf (openRefusals s c i w b)) ≡ true
@@ -55,12 +55,18 @@ unfolding message.messageRefusals message.lostRefusals
 message-order d n octets = refl
 
 -- and so do those of the ready key
-pub ready-in-order : (b : List ℕ) (c i : ℕ) → inOrder refusalOrder (numbersOf (readyRefusals b c i)) ≡ true
+pub ready-in-order : (b : List ℕ) (c i : ℕ) → inOrder withoutCall (numbersOf (readyRefusals b c i)) ≡ true
 unfolding readyRefusals bookRefusals notReady
 ready-in-order b c i = refl
 
+-- the parts of the order are all of it
+pub order-parts : refusalOrder ≡ ofGiven ++ (ofCall ++ (ofBook ++ ofZeros))
+order-parts = refl
+
 -- ---- what the test throws out
 
--- an opening that asks whether a call stands before whether it is bad, or for a good book before whether a call stands
-pub wrong-orders : (inOrder refusalOrder (2 ∷ 2 ∷ 3 ∷ 9 ∷ 4 ∷ 4 ∷ 5 ∷ 6 ∷ 8 ∷ []) ≡ false) × (inOrder refusalOrder (2 ∷ 2 ∷ 3 ∷ 4 ∷ 4 ∷ 9 ∷ 5 ∷ 6 ∷ 8 ∷ []) ≡ false)
-wrong-orders = (refl, refl)
+-- an opening that asks whether a call stands before whether it is bad, or for a good book before whether a call stands; and a slot that asks so
+pub wrong-orders : (inOrder refusalOrder (2 ∷ 2 ∷ 3 ∷ 9 ∷ 4 ∷ 4 ∷ 5 ∷ 6 ∷ 8 ∷ []) ≡ false)
+    × (inOrder refusalOrder (2 ∷ 2 ∷ 3 ∷ 4 ∷ 4 ∷ 9 ∷ 5 ∷ 6 ∷ 8 ∷ []) ≡ false)
+    × (inOrder withoutBook (2 ∷ 10 ∷ 9 ∷ 4 ∷ 14 ∷ []) ≡ false)
+wrong-orders = (refl, refl, refl)

@@ -1,11 +1,11 @@
 -- What refuses each operation, all in one table, what it is answered else, and the order in which refusals count (document 01, "Answer numbers": "Several at once").
-use mathlib.Core.List.{List, [], _∷_}
+use mathlib.Core.List.{List, [], _∷_, _++_}
 use Prim.Native.Nat.{ℕ}
 use Rattle.octets.specs.Tests.{pick}
 use Rattle.answers.specs.declared.Answer.{Answer}
 use Rattle.answers.specs.declared.Answer.the-variants.{Done, Held}
 use Rattle.answers.specs.Outcomes.{Refusals}
-use Rattle.answers.specs.Order.{refusalOrder}
+use Rattle.answers.specs.Order.{refusalOrder, ofGiven, ofCall, ofBook, ofZeros}
 use Rattle.keybook.specs.Operations.{beginRefusals, addRefusals, finishRefusals, eraseRefusals}
 use Rattle.keybook.specs.History as book
 use Rattle.voice.specs.declared.call.Call.{Call}
@@ -68,14 +68,31 @@ unrefused d (OfBook o) = Done
 unrefused d (OfCall n o) = callUnrefused (d .calls n) o
 unrefused d (OfPacket n o) = Done
 
--- the paper's order for every operation but one: a data message's length depends on its packet, so there 4 and 9 come before 2
+-- the order of each, "where the operation can give it": a key operation has no call, and only an opening has both call and book
+abbrev pub withoutCall : List ℕ
+withoutCall = ofGiven ++ (ofBook ++ ofZeros)
+
+abbrev pub withoutBook : List ℕ
+withoutBook = ofGiven ++ (ofCall ++ ofZeros)
+
+abbrev callOrder : CallOperation → List ℕ
+callOrder (Open cipher i w) = refusalOrder
+callOrder (Start cipher i w) = refusalOrder
+callOrder (Join cipher i) = refusalOrder
+callOrder (Voice mask frame) = withoutBook
+callOrder Lost = withoutBook
+callOrder End = withoutBook
+callOrder (Announce w) = withoutBook
+callOrder (NextVector out) = withoutBook
+
+-- the paper's exception: a data message's length depends on its packet, so there 4 and 9 come before 2
 abbrev packetOrder : PacketOperation → List ℕ
 packetOrder (OpenPacket kind c i w) = refusalOrder
 packetOrder (Message octets) = 4 ∷ 9 ∷ 2 ∷ []
-packetOrder LostMessage = refusalOrder
-packetOrder EndPacket = refusalOrder
+packetOrder LostMessage = withoutBook
+packetOrder EndPacket = withoutBook
 
 abbrev pub orderOf : Operation → List ℕ
-orderOf (OfBook o) = refusalOrder
-orderOf (OfCall n o) = refusalOrder
+orderOf (OfBook o) = withoutCall
+orderOf (OfCall n o) = callOrder o
 orderOf (OfPacket n o) = packetOrder o
