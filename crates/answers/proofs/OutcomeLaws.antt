@@ -61,6 +61,11 @@ pub among-refuses : (a : Answer) (rs : Refusals) → fromTwo rs ≡ true → Amo
 among-refuses a (r ∷ rs) t (inl e) = rw (← e) (leb-true 2 (numberOf (r .1)) (and-left (leb 2 (numberOf (r .1))) (fromTwo rs) t))
 among-refuses a (r ∷ rs) t (inr m) = among-refuses a rs (and-right (leb 2 (numberOf (r .1))) (fromTwo rs) t) m
 
+-- P holds of each answer whose test holds where none before it does
+abbrev pub Gives : (Answer → Type 0) → Refusals → Type 0
+Gives P [] = Unit {0}
+Gives P (r ∷ rs) = (r .0 ≡ true → P (r .1)) × (r .0 ≡ false → Gives P rs)
+
 module _ {S : Type 0} where
   -- what holds of each refusal, and of the last answer where no test holds, holds of the outcome
   pub by-refusals : (P : Answer × S → Type 0) (before : S) (rs : Refusals) (last : Answer × S)
@@ -71,6 +76,15 @@ module _ {S : Type 0} where
       go : (t : Bool) → r .0 ≡ t → ((NoneHolds rs → P last) → P (settled before rs last)) → P (pick t (r .1, before) (settled before rs last))
       go true e h = f (r .1) (inl refl)
       go false e h = h (λ n. g (e, n))
+
+  -- what holds of each answer that is given, and of the last one, holds of the outcome's
+  pub gives : (P : Answer → Type 0) (before : S) (rs : Refusals) (last : Answer × S) → Gives P rs → P (last .0) → P (settled before rs last .0)
+  gives P before [] last g l = l
+  gives P before (r ∷ rs) last g l = go (r .0) (g .0) (λ e. gives P before rs last (g .1 e) l)
+    where
+      go : (t : Bool) → (t ≡ true → P (r .1)) → (t ≡ false → P (settled before rs last .0)) → P (pick t (r .1, before) (settled before rs last) .0)
+      go true p q = p refl
+      go false p q = q refl
 
   -- a refusal leaves all as it was before
   pub refusal-keeps : (before : S) (rs : Refusals) (last : Answer × S)

@@ -6,3 +6,4 @@ pub mod FindLaws
 pub mod Laws
 pub mod HoldLaws
 pub mod HistoryLaws
+pub mod UndoLaws

@@ -203,7 +203,8 @@ module _ (b : List ℕ) (c i : ℕ) where
         rw (le-ltb _ _ h)
         (ways b c i b (λ k. loadRefusals (entryOf b k) xs) (λ k. (Done, withEntry b k (loaded (entryOf b k) xs))))
 
-with-same : (b : List ℕ) (k : ℕ) → withEntry b k (entryOf b k) ≡ b
+-- an entry replaced by itself
+pub with-same : (b : List ℕ) (k : ℕ) → withEntry b k (entryOf b k) ≡ b
 unfolding withEntry entryOf replaced
 with-same b k = rw (← drop-drop, take-append-drop, take-append-drop)
 

@@ -9,3 +9,6 @@ pub mod TakeLaws
 pub mod Settled
 pub mod RunLaws
 pub mod BoundLaws
+pub mod SoundLaws
+pub mod ReachLaws
+pub mod AnyLines

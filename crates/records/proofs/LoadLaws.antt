@@ -1,11 +1,17 @@
--- The ways through a K record. Assumes nothing.
-use mathlib.Core.Path.{_≡_}
-use mathlib.Core.Bool.{true, false}
+-- The ways through a K record, and that a refused one leaves the book as it was. Assumes nothing.
+use mathlib.Core.Path.{_≡_, refl, sym, ap, subst, _∙_}
+use mathlib.Core.Bool.{Bool, true, false, true≢false}
 use mathlib.Core.List.{List}
 use Prim.Native.Nat.{ℕ}
+use borrow.Author.Tests.{eqb-true}
 use Rattle.answers.specs.declared.Answer.{Answer}
-use Rattle.answers.specs.Numbers.{isDone}
+use Rattle.answers.specs.declared.Answer.the-variants.{Done}
+use Rattle.answers.specs.Numbers.{numberOf, isDone}
+use Rattle.answers.proofs.NumberLaws.{one-number}
+use Rattle.keyentry.specs.Entry.{isReady}
 use Rattle.keybook.specs.Operations.{beginOf, addOf, finishOf, eraseOf}
+use Rattle.keybook.proofs.Laws.{Refuses, refused-begin-keeps, refused-add-keeps, refused-finish-keeps}
+use Rattle.keybook.proofs.UndoLaws.{Begun, begun-begin, begun-add, begun-finish, begun-erased, finish-ready}
 use Rattle.records.specs.Load.{loadOf}
 
 module _ (b : List ℕ) (c i : ℕ) (key : List ℕ) {begun : List ℕ} {a : Answer} (begins : (a, begun) ≡ beginOf b c i) where
@@ -26,3 +32,58 @@ module _ (b : List ℕ) (c i : ℕ) (key : List ℕ) {begun : List ℕ} {a : Ans
       pub finish-done : isDone f ≡ true → (f, finished) ≡ loadOf b c i key
       unfolding loadOf
       finish-done n = rw (← begins, y, ← adds, z, z, ← finishes, n)
+
+-- ---- what a K comes to
+
+refuses : (o : Answer × List ℕ) → isDone (o .0) ≡ false → Refuses o
+refuses o n e = true≢false (sym (ap isDone e) ∙ n)
+
+module _ (b : List ℕ) (c i : ℕ) (key : List ℕ) where
+  -- what holds of the book as it was with each refusal, and of done with a book whose new entry is ready, holds of the outcome
+  pub load-ways : (P : Answer × List ℕ → Type 0)
+      → (isDone (beginOf b c i .0) ≡ false → P (beginOf b c i .0, b))
+      → ((k : ℕ) (e begun : List ℕ) → Begun b c i k e begun → isDone (addOf begun c i key .0) ≡ false → P (addOf begun c i key .0, b))
+      → ((k : ℕ) (e added : List ℕ) → Begun b c i k e added → isDone (finishOf added c i .0) ≡ false → P (finishOf added c i .0, b))
+      → ((k : ℕ) (e after : List ℕ) → Begun b c i k e after → isReady e ≡ true → P (Done, after))
+      → P (loadOf b c i key)
+  load-ways P at-begin at-add at-finish done = by-begin (isDone (beginOf b c i .0)) refl
+    where
+      begun : List ℕ
+      begun = beginOf b c i .1
+
+      added : List ℕ
+      added = addOf begun c i key .1
+
+      finished : List ℕ
+      finished = finishOf added c i .1
+
+      given-up : (o : Answer × List ℕ) {k : ℕ} {e now : List ℕ} → Begun b c i k e now → o .1 ≡ now → b ≡ eraseOf (o .1) c i .1
+      given-up o m q = sym (ap (λ (x : List ℕ). eraseOf x c i .1) q ∙ ap (λ (r : Answer × List ℕ). r .1) (begun-erased m))
+
+      by-finish : (y : isDone (beginOf b c i .0) ≡ true) (z : isDone (addOf begun c i key .0) ≡ true) (t : Bool) → isDone (finishOf added c i .0) ≡ t → P (loadOf b c i key)
+      by-finish y z true w =
+          let m = begun-add (begun-begin b c i y) key z in
+          let a : Done ≡ finishOf added c i .0 = one-number Done (finishOf added c i .0) (sym (eqb-true (numberOf (finishOf added c i .0)) 0 w)) in
+          subst P (ap (λ (x : Answer). (x, finished)) a ∙ finish-done b c i key refl y refl z refl w) (done _ _ finished (begun-finish m w) (finish-ready m w))
+      by-finish y z false w =
+          let m = begun-add (begun-begin b c i y) key z in
+          let k = given-up (finishOf added c i) m (refused-finish-keeps added c i (refuses (finishOf added c i) w)) in
+          subst P (ap (λ (x : List ℕ). (finishOf added c i .0, x)) k ∙ finish-refuses b c i key refl y refl z refl w refl) (at-finish _ _ added m w)
+
+      by-add : (y : isDone (beginOf b c i .0) ≡ true) (t : Bool) → isDone (addOf begun c i key .0) ≡ t → P (loadOf b c i key)
+      by-add y true z = by-finish y z (isDone (finishOf added c i .0)) refl
+      by-add y false z =
+          let m = begun-begin b c i y in
+          let k = given-up (addOf begun c i key) m (refused-add-keeps begun c i key (refuses (addOf begun c i key) z)) in
+          subst P (ap (λ (x : List ℕ). (addOf begun c i key .0, x)) k ∙ add-refuses b c i key refl y refl z refl) (at-add _ _ begun m z)
+
+      by-begin : (t : Bool) → isDone (beginOf b c i .0) ≡ t → P (loadOf b c i key)
+      by-begin true y = by-add y (isDone (addOf begun c i key .0)) refl
+      by-begin false y =
+          let k = sym (refused-begin-keeps b c i (refuses (beginOf b c i) y)) in
+          subst P (ap (λ (x : List ℕ). (beginOf b c i .0, x)) k ∙ begin-refuses b c i key refl y) (at-begin y)
+
+  -- a refused K leaves the book as it was
+  pub load-keeps : Refuses (loadOf b c i key) → loadOf b c i key .1 ≡ b
+  load-keeps =
+      load-ways (λ o. Refuses o → o .1 ≡ b) (λ y n. refl) (λ k e begun m z n. refl) (λ k e added m w n. refl) (λ k e after m r n. absurd (n refl))

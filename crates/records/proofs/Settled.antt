@@ -1,15 +1,26 @@
--- Each operation's statement settles its outcome: any two outcomes that meet it are equal. Assumes nothing.
-use mathlib.Core.Path.{_≡_, sym, _∙_}
-use mathlib.Core.List.{List}
+-- Each operation's statement settles its outcome: any two outcomes that meet it are equal. And a refusal, any answer but 0 and 1, changes
+-- nothing. Assumes nothing.
+use mathlib.Core.Path.{_≡_, refl, sym, ap, _∙_}
+use mathlib.Core.List.{List, []}
 use Prim.Native.Nat.{ℕ}
+use native.Mathlib.Omega.{arith}
+use borrow.Author.Tests.{ne-eqb}
 use Rattle.answers.specs.declared.Answer.{Answer}
-use Rattle.answers.proofs.OutcomeLaws.{one-outcome}
+use Rattle.answers.specs.Numbers.{numberOf}
+use Rattle.answers.proofs.OutcomeLaws.{Refusal, one-outcome}
 use Rattle.voice.specs.declared.call.Call.{Call}
+use Rattle.voice.specs.Slot.{voiceOf}
+use Rattle.voice.proofs.Settled.{end-keeps, lost-keeps, announce-keeps, voice-keeps, join-keeps, open-keeps}
+use Rattle.lines.specs.Record.{Record, Load, Open, Join, Voice, Announce, Lost, End, Malformed}
 use Rattle.records.specs.declared.answered.Lined.{Lined}
 use Rattle.records.specs.declared.reader.Carry.{Carry}
 use Rattle.records.specs.Load.{loadOf}
+use Rattle.records.specs.Step.{stepOf, asStepped}
 use Rattle.records.specs.Answered.{lineIn}
 use Rattle.records.specs.Reader.{started, takeOf, finishOf}
+use Rattle.records.proofs.LoadLaws.{load-keeps}
+
+-- ---- any two outcomes are equal
 
 pub one-load : (a b : Answer) (x y book : List ℕ) (c i : ℕ) (key : List ℕ) → (a, x) ≡ loadOf book c i key → (b, y) ≡ loadOf book c i key → (a ≡ b) × (x ≡ y)
 one-load a b x y book c i key = one-outcome a b x y
@@ -28,3 +39,19 @@ module _ (book out : List ℕ) where
 
   pub one-finish : (carry : Carry) (a b : ℕ × (Carry × (List ℕ × List ℕ))) → a ≡ finishOf carry book out → b ≡ finishOf carry book out → a ≡ b
   one-finish carry a b p q = p ∙ sym q
+
+-- ---- a refusal changes nothing
+
+-- a record of any kind leaves book and call, good or bad, and shows no frame
+pub step-keeps : (r : Record) (book : List ℕ) (call : Call) → Refusal (stepOf r book call .answer) → stepOf r book call ≡ asStepped (stepOf r book call .answer) book call []
+unfolding stepOf
+step-keeps (Load c i key) book call h =
+    ap (λ (x : List ℕ). asStepped (loadOf book c i key .0) x call []) (load-keeps book c i key (λ e. omega (arith, ap numberOf e)))
+step-keeps (Open c i w) book call h = rw (open-keeps call c i book w h)
+step-keeps (Join c i) book call h = rw (join-keeps call c i book h)
+step-keeps (Voice mask frame) book call h =
+    rw (voice-keeps call mask frame h, ne-eqb (numberOf (voiceOf call mask frame .0)) 0 (λ e. omega arith))
+step-keeps (Announce w) book call h = rw (announce-keeps call w h)
+step-keeps Lost book call h = rw (lost-keeps call h)
+step-keeps End book call h = rw (end-keeps call h)
+step-keeps Malformed book call h = refl

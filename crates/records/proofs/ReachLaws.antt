@@ -1,0 +1,186 @@
+-- The answers that a record can get where book and call are good, no key is half loaded and no call is a sender's. Assumes nothing.
+use mathlib.Core.Path.{_≡_, refl, sym, ap, _∙_}
+use mathlib.Core.Bool.{Bool, true, false, not, true≢false}
+use mathlib.Core.List.{List}
+use Prim.Native.Nat.{ℕ, zero, suc, _≤_, _<_}
+use native.Mathlib.Omega.{arith}
+use lib.Dec.{eqb}
+use lib.ListN.{length}
+use borrow.Author.Tests.{le-ltb, lt-ltb, ltb-true, eq-eqb, not-false}
+use Rattle.answers.specs.declared.Answer.{Answer}
+use Rattle.answers.specs.declared.Answer.the-variants.{Done}
+use Rattle.answers.specs.Numbers.{numberOf, isOneOf}
+use Rattle.answers.proofs.OutcomeLaws.{gives}
+use Rattle.ciphers.specs.Keystream.{stream}
+use Rattle.keyentry.specs.Entry.{cipherIn, isReady, keyRoom, named, loadRefusals, completeRefusals}
+use Rattle.keyentry.proofs.RightLaws.{for-name}
+use Rattle.keyentry.proofs.WriteLaws.{named-used}
+use Rattle.keybook.specs.Book.{entries, bookOctets, goodBook, findEntry, bookRefusals}
+use Rattle.keybook.specs.Operations.{has, entryFor, beginRefusals, beginAfter, beginOf, addRefusals, addOf, finishRefusals, finishOf}
+use Rattle.keybook.proofs.GoodLaws.{good-sized, found-for}
+use Rattle.session.specs.Session.{vectorOctets}
+use Rattle.session.specs.Ladder.{keyRefusals, vectorRefusals}
+use Rattle.voice.specs.declared.call.Call.{Call}
+use Rattle.voice.specs.Call.{standing, isBad, endRefusals, endOf}
+use Rattle.voice.specs.Opening.{joinRefusals, openRefusals, begun, openOf, joinOf}
+use Rattle.voice.specs.Frame.{frameOctets}
+use Rattle.voice.specs.Slot.{lostRefusals, lostOf, zeroNext, voiceRefusals, voiceAfter, voiceBy, voiceOf}
+use Rattle.voice.specs.Vector.{announceRefusals, announceOf}
+use Rattle.voice.proofs.CallLaws.{not-bad, unless-sender}
+use Rattle.voice.proofs.SlotLaws.{voice-under-two}
+use Rattle.lines.specs.Record.{Record, Load, Open, Join, Voice, Announce, Lost, End, Malformed, lineOf}
+use Rattle.lines.proofs.CanonicalLaws.{read-fine}
+use Rattle.records.specs.Load.{loadOf}
+use Rattle.records.specs.Step.{stepOf, answersTo}
+use Rattle.keybook.proofs.UndoLaws.{Begun, begun-good, begun-found}
+use Rattle.records.proofs.LoadLaws.{load-ways}
+use Rattle.records.proofs.SoundLaws.{Sound}
+
+-- ---- the answers
+
+-- a test of what holds, and one that fails
+never-not : {A : Type 0} {t : Bool} → t ≡ true → not t ≡ true → A
+never-not e h = absurd (true≢false (sym h ∙ ap not e))
+
+never : {A : Type 0} {t : Bool} → t ≡ false → t ≡ true → A
+never e h = absurd (true≢false (sym h ∙ e))
+
+-- an answer that a record can get
+abbrev Can : Record → Answer → Type 0
+Can r a = isOneOf (numberOf a) (answersTo r) ≡ true
+
+-- a record that can be done is not malformed
+can-be-done : (r : Record) → isOneOf 0 (answersTo r) ≡ true → r ≡ Malformed → ⊥
+can-be-done r e z = true≢false (sym e ∙ ap (λ (x : Record). isOneOf 0 (answersTo x)) z)
+
+module _ (b : List ℕ) (g : goodBook b ≡ true) where
+  book-sized : {A : Type 0} → not (eqb (length b) bookOctets) ≡ true → A
+  book-sized = never-not (eq-eqb (length b) bookOctets (good-sized b g))
+
+  module _ (c i : ℕ) (key : List ℕ) where
+    begin-can : Can (Load c i key) (beginOf b c i .0)
+    unfolding beginOf beginRefusals bookRefusals
+    begin-can =
+        gives (Can (Load c i key)) b (beginRefusals b c i) (Done, beginAfter b c i)
+        (book-sized, λ _. (λ h. refl, λ _. (never-not g, λ _. (λ h. refl, λ _. (λ h. refl, λ _. tt))))) refl
+
+    module _ (there : has b c i ≡ true) where
+      add-can : length key ≤ keyRoom → Can (Load c i key) (addOf b c i key .0)
+      unfolding addOf addRefusals bookRefusals loadRefusals
+      add-can l =
+          gives (Can (Load c i key)) b (addRefusals b c i key) _
+          (never (le-ltb keyRoom (length key) l), λ _. (book-sized, λ _. (λ h. refl, λ _. (never-not g, λ _. (never-not there, λ _. (λ h. refl, λ _. (λ h. refl, λ _. tt))))))) refl
+
+      finish-can : Can (Load c i key) (finishOf b c i .0)
+      unfolding finishOf finishRefusals bookRefusals completeRefusals
+      finish-can =
+          gives (Can (Load c i key)) b (finishRefusals b c i) _
+          (book-sized, λ _. (λ h. refl, λ _. (never-not g, λ _. (never-not there, λ _. (λ h. refl, λ _. (λ h. refl, λ _. (λ h. refl, λ _. tt))))))) refl
+
+begun-has : {b : List ℕ} {c i k : ℕ} {e after : List ℕ} → Begun b c i k e after → has after c i ≡ true
+begun-has {c = c} {i = i} {after = after} m = lt-ltb (findEntry after c i) entries (rw (begun-found m) (m .changed .below))
+
+load-can : (b : List ℕ) (c i : ℕ) (key : List ℕ) → goodBook b ≡ true → length key ≤ keyRoom → Can (Load c i key) (loadOf b c i key .0)
+load-can b c i key g l =
+    load-ways b c i key (λ o. Can (Load c i key) (o .0)) (λ y. begin-can b g c i key)
+    (λ k e begun m z. add-can begun (begun-good m) c i key (begun-has m) l) (λ k e added m w. finish-can added (begun-good m) c i key (begun-has m))
+    (λ k e after m r. refl)
+
+module _ (book : List ℕ) (call : Call) (s : Sound book call) where
+  -- an entry that is there is ready
+  ready-there : (c i : ℕ) → not (named c i) ≡ false → not (has book c i) ≡ false → isReady (entryFor book c i) ≡ true
+  ready-there c i n h =
+      let l : findEntry book c i < entries = ltb-true _ _ (not-false _ h) in
+      let q : cipherIn (entryFor book c i) ≡ c = for-name (entryFor book c i) c i (found-for book c i l) .0 in
+      s .all-ready (findEntry book c i) l (λ z. named-used c i (not-false _ n) (sym q ∙ z))
+
+  good-stays : {A : Type 0} → isBad (standing call) ≡ true → A
+  good-stays = never (not-bad call (s .call-good))
+
+  open-can : (c i : ℕ) (w : List ℕ) → length w ≡ vectorOctets → Can (Open c i w) (openOf call c i w book .0)
+  unfolding openOf openRefusals vectorRefusals keyRefusals
+  open-can c i w l =
+      gives (Can (Open c i w)) call (openRefusals (standing call) c i w book) _ (
+        never-not (eq-eqb (length w) vectorOctets l),
+        λ _. (
+          book-sized book (s .book-good),
+          λ _. (
+            λ h. refl,
+            λ n. (
+              good-stays,
+              λ _. (
+                λ h. refl,
+                λ _.
+                    (never-not (s .book-good), λ _. (λ h. refl, λ t. (never-not (ready-there c i n t), λ _. (λ h. refl, λ _. tt)))),
+              ),
+            ),
+          ),
+        ),
+      ) refl
+
+  join-can : (c i : ℕ) → Can (Join c i) (joinOf call c i book .0)
+  unfolding joinOf joinRefusals keyRefusals
+  join-can c i =
+      gives (Can (Join c i)) call (joinRefusals (standing call) c i book) _ (
+        book-sized book (s .book-good),
+        λ _. (
+          λ h. refl,
+          λ n. (
+            good-stays,
+            λ _. (
+              λ h. refl,
+              λ _.
+                  (never-not (s .book-good), λ _. (λ h. refl, λ t. (never-not (ready-there c i n t), λ _. tt))),
+            ),
+          ),
+        ),
+      ) refl
+
+  voice-can : (mask : ℕ) (frame : List ℕ) → length frame ≡ frameOctets → Can (Voice mask frame) (voiceOf call mask frame .0)
+  unfolding voiceBy voiceRefusals
+  voice-can mask frame l =
+      gives (Can (Voice mask frame)) (call, frame) (voiceRefusals (standing call) mask frame) (voiceAfter stream mask frame (standing call)) (
+        never-not (eq-eqb (length frame) frameOctets l),
+        λ _. (
+          λ h. refl,
+          λ _. (
+            good-stays,
+            λ _. (
+              λ h. refl,
+              λ _.
+                  (never (unless-sender call (s .call-good) zeroNext refl (λ n k p b v. refl) (s .no-sender)), λ _. tt),
+            ),
+          ),
+        ),
+      )
+      (taken (numberOf (voiceAfter stream mask frame (standing call) .0)) (voice-under-two stream call mask frame (standing call)))
+    where
+      taken : (n : ℕ) → n < 2 → isOneOf n (answersTo (Voice mask frame)) ≡ true
+      taken zero h = refl
+      taken (suc zero) h = refl
+      taken (suc (suc n)) h = absurd (omega arith)
+
+  announce-can : (w : List ℕ) → length w ≡ vectorOctets → Can (Announce w) (announceOf call w .0)
+  unfolding announceOf announceRefusals
+  announce-can w l =
+      gives (Can (Announce w)) call (announceRefusals (standing call) w) _
+      (never-not (eq-eqb (length w) vectorOctets l), λ _. (good-stays, λ _. (λ h. refl, λ _. (λ h. refl, λ _. tt)))) refl
+
+  lost-can : Can Lost (lostOf call .0)
+  unfolding lostOf lostRefusals
+  lost-can = gives (Can Lost) call (lostRefusals (standing call)) _ (good-stays, λ _. (λ h. refl, λ _. tt)) refl
+
+  end-can : Can End (endOf call .0)
+  unfolding endOf endRefusals
+  end-can = gives (Can End) call (endRefusals (standing call)) _ (good-stays, λ _. (λ h. refl, λ _. tt)) refl
+
+  pub step-can : (line : List ℕ) (r : Record) → lineOf line ≡ r → Can r (stepOf r book call .answer)
+  unfolding stepOf
+  step-can line (Load c i key) e = load-can book c i key (s .book-good) (read-fine line (Load c i key) e (can-be-done _ refl) .3)
+  step-can line (Open c i w) e = open-can c i w (read-fine line (Open c i w) e (can-be-done _ refl) .2)
+  step-can line (Join c i) e = join-can c i
+  step-can line (Voice mask frame) e = voice-can mask frame (read-fine line (Voice mask frame) e (can-be-done _ refl) .1)
+  step-can line (Announce w) e = announce-can w (read-fine line (Announce w) e (can-be-done _ refl) .0)
+  step-can line Lost e = lost-can
+  step-can line End e = end-can
+  step-can line Malformed e = refl

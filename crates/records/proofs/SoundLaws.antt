@@ -1,0 +1,173 @@
+-- From an all-zero book and no call, book and call stay good through any lines: no half key is left in the book, and there is no sender. Assumes nothing.
+use mathlib.Core.Path.{_≡_, _∙_}
+use mathlib.Core.Bool.{Bool, true, false, not}
+use mathlib.Core.List.{List, [], _∷_}
+use Prim.Native.Nat.{ℕ, _+_, _*_, _<_}
+use native.Mathlib.Decide.{ℕ-discrete}
+use native.Mathlib.Omega.{arith}
+use lib.Dec.{ltb}
+use lib.ListN.{replicate}
+use Rattle.octets.specs.Tests.{pick}
+use Rattle.octets.proofs.ListLaws.{padded-at}
+use Rattle.answers.specs.declared.Answer.{Answer}
+use Rattle.answers.specs.declared.Answer.the-variants.{Done}
+use Rattle.answers.specs.Outcomes.{Refusals, settled}
+use Rattle.answers.proofs.OutcomeLaws.{by-refusals}
+use Rattle.ciphers.specs.Keystream.{stream}
+use Rattle.ciphers.specs.Numbers.{sessionSlots}
+use Rattle.keyentry.specs.Entry.{entryOctets, cipherIn, isReady}
+use Rattle.keybook.specs.Book.{entries, bookOctets, entryOf, goodBook}
+use Rattle.keybook.specs.History.{bookAfter}
+use Rattle.keybook.proofs.GoodLaws.{entry-octet}
+use Rattle.keybook.proofs.HoldLaws.{always-good}
+use Rattle.session.specs.Session.{scrambles, noVector}
+use Rattle.session.specs.Ladder.{keyFor}
+use Rattle.voice.specs.declared.call.Call.{Call}
+use Rattle.voice.specs.Call.{sendingEnd, receivingEnd, goodCall, noCall, Standing, closed, receiving, standing, written, stands, endRefusals, endOf}
+use Rattle.voice.specs.Opening.{superframeSlots, joinRefusals, openRefusals, begun, openOf, joined, joinOf}
+use Rattle.voice.specs.Slot.{received, slotOn, lostRefusals, lostOf, voiceRefusals, voiceAfter, voiceBy, voiceOf}
+use Rattle.voice.specs.Vector.{told, announceRefusals, announceOf}
+use Rattle.voice.proofs.CallLaws.{Stands, none, sender, receiver, good-stands}
+use Rattle.voice.proofs.GoodLaws.{closed-good, end-good, lost-good, voice-good, announce-good}
+use Rattle.voice.proofs.OpeningGood.{open-good, join-good}
+use Rattle.voice.proofs.SlotLaws.{voice-moves}
+use Rattle.lines.specs.Record.{Record, Load, Open, Join, Voice, Announce, Lost, End, Malformed, lineOf}
+use Rattle.records.specs.Load.{loadOf}
+use Rattle.records.specs.Step.{stepOf}
+use Rattle.records.specs.Answered.{answered}
+use Rattle.records.specs.Reader.{allAnswered}
+use Rattle.keybook.proofs.UndoLaws.{Begun, begun-good, begun-entry, begun-other}
+use Rattle.records.proofs.LoadLaws.{load-ways}
+
+-- ---- what book and call are in a run
+
+-- every used entry is ready
+abbrev pub AllReady : List ℕ → Type 0
+AllReady b = (k : ℕ) → k < entries → (cipherIn (entryOf b k) ≡ 0 → ⊥) → isReady (entryOf b k) ≡ true
+
+-- a good book without half a key, and a good call that is not a sender's
+pub record Sound (book : List ℕ) (call : Call) : Type 0 where
+  pub book-good : goodBook book ≡ true
+  pub all-ready : AllReady book
+  pub call-good : goodCall call ≡ true
+  pub no-sender : call .end ≡ sendingEnd → ⊥
+
+-- before any line
+pub first-sound : Sound (replicate bookOctets 0) noCall
+unfolding bookAfter
+first-sound =
+    record {
+      book-good = always-good [];
+      all-ready = λ k l n. absurd (n (entry-octet (replicate bookOctets 0) k 0 (omega arith) ∙ padded-at [] bookOctets (k * entryOctets + 0)));
+      call-good = closed-good;
+      no-sender = λ e. absurd (omega arith);
+    }
+
+-- ---- a K
+
+begun-ready : {b : List ℕ} {c i k : ℕ} {e after : List ℕ} → AllReady b → Begun b c i k e after → isReady e ≡ true → AllReady after
+begun-ready {b} {c} {i} {k} {e} {after} all m r j l = go (ℕ-discrete j k)
+  where
+    go : Dec (j ≡ k) → (cipherIn (entryOf after j) ≡ 0 → ⊥) → isReady (entryOf after j) ≡ true
+    go (yes q) u = rw (q, begun-entry m) r
+    go (no q) u = let o = begun-other m j l q in rw o (all j l (rw o at u))
+
+module _ (b : List ℕ) (c i : ℕ) (key : List ℕ) where
+  load-good : goodBook b ≡ true → goodBook (loadOf b c i key .1) ≡ true
+  load-good g = load-ways b c i key (λ o. goodBook (o .1) ≡ true) (λ y. g) (λ k e begun m z. g) (λ k e added m w. g) (λ k e after m r. begun-good m)
+
+  load-ready : AllReady b → AllReady (loadOf b c i key .1)
+  load-ready all = load-ways b c i key (λ o. AllReady (o .1)) (λ y. all) (λ k e begun m z. all) (λ k e added m w. all) (λ k e after m r. begun-ready all m r)
+
+-- ---- no operation of a record makes a sender
+
+abbrev NoSender : Call → Type 0
+NoSender c = c .end ≡ sendingEnd → ⊥
+
+one-of-two : (t : Bool) (x y : Standing) → NoSender (written x) → NoSender (written y) → NoSender (written (pick t x y))
+one-of-two true x y p q = p
+one-of-two false x y p q = q
+
+receiving-ends : (c : ℕ) (k : List ℕ) (p : ℕ) (known : Bool) (v : List ℕ) → NoSender (written (receiving c k p known v))
+receiving-ends c k p known v e = omega arith
+
+module _ (c : Call) (good : goodCall c ≡ true) (no : NoSender c) where
+  -- by what it stands for, closed or receiving
+  by-receiver : (f : Standing → Standing) → NoSender (written (f closed))
+      → ((n : ℕ) (k : List ℕ) (p : ℕ) (known : Bool) (v : List ℕ) → NoSender (written (f (receiving n k p known v)))) → NoSender (written (f (standing c)))
+  by-receiver f p q = go (good-stands c good)
+    where
+      go : Stands c → NoSender (written (f (standing c)))
+      go (none o e s) = rw s p
+      go (sender o e s) = absurd (no e)
+      go (receiver o e s) = rw s (q (c .cipher) (c .key) (c .position) (c .known) (c .vector))
+
+  slot-ends : NoSender (written (slotOn (standing c)))
+  unfolding received
+  slot-ends =
+      by-receiver slotOn (λ e. omega arith)
+      (λ n k p known v. one-of-two (ltb (p + 1) (sessionSlots n)) (receiving n k (p + 1) known v) (receiving n k 0 (scrambles n) noVector) (λ e. omega arith) (λ e. omega arith))
+
+  unless : {S : Type 0} (f : S → Call) (before : S) (rs : Refusals) (last : Answer × S) → NoSender (f before) → NoSender (f (last .1)) → NoSender (f (settled before rs last .1))
+  unless f before rs last p q = by-refusals (λ o. NoSender (f (o .1))) before rs last (λ a m. p) (λ n. q)
+
+  end-ends : NoSender (endOf c .1)
+  unfolding endOf
+  end-ends = unless (λ d. d) c (endRefusals (standing c)) (Done, written closed) no (λ e. omega arith)
+
+  lost-ends : NoSender (lostOf c .1)
+  unfolding lostOf
+  lost-ends = unless (λ d. d) c (lostRefusals (standing c)) (Done, written (slotOn (standing c))) no slot-ends
+
+  voice-ends : (mask : ℕ) (frame : List ℕ) → NoSender (voiceOf c mask frame .1 .0)
+  unfolding voiceBy
+  voice-ends mask frame =
+      unless (λ (d : Call × List ℕ). d .0) (c, frame) (voiceRefusals (standing c) mask frame) (voiceAfter stream mask frame (standing c)) no
+      (rw (voice-moves stream c mask frame (standing c)) slot-ends)
+
+  announce-ends : (w : List ℕ) → NoSender (announceOf c w .1)
+  unfolding announceOf
+  announce-ends w =
+      unless (λ d. d) c (announceRefusals (standing c) w) (Done, written (told w (standing c))) no
+      (by-receiver (told w) (λ e. omega arith) (λ n k p known v e. omega arith))
+
+  module _ (n i : ℕ) (b : List ℕ) where
+    open-ends : (w : List ℕ) → NoSender (openOf c n i w b .1)
+    unfolding openOf
+    open-ends w = unless (λ d. d) c (openRefusals (standing c) n i w b) (Done, begun receivingEnd n w (keyFor b n i)) no (λ e. omega arith)
+
+    join-ends : NoSender (joinOf c n i b .1)
+    unfolding joinOf
+    join-ends =
+        unless (λ d. d) c (joinRefusals (standing c) n i b) (Done, written (joined n (keyFor b n i))) no
+        (one-of-two (scrambles n) (receiving n (keyFor b n i) 0 true noVector) (receiving n (keyFor b n i) superframeSlots false noVector) (λ e. omega arith) (λ e. omega arith))
+
+-- ---- so each record keeps them
+
+-- the book stays
+with-call : {book : List ℕ} {call after : Call} → Sound book call → goodCall after ≡ true → NoSender after → Sound book after
+with-call s g n = record { book-good = s .book-good; all-ready = s .all-ready; call-good = g; no-sender = n }
+
+pub step-sound : (r : Record) {book : List ℕ} {call : Call} → Sound book call → Sound (stepOf r book call .book) (stepOf r book call .call)
+unfolding stepOf
+step-sound (Load c i key) {book} {call} s =
+    record {
+      book-good = load-good book c i key (s .book-good);
+      all-ready = load-ready book c i key (s .all-ready);
+      call-good = s .call-good;
+      no-sender = s .no-sender;
+    }
+step-sound (Open c i w) {book} {call} s = with-call s (open-good call (s .call-good) c i book w) (open-ends call (s .call-good) (s .no-sender) c i book w)
+step-sound (Join c i) {book} {call} s = with-call s (join-good call (s .call-good) c i book) (join-ends call (s .call-good) (s .no-sender) c i book)
+step-sound (Voice mask frame) {book} {call} s =
+    with-call s (voice-good call (s .call-good) mask frame) (voice-ends call (s .call-good) (s .no-sender) mask frame)
+step-sound (Announce w) {book} {call} s = with-call s (announce-good call (s .call-good) w) (announce-ends call (s .call-good) (s .no-sender) w)
+step-sound Lost {book} {call} s = with-call s (lost-good call (s .call-good)) (lost-ends call (s .call-good) (s .no-sender))
+step-sound End {book} {call} s = with-call s (end-good call (s .call-good)) (end-ends call (s .call-good) (s .no-sender))
+step-sound Malformed s = s
+
+-- and so do any lines
+pub lines-sound : (ls : List (List ℕ)) {book : List ℕ} {call : Call} → Sound book call → Sound (allAnswered ls book call .book) (allAnswered ls book call .call)
+unfolding allAnswered answered
+lines-sound [] s = s
+lines-sound (l ∷ ls) s = lines-sound ls (step-sound (lineOf l) s)
