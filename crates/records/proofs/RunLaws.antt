@@ -2,14 +2,15 @@
 -- Assumes nothing.
 use mathlib.Core.Path.{_≡_, refl, sym, ap, _∙_}
 use mathlib.Core.List.{List, [], _++_}
-use Prim.Native.Nat.{ℕ, _≤_}
+use Prim.Native.Nat.{ℕ, _+_, _-_, _≤_}
 use lib.ListN.{length, take, drop}
-use lib.Seq.{take-append-seam}
+use lib.Seq.{take-append-seam, take-add}
+use borrow.Rule.Slice.PartAt.{part-to-end}
 use borrow.Author.Tests.{le-ltb}
 use Rattle.voice.specs.Call.{noCall}
 use Rattle.records.specs.declared.reader.Carry.{Carry}
 use Rattle.records.specs.Answered.{answerRoom, Answered, overlaid}
-use Rattle.records.specs.Reader.{linesOf, allAnswered, Reading, afresh, Fed, fed, finished, closing, readingOf, carried, started, leaves, takeFrom, lastly, finishFrom, finishOf, Run, none, some, Whole}
+use Rattle.records.specs.Reader.{linesOf, allAnswered, Reading, afresh, Fed, fed, finished, closing, readingOf, carried, started, leaves, takeFrom, takeOf, lastly, finishFrom, finishOf, Run, none, some, Whole}
 use Rattle.records.proofs.ReaderLaws.{fed-append, whole}
 
 -- what is carried reads as what it was made of
@@ -33,6 +34,22 @@ left-is out f {w} {c} {b} {out'} q = (
 take-is : (s : Reading) (piece out : List ℕ) {n : ℕ} {l : Left} → (n, l) ≡ takeFrom s piece out → l ≡ leaves out (fed s (take n piece))
 unfolding takeFrom
 take-is s piece out q = ap (λ (x : ℕ × Left). x .1) q ∙ ap (λ (k : ℕ). leaves out (fed s (take k piece))) (sym (ap (λ (x : ℕ × Left). x .0) q))
+
+-- ---- a piece taken in parts: what is carried, and the book, are those of as much of it as was taken
+
+pub fed-none : (s : Reading) (piece : List ℕ) → s ≡ fed s (take 0 piece) .after
+unfolding fed
+fed-none s piece = refl
+
+pub fed-more : (s : Reading) (piece out : List ℕ) (at : ℕ) (c : Carry) (b : List ℕ) {c' : Carry} {b' out' : List ℕ} {n w : ℕ}
+    → readingOf c b ≡ fed s (take at piece) .after → (n, (w, (c', (b', out')))) ≡ takeOf c (take (length piece - at) (drop at piece)) b out
+    → readingOf c' b' ≡ fed s (take (at + n) piece) .after
+fed-more s piece out at c b {n = n} before q =
+    left-is out (fed (readingOf c b) (take n (drop at piece))) (take-is (readingOf c b) (drop at piece) out (rw (part-to-end piece at) at q)) .1
+    ∙ ap (λ (t : Reading). fed t (take n (drop at piece)) .after) before
+    ∙ sym (ap (λ (k : List ℕ). fed s k .after) (take-add at n piece) ∙ ap (λ (f : Fed). f .after) (fed-append (take at piece) s (take n (drop at piece))))
+
+-- ---- a run
 
 pub run-fed : {c d : Carry} {b e input output : List ℕ} → Run c b input output d e → fed (readingOf c b) input ≡ record { output = output; after = readingOf d e }
 unfolding fed

@@ -150,10 +150,11 @@ fn take_from(
     }
 }
 
-// Takes a piece as far as there is room for output.
+// Takes a piece as far as there is room for output, and at least one octet where there is room for an output line.
 pub fn take(carry: Carry, piece: &[u8], book: &mut [u8], out: &mut [u8]) -> Took
     ensures { λ r. ⌜ (r .used, (r .wrote, (r .carry, (now (book .exit), now (out .exit))))) ≡ takeOf carry (now (piece .entry)) (now (book .entry)) (now (out .entry)) ⌝ }
     ensures { λ r. ⌜ (r .used ≤ length (now (piece .entry))) × (r .wrote ≤ length (now (out .exit))) ⌝ }
+    ensures { λ r. ⌜ (answerRoom ≤ length (now (out .entry)) → 1 ≤ length (now (piece .entry)) → 1 ≤ r .used) ⌝ }
 {
     let line = carry.line;
     let call = carry.call;

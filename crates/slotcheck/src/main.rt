@@ -1,4 +1,10 @@
 // Runs a receiver from text records: standard input is read in large pieces, and each line is answered on standard output.
+ghost use mathlib.Core.Path.{_≡_};
+ghost use mathlib.Core.Bool.{true};
+ghost use Prim.Native.Nat.{_≤_};
+ghost use lib.ListN.{length};
+ghost use Rattle.records.specs.Answered.{answerRoom};
+ghost use Rattle.records.specs.Reader.{readingOf, fed};
 use keybook::BOOK_OCTETS;
 use libc::STDIN_FILENO;
 use libc::STDOUT_FILENO;
@@ -10,11 +16,15 @@ use records::reader::take;
 // What is carried on, and whether to go on.
 struct Pass {
     carry: Carry,
-    goes_on: bool,
+    more: bool,
 }
 
-// Answers the lines of a piece, and writes out as often as the room for output is used up. An error ends it.
-fn answer(carry: Carry, piece: &[u8], book: &mut [u8], out: &mut [u8]) -> Pass {
+// Answers the lines of a piece, and writes out as often as the room for output is used up. An error ends it; else what is carried on is what feeding the
+// whole piece gives.
+fn answer(carry: Carry, piece: &[u8], book: &mut [u8], out: &mut [u8]) -> Pass
+    requires { ⌜ answerRoom ≤ length (now out) ⌝ }
+    ensures { λ r. ⌜ (r .more ≡ true → readingOf (r .carry) (now (book .exit)) ≡ fed (readingOf carry (now (book .entry))) (now (piece .entry)) .after) ⌝ }
+{
     let mut now = carry;
     let mut at = 0;
     while at < piece.len() {
@@ -22,56 +32,46 @@ fn answer(carry: Carry, piece: &[u8], book: &mut [u8], out: &mut [u8]) -> Pass {
         let used = took.used;
         let wrote = took.wrote;
         now = took.carry;
-        if used == 0 {
-            return Pass {
-                carry: now,
-                goes_on: false,
-            };
-        }
         if !io::write_all(STDOUT_FILENO, &out[..wrote]) {
             return Pass {
                 carry: now,
-                goes_on: false,
+                more: false,
             };
         }
         at += used;
     }
     Pass {
         carry: now,
-        goes_on: true,
+        more: true,
     }
 }
 
-// Reads a piece and answers its lines. The end of the input ends the last line; an error does not.
-fn pump(carry: Carry, piece: &mut [u8], book: &mut [u8], out: &mut [u8]) -> Pass {
-    let got = libc::read(STDIN_FILENO, piece);
-    if got < 0 {
-        return Pass {
-            carry,
-            goes_on: false,
-        };
-    }
-    let n = io::count(got, piece);
-    if n == 0 {
-        let last = finish(carry, book, out);
-        let wrote = last.wrote;
-        let after = last.carry;
-        io::write_all(STDOUT_FILENO, &out[..wrote]);
-        return Pass {
-            carry: after,
-            goes_on: false,
-        };
-    }
-    answer(carry, &piece[..n], book, out)
+// The end of the input ends the last line.
+fn close(carry: Carry, book: &mut [u8], out: &mut [u8]) {
+    let last = finish(carry, book, out);
+    let wrote = last.wrote;
+    io::write_all(STDOUT_FILENO, &out[..wrote]);
 }
 
-// A proved loop has to end, and nothing says that input does. So it counts its turns down, from a number that no run uses up.
-fn run(book: &mut [u8], piece: &mut [u8], out: &mut [u8]) {
+// Reads piece after piece. An error ends it. A proved loop has to end, and nothing says that input does: so it counts its turns down, from a number that no
+// run uses up.
+fn run(book: &mut [u8], piece: &mut [u8], out: &mut [u8])
+    requires { ⌜ answerRoom ≤ length (now out) ⌝ }
+{
     let mut carry = start();
     let mut turns = u64::MAX;
     while turns > 0 {
-        let pass = pump(carry, piece, book, out);
-        if !pass.goes_on {
+        let got = libc::read(STDIN_FILENO, piece);
+        if got < 0 {
+            return;
+        }
+        let n = io::count(got, piece);
+        if n == 0 {
+            close(carry, book, out);
+            return;
+        }
+        let pass = answer(carry, &piece[..n], book, out);
+        if !pass.more {
             return;
         }
         carry = pass.carry;
