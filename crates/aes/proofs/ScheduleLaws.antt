@@ -8,7 +8,7 @@ use Prim.Native.Nat.{ℕ, zero, suc, _+_, _-_, _*_, _/_, _%_, _^_, _≤_, _<_}
 use native.Mathlib.Omega.{arith}
 use lib.Bits.{bitXor, xor-lt, xor-zero-r}
 use lib.Dec.{eqb}
-use lib.ListN.{length, getD, set, take, length-append}
+use lib.ListN.{length, getD, set, take, replicate, length-append}
 use lib.Seq.{getD-take, take-at, length-take-le}
 use borrow.Rule.Slice.PartMut.{midOf, putMid, mid-len, same-len-mid}
 use borrow.Author.Tests.{ne-eqb}
@@ -58,6 +58,10 @@ next-take w i h = rw (word-take w (4 * i) (i - 8) (omega arith), word-take w (4 
 length-next : (w : List ℕ) (i : ℕ) → length (nextWord w i) ≡ 4
 unfolding nextWord xors tab
 length-next w i = refl
+
+-- before the first turn the words below 8 are the key
+pub key-front : (k w : List ℕ) → length k ≡ 32 → w ≡ k ++ replicate 208 0 → (length w ≡ 240) × (take 32 w ≡ k)
+key-front k w l e = rw e (length-append k (replicate 208 0) ∙ omega arith, take-at k (replicate 208 0) 32 l)
 
 -- v, which is word i, is stored in the place of the four octets at 4 i
 module _ (w v : List ℕ) (i : ℕ) (fits : 4 * i + 4 ≤ length w) (next : v ≡ nextWord w i) where

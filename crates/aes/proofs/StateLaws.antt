@@ -35,11 +35,15 @@ length-cipher w s = length-addRoundKey w (shiftRows (subBytes (rounds w s 13))) 
 place : (i : ℕ) → i % 4 + 4 * ((i / 4 + i % 4) % 4) ≡ 5 * i % 16
 place i = omega arith
 
-pub sub-shift-at : (s : List ℕ) (i : ℕ) → i < 16 → getD (shiftRows (subBytes s)) i 0 ≡ sboxOf (getD s (5 * i % 16) 0)
-unfolding shiftRows subBytes
-sub-shift-at s i h =
-    let l : 5 * i % 16 < 16 = omega arith in
-    getD-tab _ 16 i h ∙ rw place (getD-tab (λ k. sboxOf (getD s k 0)) 16 (5 * i % 16) l)
+pub shift-at : (s : List ℕ) (i : ℕ) → i < 16 → getD (shiftRows s) i 0 ≡ getD s (5 * i % 16) 0
+unfolding shiftRows
+shift-at s i h = getD-tab _ 16 i h ∙ ap (λ (k : ℕ). getD s k 0) (place i)
+
+-- SubBytes may come after ShiftRows
+pub sub-shifted : (s : List ℕ) (i v : ℕ) → i < 16 → v ≡ getD (shiftRows s) i 0 → sboxOf v ≡ getD (shiftRows (subBytes s)) i 0
+unfolding subBytes
+sub-shifted s i v h e =
+    ap sboxOf (e ∙ shift-at s i h) ∙ sym (shift-at (subBytes s) i h ∙ getD-tab (λ k. sboxOf (getD s k 0)) 16 (5 * i % 16) (omega arith))
 
 pub word-at : (x : List ℕ) (q r : ℕ) → r < 4 → getD (word x q) r 0 ≡ getD x (4 * q + r) 0
 unfolding word

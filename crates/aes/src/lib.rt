@@ -4,7 +4,8 @@ mod tables;
 ghost use mathlib.Core.Path.{_≡_};
 ghost use Prim.Native.Nat.{_+_, _*_, _/_, _%_, _^_, _-_, _<_, _≤_};
 ghost use lib.Bits.{bitOr};
-ghost use lib.ListN.{length, getD, take};
+ghost use mathlib.Core.List.{_++_};
+ghost use lib.ListN.{length, getD, replicate};
 ghost use Rattle.aes.specs.Field.{sboxOf, IsSbox, xtime as xtimeOf};
 ghost use Rattle.aes.specs.Cipher.{word, subBytes, shiftRows, mixColumns, addRoundKey, cipher};
 ghost use Rattle.aes.specs.Cipher.{xors, rconOf, rotWord, subWord, temp as tempOf, nextWord, keyExpansion};
@@ -42,10 +43,10 @@ pub fn columns(sbox: &[u8]) -> [u8; 1024]
     o
 }
 
-// The octet that SubBytes and ShiftRows (5.1.1, 5.1.2) make octet i of: it stands at place 5 i mod 16.
+// Octet i after ShiftRows (5.1.2): it stood at place 5 i mod 16.
 fn shifted(s: &[u8; 16], i: usize) -> u8
     requires { ⌜ i < 16 ⌝ }
-    ensures { λ r. ⌜ sboxOf r ≡ getD (shiftRows (subBytes (now (s .entry)))) i 0 ⌝ }
+    ensures { λ r. ⌜ r ≡ getD (shiftRows (now (s .entry))) i 0 ⌝ }
 {
     s[5 * i % 16]
 }
@@ -234,10 +235,10 @@ fn next_word(sbox: &[u8], w: &[u8; 240], i: usize) -> [u8; 4]
     add_words(&word_at(w, i - 8), &t)
 }
 
-// The schedule's first eight words, the key.
+// The schedule's first eight words, the key, and zeros where the others will stand.
 fn key_words(key: &[u8]) -> [u8; 240]
     requires { ⌜ length (now key) ≡ 32 ⌝ }
-    ensures { λ r. ⌜ (length r ≡ 240) × (take 32 r ≡ now (key .entry)) ⌝ }
+    ensures { λ r. ⌜ r ≡ now (key .entry) ++ replicate 208 0 ⌝ }
 {
     let mut w = [0u8; 240];
     octets::copy(key, &mut w[..32]);

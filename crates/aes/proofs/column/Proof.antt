@@ -1,6 +1,7 @@
 -- `aes::column` meets its contract. Assumes nothing.
 use borrow.Author.Needs.{needs}
 use Rattle.aes.proofs.FieldLaws.{sbox-lt}
+use Rattle.aes.proofs.StateLaws.{sub-shifted}
 use Rattle.aes.proofs.ColumnLaws.{column-sum}
 use Rattle.aes.proofs.column.Statement.{statement}
 use Rattle.aes.proofs.column.Tie as tie
@@ -14,7 +15,7 @@ returns c =
     column-sum _ _ _ _
     (sbox-lt (b0 .before .shifted .result) (search needs)) (sbox-lt (b1 .before .shifted2 .result) (search needs)) (sbox-lt (b2 .before .shifted3 .result) (search needs)) (sbox-lt (b3 .before .shifted4 .result) (search needs))
     _ _ _ _ _ _ _ _ _ (search needs)
-    (b0 .before .shifted .ensures) (b1 .before .shifted2 .ensures) (b2 .before .shifted3 .ensures) (b3 .before .shifted4 .ensures)
+    (sub-shifted _ _ _ (search needs) (b0 .before .shifted .ensures)) (sub-shifted _ _ _ (search needs) (b1 .before .shifted2 .ensures)) (sub-shifted _ _ _ (search needs) (b2 .before .shifted3 .ensures)) (sub-shifted _ _ _ (search needs) (b3 .before .shifted4 .ensures))
     (b0 .entry .ensures) (b1 .entry2 .ensures) (b2 .entry3 .ensures) (b3 .entry4 .ensures)
     (b2 .before .before .turned .ensures) (b3 .before .before .turned2 .ensures) (c .turned3 .ensures)
 

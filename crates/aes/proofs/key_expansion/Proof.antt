@@ -7,7 +7,7 @@ use borrow.Author.Needs.{needs}
 use lib.ListN.{length, take}
 use lib.Seq.{take-all}
 use Rattle.aes.specs.Cipher.{expanded, keyExpansion}
-use Rattle.aes.proofs.ScheduleLaws.{place-fits, length-more, expand-more}
+use Rattle.aes.proofs.ScheduleLaws.{key-front, place-fits, length-more, expand-more}
 use Rattle.aes.proofs.key_expansion.Statement.{statement}
 use Rattle.aes.proofs.key_expansion.Tie as tie
 
@@ -36,7 +36,7 @@ key-expansion-spec =
     Inv-loop
     μ-loop
     (λ c κs. search needs)
-    (λ c. (search needs, search needs, c .key-words .ensures .0, c .key-words .ensures .1))
+    (λ c. let f = key-front _ _ (search needs) (c .key-words .ensures) in (search needs, search needs, f .0, f .1))
     (λ c κs. search needs)
     (λ c. search needs)
     (λ c. search needs)

@@ -1,9 +1,9 @@
 -- `aes::shifted` meets its contract. Assumes nothing.
 use mathlib.Core.Path.{sym}
 use borrow.Author.Needs.{needs}
-use Rattle.aes.proofs.StateLaws.{sub-shift-at}
+use Rattle.aes.proofs.StateLaws.{shift-at}
 use Rattle.aes.proofs.shifted.Statement.{statement}
 use Rattle.aes.proofs.shifted.Tie as tie
 
 pub shifted-spec : {M : Type 1} → statement M
-shifted-spec = tie.close (tie.spec (λ c. search needs) (λ c. search needs) (λ c. sym (sub-shift-at _ _ (search needs))))
+shifted-spec = tie.close (tie.spec (λ c. search needs) (λ c. search needs) (λ c. sym (shift-at _ _ (search needs))))

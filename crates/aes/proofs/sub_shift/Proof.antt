@@ -4,7 +4,7 @@ use Prim.Native.Nat.{_-_}
 use borrow.Author.Needs.{needs}
 use Rattle.octets.proofs.Front.{Front, front-start, front-more, front-done}
 use Rattle.aes.specs.Cipher.{subBytes, shiftRows}
-use Rattle.aes.proofs.StateLaws.{length-shiftRows}
+use Rattle.aes.proofs.StateLaws.{length-shiftRows, sub-shifted}
 use Rattle.aes.proofs.ColumnLaws.{entry-sub}
 use Rattle.aes.proofs.sub_shift.Statement.{statement}
 use Rattle.aes.proofs.sub_shift.Tie as tie
@@ -16,7 +16,7 @@ abbrev μ-loop : tie.MeasureT-loop
 μ-loop columns s o₀ i₀ o i = 16 - i
 
 again : tie.Need-loop-again Inv-loop μ-loop
-again c = front-more _ _ _ _ _ (c .before .before .before .loop .inv) (rw length-shiftRows (search needs)) (entry-sub (c .before .before .before .before .before .args .columns .now) (c .before .shifted .result) (search needs) (search needs) ∙ c .before .shifted .ensures)
+again c = front-more _ _ _ _ _ (c .before .before .before .loop .inv) (rw length-shiftRows (search needs)) (entry-sub (c .before .before .before .before .before .args .columns .now) (c .before .shifted .result) (search needs) (search needs) ∙ sub-shifted _ _ _ (search needs) (c .before .shifted .ensures))
 
 pub sub-shift-spec : {M : Type 1} → statement M
 sub-shift-spec =
