@@ -144,3 +144,13 @@ run-used E v b r n m from w l e q =
     (λ k.
     let f = from-used n from k w in
     rw (l, e, iterate-add E ((from % (8 * n) + k) / (8 * n)) (from / (8 * n) + 2) v, f .0, f .1))
+
+-- the block left by them is a used one too
+left-used : (n m from : ℕ) → Wide n → (from % (8 * n) / 8 + m) / n + (from / (8 * n) + 2) ≡ (from / 8 + m) / n + 2
+left-used n m from (inl e) = rw e (omega arith)
+left-used n m from (inr e) = rw e (omega arith)
+
+pub run-left : (E : List ℕ → List ℕ) (v b r : List ℕ) (n m from : ℕ) → Wide n → length b ≡ n → b ≡ iterate E (from / (8 * n) + 2) v
+    → r ≡ iterate E ((from % (8 * n) / 8 + m) / length b) b → r ≡ usedBlock E v ((from / 8 + m) / n)
+unfolding usedBlock
+run-left E v b r n m from w l e q = q ∙ rw (l, e, iterate-add E ((from % (8 * n) / 8 + m) / n) (from / (8 * n) + 2) v, left-used n m from w)

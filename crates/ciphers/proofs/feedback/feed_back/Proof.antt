@@ -4,7 +4,7 @@ use Prim.Native.Nat.{ℕ, _*_, _/_, _%_}
 use native.Mathlib.Omega.{arith}
 use borrow.Author.Needs.{needs}
 use lib.ListN.{length}
-use Rattle.ciphers.proofs.Running.{wide, wide-bounds, skip-le, rest-lt, run-used}
+use Rattle.ciphers.proofs.Running.{wide, wide-bounds, skip-le, rest-lt, run-used, run-left}
 use Rattle.ciphers.proofs.feedback.feed_back.Statement.{statement}
 use Rattle.ciphers.proofs.feedback.feed_back.Tie as tie
 
@@ -36,7 +36,10 @@ returns : tie.Need-returns
 returns c =
     let w = wide (c .before .before .before .before .before .before .before .before .before .before .before .before .before .before .before .before .args .cipher) (length (c .before .before .before .before .before .before .before .before .before .before .before .before .before .before .before .before .args .block .now)) _ _ (c .before .before .before .before .before .before .before .before .before .before .before .before .before .before .before .before .pre .0) (c .before .before .before .before .before .before .before .before .before .before .before .before .before .before .before .before .pre .1) in
     let e : c .before .before .before .before .before .before .before .before .before .before .before .block-bits .result ≡ 8 * length (c .before .before .before .before .before .before .before .before .before .before .before .before .before .before .before .before .args .block .now) = c .before .before .before .before .before .before .before .before .before .before .before .block-bits .ensures ∙ sym (c .before .before .before .before .before .before .before .before .before .before .before .before .before .before .before .before .pre .1) in
-    run-used _ _ _ _ _ _ _ w (search needs) (rw e at (c .before .before .before .before .before .before .before .before .before .skip .ensures)) (rw e at (c .before .before .before .before .run .ensures))
+    let skipped = rw e at (c .before .before .before .before .before .before .before .before .before .skip .ensures) in (
+      run-used _ _ _ _ _ _ _ w (search needs) skipped (rw e at (c .before .before .before .before .run .ensures .0)),
+      run-left _ _ _ _ _ _ _ w (search needs) skipped (rw e at (c .before .before .before .before .run .ensures .1)),
+    )
 
 pub feed-back-spec : {M : Type 1} → statement M
 feed-back-spec =

@@ -1,7 +1,7 @@
 -- `ciphers::feedback::run` meets its contract: the octet that is read stands at its place in its block. Assumes nothing.
 use mathlib.Core.Path.{_≡_, refl, sym}
 use native.Mathlib.Nat.{add-zero}
-use Prim.Native.Nat.{_+_, _-_, _*_, _/_}
+use Prim.Native.Nat.{_+_, _-_, _*_, _/_, _≤_}
 use native.Mathlib.Omega.{arith}
 use borrow.Author.Needs.{needs}
 use lib.ListN.{length}
@@ -19,6 +19,7 @@ Inv-loop cipher tables schedule block₀ from out₀ s at₀ i₀ block out at i
     × (length out ≡ length out₀)
     × (Stands (encipheredBy cipher schedule) block₀ (length block₀) (from / 8 + i) block at)
     × (Front (octetsFrom (length out₀) (λ k. running (encipheredBy cipher schedule) (8 * length block₀) block₀ (from + k))) out₀ out i)
+    × (i ≤ length out₀)
 
 abbrev μ-loop : tie.MeasureT-loop
 μ-loop cipher tables schedule block₀ from out₀ s at₀ i₀ block out at i = length out₀ - i
@@ -26,7 +27,7 @@ abbrev μ-loop : tie.MeasureT-loop
 loop-holds : tie.Need-loop-holds Inv-loop μ-loop
 loop-holds c =
     let w = wide (c .before .before .before .before .args .cipher) (length (c .before .before .before .before .args .block .now)) _ _ (c .before .before .before .before .pre .0) (c .before .before .before .before .pre .1 .0) in
-    (refl, refl, rw add-zero (stands-first _ _ _ _ w (search needs)), front-start _ _ (sym (length-octetsFrom _ _)))
+    (refl, refl, rw add-zero (stands-first _ _ _ _ w (search needs)), front-start _ _ (sym (length-octetsFrom _ _)), search needs)
 
 slice-read-octet : tie.Need-slice-read-octet Inv-loop μ-loop
 slice-read-octet c =
@@ -53,6 +54,14 @@ loop-again c =
       search needs,
       rw e at t,
       run-more _ _ _ _ _ w _ _ _ _ _ _ _ (c .before .before .before .before .before .before .before .before .loop .inv .2) t (omega (arith, c .before .slice-known5 .given (c .before .before .before .before .next .result))) (c .window .ensures) (search needs) (c .before .before .before .before .before .before .before .before .loop .inv .3),
+      search needs,
+    )
+
+returns : tie.Need-returns Inv-loop μ-loop
+returns c =
+    let e : c .before .loop .i ≡ length (c .before .before .before .before .before .before .args .out .now) = omega arith in (
+      front-done _ _ _ _ (c .before .loop .inv .3) (simp length-octetsFrom (search needs)),
+      rw e at (c .before .loop .inv .2 .block-is),
     )
 
 pub run-spec : {M : Type 1} → statement M
@@ -72,4 +81,4 @@ run-spec =
     loop-again
     (λ c. search needs)
     (λ c. search needs)
-    (λ c. front-done _ _ _ _ (c .before .loop .inv .3) (simp length-octetsFrom (search needs))))
+    returns)

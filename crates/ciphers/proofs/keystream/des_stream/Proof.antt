@@ -9,7 +9,7 @@ feed-back-requires : tie.Need-feed-back-requires
 feed-back-requires c κs = (key-des (c .before .before .before .before .before .before .before .before .args .t1) _ _ (c .before .before .before .before .before .before .cipher-tables .ensures) (c .before .before .before .before .schedule .ensures), search needs)
 
 returns : tie.Need-returns
-returns c = fed-back _ _ (by-des (c .before .before .before .before .before .before .before .before .before .before .before .before .args .t1) _ (c .before .before .before .before .before .before .before .before .schedule .ensures)) _ _ _ _ _ _ (search needs) refl (c .before .before .before .feed-back .ensures)
+returns c = fed-back _ _ (by-des (c .before .before .before .before .before .before .before .before .before .before .before .before .args .t1) _ (c .before .before .before .before .before .before .before .before .schedule .ensures)) _ _ _ _ _ _ (search needs) refl (c .before .before .before .feed-back .ensures .0)
 
 pub des-stream-spec : {M : Type 1} → statement M
 des-stream-spec =
