@@ -6,4 +6,5 @@ pub mod Polynomials
 pub mod NoShorterPeriod
 pub mod Runs
 pub mod HeldBits
+pub mod MovedBits
 pub mod Examples

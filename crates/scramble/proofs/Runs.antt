@@ -7,7 +7,7 @@ use lib.Bits.{bitXor, xor-block, xor-lt}
 use lib.Pow.{high, low}
 use Rattle.octets.specs.Bits.{flip, octet, Bits}
 use Rattle.octets.proofs.BitLaws.{xor-low}
-use Rattle.scramble.specs.Held.{run}
+use Rattle.scramble.specs.Held.{run, moved}
 
 bit-xor : (a b : ℕ) → a < 2 → b < 2 → flip b a ≡ bitXor a b
 bit-xor a b h l =
@@ -15,6 +15,13 @@ bit-xor a b h l =
     ∙ ap₂ flip (sym (mod-eq-of-lt h)) (sym (mod-eq-of-lt l))
     ∙ sym (xor-low a b)
     ∙ mod-eq-of-lt (xor-lt 1 a b h l)
+
+-- the top bit of fifteen drops out
+up-one : (r a x : ℕ) → x < 2 ^ 14 → r ≡ a * 2 ^ 14 + x → r * 2 % 2 ^ 15 ≡ x * 2
+up-one r a x h e = omega arith
+
+last-bit : (x b : ℕ) → b < 2 → (x * 2 + b) % 2 ≡ b
+last-bit x b h = omega arith
 
 module _ (s : ℕ → ℕ) where
   -- the first j bits, then the next k
@@ -59,3 +66,15 @@ module _ (s : ℕ → ℕ) (bits : Bits s) where
         ap s a ∙ rec (n + k) ∙ ap (λ (z : ℕ). flip (s z) (s (n + k))) b ∙ bit-xor (s (n + k)) (s (n + 1 + k)) (bits (n + k)) (bits (n + 1 + k)) in
         ap₂ (λ (x y : ℕ). x * 2 + y) (run-fed n k) fed
         ∙ sym (xor-block 1 (run s n k) (run s (n + 1) k) (s (n + k)) (s (n + 1 + k)) (bits (n + k)) (bits (n + 1 + k)))
+
+    -- a run of fifteen moved one place on
+    pub run-moved : (n : ℕ) → moved (run s n 15) ≡ run s (n + 1) 15
+    unfolding run moved
+    run-moved n =
+        let z : n + 0 ≡ n = omega arith in
+        let e : n + 1 + 14 ≡ n + 15 = omega arith in
+        let next : s (n + 1 + 14) ≡ flip (s (n + 1)) (s (n + 0)) = ap s e ∙ rec n ∙ ap (λ (k : ℕ). flip (s (n + 1)) (s k)) (sym z) in
+        let up : run s n 15 * 2 % 2 ^ 15 ≡ run s (n + 1) 14 * 2 = up-one (run s n 15) (run s n 1) (run s (n + 1) 14) (run-lt (n + 1) 14) (run-join s n 1 14) in
+        let first : run s n 15 / 2 ^ 14 % 2 ≡ s (n + 0) = ap (λ (x : ℕ). x % 2) (run-first n 1 14) ∙ last-bit 0 (s (n + 0)) (bits (n + 0)) in
+        let second : run s n 15 / 2 ^ 13 % 2 ≡ s (n + 1) = ap (λ (x : ℕ). x % 2) (run-first n 2 13) ∙ last-bit (run s n 1) (s (n + 1)) (bits (n + 1)) in
+        ap₂ (λ (x y : ℕ). x + y) up (ap₂ flip second first ∙ sym next)

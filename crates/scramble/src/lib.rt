@@ -2,12 +2,12 @@
 //
 // The fifteen bits from a place on are held as one number, the first on top, so that the next octet of the sequence is its top eight.
 ghost use mathlib.Core.Path.{_≡_};
-ghost use mathlib.Core.List.{List};
-ghost use Prim.Native.Nat.{ℕ, _+_, _*_, _≤_};
+ghost use Prim.Native.Nat.{_+_, _*_, _^_, _≤_, _<_};
 ghost use lib.ListN.{length};
+ghost use Rattle.octets.specs.Lists.{iterate};
 ghost use Rattle.octets.specs.Bits.{octetsFrom};
 ghost use Rattle.scramble.specs.Sequence.{keyNumber, P};
-ghost use Rattle.scramble.specs.Held.{held};
+ghost use Rattle.scramble.specs.Held.{held, moved};
 
 // The key's fifteen bits as a number.
 fn key_number(key: &[u8]) -> usize
@@ -35,8 +35,8 @@ fn first(key: &[u8]) -> usize
 
 // The bits k places later: bit n + 15 is the exclusive or of bits n + 1 and n.
 fn later(bits: usize, k: usize) -> usize
-    requires { ⌜ k ≤ 14 ⌝ }
-    ensures { λ r. ⌜ ((key : List ℕ) (n : ℕ) → bits ≡ held key n → r ≡ held key (n + k)) ⌝ }
+    requires { ⌜ (bits < 2 ^ 15) × (k ≤ 14) ⌝ }
+    ensures { λ r. ⌜ r ≡ iterate moved k bits ⌝ }
 {
     let fed = (bits ^ (bits << 1)) % 32768;
     (bits << k) % 32768 + (fed >> (15 - k))
@@ -44,7 +44,8 @@ fn later(bits: usize, k: usize) -> usize
 
 // The bits n octets later.
 fn octets_later(bits: usize, n: usize) -> usize
-    ensures { λ r. ⌜ ((key : List ℕ) (m : ℕ) → bits ≡ held key m → r ≡ held key (m + 8 * n)) ⌝ }
+    requires { ⌜ bits < 2 ^ 15 ⌝ }
+    ensures { λ r. ⌜ r ≡ iterate moved (8 * n) bits ⌝ }
 {
     let mut b = bits;
     let mut i = 0;

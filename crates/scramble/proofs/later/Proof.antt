@@ -1,6 +1,7 @@
 -- `scramble::later` meets its contract. Assumes nothing.
 use borrow.Author.Needs.{needs}
-use Rattle.scramble.proofs.HeldBits.{later-fits, held-later}
+use Rattle.scramble.proofs.HeldBits.{later-fits}
+use Rattle.scramble.proofs.MovedBits.{later-moved}
 use Rattle.scramble.proofs.later.Statement.{statement}
 use Rattle.scramble.proofs.later.Tie as tie
 
@@ -8,7 +9,7 @@ add-result : tie.Need-add-result
 add-result c = record { fits = later-fits _ _ _ }
 
 returns : tie.Need-returns
-returns c = λ key n e. rw e (held-later key n (c .args .k) (search needs))
+returns c = later-moved (c .args .bits) (search needs) (c .args .k) (search needs)
 
 pub later-spec : {M : Type 1} → statement M
 later-spec =

@@ -5,12 +5,14 @@ use native.Mathlib.Omega.{arith}
 use borrow.Author.Needs.{needs}
 use denote.Ref.{now}
 use lib.ListN.{length, length-set}
+use Rattle.octets.specs.Lists.{iterate}
 use Rattle.octets.specs.Bits.{octetsFrom}
 use Rattle.octets.proofs.BitLaws.{length-octetsFrom}
 use Rattle.octets.proofs.Front.{Front, front-start, front-more, front-done}
 use Rattle.scramble.specs.Sequence.{P}
-use Rattle.scramble.specs.Held.{held}
+use Rattle.scramble.specs.Held.{held, moved}
 use Rattle.scramble.proofs.HeldBits.{held-lt, held-octet}
+use Rattle.scramble.proofs.MovedBits.{held-moved}
 use Rattle.scramble.proofs.write.Statement.{statement}
 use Rattle.scramble.proofs.write.Tie as tie
 
@@ -32,6 +34,9 @@ cast-out c =
     let a = c .before .before .before .before .before .args in
     omega (arith, held-lt (now (a .key)) (a .from + 8 * c .before .loop .i))
 
+later-requires : tie.Need-later-requires Inv-loop μ-loop
+later-requires c κs = (rw (c .before .loop .inv .1) (held-lt _ _), omega arith)
+
 loop-again : tie.Need-loop-again Inv-loop μ-loop
 loop-again c =
     let at = c .before .before .loop in
@@ -39,7 +44,7 @@ loop-again c =
     let next : a .from + 8 * at .i + 8 ≡ a .from + 8 * (at .i + 1) = omega arith in
     let inside : at .i < length (now (a .out)) = search needs in (
       simp length-set (at .inv .0),
-      c .later .ensures (now (a .key)) _ (at .inv .1) ∙ ap (held (now (a .key))) next,
+      c .later .ensures ∙ ap (iterate moved 8) (at .inv .1) ∙ held-moved (now (a .key)) (a .from + 8 * at .i) 8 ∙ ap (held (now (a .key))) next,
       front-more _ _ _ _ _ (at .inv .2) (simp length-octetsFrom inside) (held-octet (now (a .key)) _ (a .from) _ _ inside (at .inv .1)),
     )
 
@@ -56,7 +61,7 @@ write-spec =
     loop-holds
     cast-out
     (λ c. search needs)
-    (λ c κs. search needs)
+    later-requires
     (λ c. search needs)
     (λ c. search needs)
     loop-again
