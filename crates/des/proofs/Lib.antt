@@ -4,4 +4,5 @@ pub mod TableLaws
 pub mod KeyLaws
 pub mod RoundLaws
 pub mod DesLaws
-pub mod Example
+pub mod TableRules
+pub mod WorkedBlocks

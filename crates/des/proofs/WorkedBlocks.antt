@@ -1,0 +1,60 @@
+-- Worked blocks, which compute: a textbook's, and rows of SP 500-20's and SP 800-17's known answers, so chosen that together they look at each of the 512
+-- selection entries. Assumes nothing.
+use mathlib.Core.Path.{_≡_, refl}
+use mathlib.Core.List.{List, [], _∷_}
+use Prim.Native.Nat.{ℕ, _-_, _/_, _%_, _^_}
+use native.Mathlib.Omega.{arith}
+use Rattle.octets.specs.Lists.{tab, Each}
+use Rattle.octets.specs.Bits.{bit, octet, octetsFrom}
+use Rattle.octets.proofs.BitLaws.{bit-octetsFrom}
+use Rattle.octets.proofs.ListLaws.{tab-same}
+use Rattle.des.specs.Tables.{ipTable, fpTable, eTable, pTable, pc1Table, pc2Table, shifts, sboxes}
+use Rattle.des.specs.Des.{des, byKeys, enciphered, rounds, halved, joined, cipherF, substituted, boxPlace, xorBits, permuted, roundKey, keyState, rotated}
+
+-- bit k of a number of 64 bits, the most significant first
+abbrev numberBit : ℕ → ℕ → ℕ
+numberBit n k = n / 2 ^ (63 - k) % 2
+
+-- the eight octets, and the 64 bits, that such a number writes
+abbrev pub octets : ℕ → List ℕ
+octets n = octetsFrom 8 (numberBit n)
+
+abbrev bits : ℕ → List ℕ
+bits n = tab (numberBit n) 64
+
+-- key, block and enciphered block
+pub rows : List (ℕ × ℕ × ℕ)
+rows =
+    (0x133457799BBCDFF1, 0x0123456789ABCDEF, 0x85E813540F0AB405)
+    ∷ (0x0140010101010101, 0x0000000000000000, 0xDF3B99D6577397C8)
+    ∷ (0x1002911698100101, 0x0000000000000000, 0x1AEAC39A61F0A464)
+    ∷ (0x0101010101080101, 0x0000000000000000, 0x5495C6ABF1E5DF51)
+    ∷ (0x0120010101010101, 0x0000000000000000, 0x31FE17369B5288C9)
+    ∷ (0x0101010101010101, 0x55579380D77138EF, 0x0400000000000000)
+    ∷ (0x0101010101010110, 0x0000000000000000, 0x0875041E64C570F7)
+    ∷ (0x3107911598090140, 0x0000000000000000, 0x406A9A6AB43399AE)
+    ∷ (0x0101010101010101, 0xCE332329248F3228, 0x0000000000001000)
+    ∷ (0x0101010101010101, 0xE7FCE22557D23C97, 0x0000080000000000)
+    ∷ (0x0101010101010101, 0xF02B263B328E2B60, 0x0000002000000000)
+    ∷ (0x0101010101010101, 0x4BD388FF6CD81D4F, 0x1000000000000000)
+    ∷ (0x0108010101010101, 0x0000000000000000, 0x178C83CE2B399D94)
+    ∷ []
+
+bits-work : Each (λ (r : ℕ × ℕ × ℕ). enciphered (roundKey (bits (r .0))) (bits (r .1)) ≡ bits (r .2)) rows
+unfolding rows tab ipTable fpTable eTable pTable pc1Table pc2Table shifts sboxes enciphered rounds halved joined cipherF substituted boxPlace xorBits permuted roundKey keyState rotated
+bits-work = (refl, (refl, (refl, (refl, (refl, (refl, (refl, (refl, (refl, (refl, (refl, (refl, (refl, tt)))))))))))))
+
+octets-bits : (n : ℕ) → tab (bit (octets n)) 64 ≡ bits n
+octets-bits n = tab-same _ _ 64 (λ k h. bit-octetsFrom 8 (numberBit n) (λ i. omega arith) k (omega arith))
+
+octets-work : (key block out : ℕ) → enciphered (roundKey (bits key)) (bits block) ≡ bits out → des (octets key) (octets block) ≡ octets out
+unfolding des byKeys tab octet octetsFrom
+octets-work key block out e = rw (octets-bits key, octets-bits block, e) refl
+
+each-works : (rs : List (ℕ × ℕ × ℕ)) → Each (λ (r : ℕ × ℕ × ℕ). enciphered (roundKey (bits (r .0))) (bits (r .1)) ≡ bits (r .2)) rs
+    → Each (λ (r : ℕ × ℕ × ℕ). des (octets (r .0)) (octets (r .1)) ≡ octets (r .2)) rs
+each-works [] w = tt
+each-works (r ∷ rs) w = (octets-work (r .0) (r .1) (r .2) (w .0), each-works rs (w .1))
+
+pub worked : Each (λ (r : ℕ × ℕ × ℕ). des (octets (r .0)) (octets (r .1)) ≡ octets (r .2)) rows
+worked = each-works rows bits-work
