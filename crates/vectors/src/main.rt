@@ -1,5 +1,6 @@
 // Runs known answers through the proved functions: those published for DES, AES-256 and output feedback, those of NXDN TS 1-D's 7.2.2 and 7.2.3,
-// and an independent model's voice slots and messages. Prints one line for each set, with how many of its rows held, and one for each row that did not.
+// and an independent model's voice slots and messages; and rows of each that one bit makes wrong. Prints one line for each set, with how many of its rows held,
+// and one for each row that did not.
 mod blocks;
 mod feedback;
 mod messages;
@@ -114,36 +115,57 @@ fn run(set: Set, file: &[u8], title: &[u8]) {
     print(title, try_rows(set, file, &text[..n]));
 }
 
-fn main() {
+// Runs a set's known answers, and then rows of them that one bit makes wrong: none of these may hold.
+fn run_both(set: Set, file: &[u8], title: &[u8], wrong: &[u8]) {
+    run(set, file, title);
     run(
+        set,
+        wrong,
+        b"The same with one bit wrong, where none may hold",
+    );
+}
+
+fn main() {
+    run_both(
         Set::Des,
         b"des-known-answers.tsv",
         b"DES, SP 500-20 and SP 800-17",
+        b"des-one-bit-wrong.tsv",
     );
-    run(
+    run_both(
         Set::Aes,
         b"aes256-known-answers.tsv",
         b"AES-256, FIPS 197, SP 800-38A, AESAVS and the Rijndael submission",
+        b"aes256-one-bit-wrong.tsv",
     );
-    run(
+    run_both(
         Set::Feedback,
         b"ofb-known-answers.tsv",
         b"Output feedback, FIPS 81 and SP 800-38A",
+        b"ofb-one-bit-wrong.tsv",
     );
-    run(
+    run_both(
         Set::Messages,
         b"nxdn-first-messages.tsv",
         b"NXDN TS 1-D, 7.2.2, first messages",
+        b"nxdn-first-messages-one-bit-wrong.tsv",
     );
-    run(Set::Nxdn, b"nxdn-known-answers.tsv", b"NXDN TS 1-D, 7.2.3");
-    run(
+    run_both(
+        Set::Nxdn,
+        b"nxdn-known-answers.tsv",
+        b"NXDN TS 1-D, 7.2.3",
+        b"nxdn-one-bit-wrong.tsv",
+    );
+    run_both(
         Set::Slots,
         b"voice-slots.tsv",
         b"Voice slots past the first, by an independent model and OpenSSL",
+        b"voice-slots-one-bit-wrong.tsv",
     );
-    run(
+    run_both(
         Set::Messages,
         b"data-messages.tsv",
         b"Data messages past the first, by an independent model and OpenSSL",
+        b"data-messages-one-bit-wrong.tsv",
     );
 }

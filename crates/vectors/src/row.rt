@@ -6,9 +6,17 @@ use text::hex::MOST_OCTETS;
 use text::hex::read_hex;
 use text::part::TAB;
 use text::part::part_end;
+ghost use mathlib.Core.Path.{_≡_};
+ghost use mathlib.Core.Bool.{true};
+ghost use Prim.Native.Nat.{_≤_};
+ghost use lib.ListN.{length};
+ghost use Rattle.text.specs.Hex.{isHex, hexText, mostOctets};
+ghost use Rattle.vectors.specs.Row.{fieldOf};
 
 // Field n of a row, the first being 0; empty where the row has no such field.
-pub fn field(row: &[u8], n: usize) -> &[u8] {
+pub fn field(row: &[u8], n: usize) -> &[u8]
+    ensures { λ r. ⌜ now r ≡ fieldOf (now (row .entry)) n ⌝ }
+{
     let mut at = 0;
     let mut k = 0;
     while k < n {
@@ -40,7 +48,9 @@ pub fn number(row: &[u8], n: usize) -> u8 {
 }
 
 // Takes the octets that field n of a row has in hex, or answers false where they are not just as many as asked.
-pub fn octets_of(row: &[u8], n: usize, out: &mut [u8]) -> bool {
+pub fn octets_of(row: &[u8], n: usize, out: &mut [u8]) -> bool
+    ensures { λ r. ⌜ (r ≡ true → fieldOf (now (row .entry)) n ≡ hexText (now (out .exit))) × (isHex (length (now (out .entry))) (fieldOf (now (row .entry)) n) ≡ true → length (now (out .entry)) ≤ mostOctets → r ≡ true) ⌝ }
+{
     if out.len() > MOST_OCTETS {
         return false;
     }
@@ -57,7 +67,10 @@ pub fn first_octets_of(row: &[u8], n: usize, out: &mut [u8]) -> bool {
 }
 
 // Whether field n of a row has just these octets in hex; room is lent to read it into.
-fn reads_as(row: &[u8], n: usize, octets: &[u8], room: &mut [u8]) -> bool {
+fn reads_as(row: &[u8], n: usize, octets: &[u8], room: &mut [u8]) -> bool
+    requires { ⌜ length (now room) ≡ mostOctets ⌝ }
+    ensures { λ r. ⌜ (r ≡ true → fieldOf (now (row .entry)) n ≡ hexText (now (octets .entry))) × (fieldOf (now (row .entry)) n ≡ hexText (now (octets .entry)) → length (now (octets .entry)) ≤ mostOctets → r ≡ true) ⌝ }
+{
     if octets.len() > room.len() {
         return false;
     }
@@ -70,7 +83,9 @@ fn reads_as(row: &[u8], n: usize, octets: &[u8], room: &mut [u8]) -> bool {
 }
 
 // The same of at most as many octets as a row has.
-pub fn has_octets(row: &[u8], n: usize, octets: &[u8]) -> bool {
+pub fn has_octets(row: &[u8], n: usize, octets: &[u8]) -> bool
+    ensures { λ r. ⌜ (r ≡ true → fieldOf (now (row .entry)) n ≡ hexText (now (octets .entry))) × (fieldOf (now (row .entry)) n ≡ hexText (now (octets .entry)) → length (now (octets .entry)) ≤ mostOctets → r ≡ true) ⌝ }
+{
     let mut room = [0u8; MOST_OCTETS];
     reads_as(row, n, octets, &mut room)
 }
