@@ -1,5 +1,5 @@
 -- The devices that demand 1 throws out, each by one part of it: noise for a held frame, a bad book taken, everything held, a key operation that reaches a call,
--- and version one, which takes half a key. Assumes nothing.
+-- version three, which takes a vector in the middle of a session, and version one, which takes half a key. Assumes nothing.
 use mathlib.Core.Path.{_≡_, refl, sym, ap, _∙_}
 use mathlib.Core.Bool.{Bool, true, false, true≢false}
 use mathlib.Core.List.{List, [], _∷_, _++_}
@@ -25,12 +25,13 @@ use Rattle.voice.specs.declared.call.Call.{Call}
 use Rattle.voice.specs.Call.{vectorRight, closedTests, openTests, isClosed, isOpen, noCall, sending, receiving, standing, written}
 use Rattle.voice.specs.Opening.{openRefusals, joinRefusals}
 use Rattle.voice.specs.Slot.{zeroAfter, voiceOf}
+use Rattle.voice.specs.Vector.{announceRefusals}
 use Rattle.voice.proofs.SlotSteps.{voice-sent, voice-heard, voice-held}
 use Rattle.data.specs.Packet as packet
 use Rattle.demands.specs.Marked.{holding}
-use Rattle.demands.specs.Device.{Device, CallOperation, Open, Start, Join, Voice, callStep, Operation, OfBook, OfCall, OfPacket, Step, step, deviceAfter, history}
+use Rattle.demands.specs.Device.{Device, CallOperation, Open, Start, Join, Voice, Announce, callStep, Operation, OfBook, OfCall, OfPacket, Step, step, deviceAfter, history}
 use Rattle.demands.specs.Demand1.{Unknown, slot, NoneDone, Demand1}
-use Rattle.demands.specs.OtherDevices.{noise, noisy, wiping, holdingAll, ending, hastyCall, hasty}
+use Rattle.demands.specs.OtherDevices.{noise, noisy, wiping, holdingAll, ending, hastyCall, hasty, eager}
 use Rattle.demands.proofs.Samples.{silence}
 use Rattle.demands.proofs.ThrownOut1.{finishing, no-word}
 
@@ -96,6 +97,17 @@ ending-thrown-out st meets =
     let d = having [] (λ n. listening) in
     let e : noCall ≡ listening = meets .apart d (OfBook (book.Erase 2 0)) .0 0 in
     let z = ap (λ (c : Call). c .end) e in
+    omega arith
+
+-- ---- version three: a vector that is announced in the middle of a session
+
+pub eager-thrown-out : Demand1 eager → ⊥
+unfolding announceRefusals allZero allBelow
+eager-thrown-out meets =
+    let d = having [] (λ n. listening) in
+    let o = OfCall 0 (Announce seed) in
+    let r : 2 ≤ numberOf (eager d o .0) = meets .untimely d o (λ t. omega (arith, t .2)) in
+    let z : numberOf (eager d o .0) ≡ 0 = rw listens in
     omega arith
 
 -- ---- version one

@@ -19,6 +19,7 @@ pub mod Instance
 pub mod Meets2
 pub mod DeviceLaws
 pub mod RefusalOrder
+pub mod TimeLaws
 pub mod RefusedLaws
 pub mod LoadedLaws
 pub mod CallsLoaded

@@ -1,4 +1,4 @@
--- What an operation is not refused was right, what is not done leaves the lent octets, and only a slot whose vector is unknown is held. Assumes nothing.
+-- What an operation is not refused was right and in time, what is not done leaves the lent octets, and only a slot whose vector is unknown is held. Assumes nothing.
 use mathlib.Core.Path.{_≡_, refl, sym, ap, _∙_}
 use mathlib.Core.Bool.{Bool, true, false, _&&_, not}
 use mathlib.Core.List.{List}
@@ -35,7 +35,8 @@ use Rattle.data.specs.Opening as opening
 use Rattle.data.specs.Message as message
 use Rattle.demands.specs.Device.{Device, CallOperation, Open, Start, Join, Voice, Lost, End, Announce, NextVector, callStep, lentCall, PacketOperation, OpenPacket, Message, LostMessage, EndPacket, packetStep, lentPacket, Operation, OfBook, OfCall, OfPacket, step, lent}
 use Rattle.demands.specs.Refusals.{keyRefusals, callRefusals, packetRefusals, refusalsOf}
-use Rattle.demands.specs.Demand1.{Keyed, RightKey, RightCall, RightPacket, Right, Unknown, slot}
+use Rattle.demands.specs.Demand1.{Keyed, RightKey, RightCall, RightPacket, Right, InTime, Unknown, slot}
+use Rattle.demands.proofs.TimeLaws.{unrefused-in-time}
 use Rattle.demands.proofs.DeviceLaws.{book-settles, call-settles, packet-settles, unrefused-only}
 
 -- ---- what nothing refuses is right
@@ -106,6 +107,9 @@ from-two (suc (suc n)) f = omega arith
 
 pub wrong-is-refused : (d : Device) (o : Operation) → (Right d o → ⊥) → Refusal (step d o .0)
 wrong-is-refused d o w = from-two (numberOf (step d o .0)) (λ l. w (unrefused-right d o (unrefused-only d o l)))
+
+pub untimely-is-refused : (d : Device) (o : Operation) → (InTime d o → ⊥) → Refusal (step d o .0)
+untimely-is-refused d o w = from-two (numberOf (step d o .0)) (λ l. w (unrefused-in-time d o (unrefused-only d o l)))
 
 -- ---- what is not done leaves the lent octets; and what is held
 

@@ -1,10 +1,10 @@
--- Demand 1, of any device: every operation answers by the table for all lent octets and numbers; what is wrong is refused, and a refusal changes nothing;
+-- Demand 1, of any device: every operation answers by the table for all lent octets and numbers; what is wrong or not in time is refused, and a refusal changes nothing;
 -- an operation reaches only what it is for; and no key that isn't completely loaded ever touches a word or a message. (That each ends is part of every
 -- proof of code.)
 use mathlib.Core.Path.{_≡_}
 use mathlib.Core.List.{List, [], _∷_, _++_}
 use mathlib.Core.Bool.{Bool, true, false, _&&_}
-use Prim.Native.Nat.{ℕ, _≤_}
+use Prim.Native.Nat.{ℕ, _≤_, _<_}
 use lib.Dec.{eqb}
 use lib.ListN.{length}
 use Rattle.answers.specs.declared.Answer.the-variants.{Done}
@@ -15,7 +15,7 @@ use Rattle.keybook.specs.History as book
 use Rattle.keybook.specs.History.{Told}
 use Rattle.voice.specs.Frame.{ofSlot, protect}
 use Rattle.voice.specs.declared.call.Call.{Call}
-use Rattle.voice.specs.Call.{receivingEnd, goodCall}
+use Rattle.voice.specs.Call.{closedEnd, sendingEnd, receivingEnd, goodCall}
 use Rattle.data.specs.declared.packet.Packet.{Packet}
 use Rattle.data.specs.Kinds.{messageOctets}
 use Rattle.data.specs.Packet.{goodPacket}
@@ -60,6 +60,33 @@ abbrev pub Right : Device → Operation → Type 0
 Right d (OfBook o) = RightKey (d .book) o
 Right d (OfCall n o) = RightCall (d .book) (d .calls n) o
 Right d (OfPacket n o) = RightPacket (d .book) (d .packets n) o
+
+-- ---- when it is time for it, or it is refused
+
+-- open, join and start while no call stands, the others while one does; a lost slot and announce are a receiver's, and announce is right only for DES or
+-- AES at position 0 with the vector unknown; next vector is a sender's, for DES or AES
+abbrev pub TimeOfCall : Call → CallOperation → Type 0
+TimeOfCall c (Open cipher i w) = c .end ≡ closedEnd
+TimeOfCall c (Start cipher i w) = c .end ≡ closedEnd
+TimeOfCall c (Join cipher i) = c .end ≡ closedEnd
+TimeOfCall c (Voice mask frame) = c .end ≡ closedEnd → ⊥
+TimeOfCall c Lost = c .end ≡ receivingEnd
+TimeOfCall c End = c .end ≡ closedEnd → ⊥
+TimeOfCall c (Announce w) = (c .end ≡ receivingEnd) × (c .cipher ≡ 1 → ⊥) × (c .position ≡ 0) × (c .known ≡ false)
+TimeOfCall c (NextVector out) = (c .end ≡ sendingEnd) × (c .cipher ≡ 1 → ⊥)
+
+-- opening while there is no packet, the others with one, and no message past the 1,000th
+abbrev pub TimeOfPacket : Packet → PacketOperation → Type 0
+TimeOfPacket p (OpenPacket kind c i w) = p .kind ≡ 0
+TimeOfPacket p (Message octets) = (p .kind ≡ 0 → ⊥) × (p .count < 1000)
+TimeOfPacket p LostMessage = (p .kind ≡ 0 → ⊥) × (p .count < 1000)
+TimeOfPacket p EndPacket = p .kind ≡ 0 → ⊥
+
+-- keys may be loaded and erased at any time
+abbrev pub InTime : Device → Operation → Type 0
+InTime d (OfBook o) = Unit {0}
+InTime d (OfCall n o) = TimeOfCall (d .calls n) o
+InTime d (OfPacket n o) = TimeOfPacket (d .packets n) o
 
 -- ---- what it reaches
 
@@ -154,6 +181,8 @@ pub record Demand1 (st : Step) : Type 0 where
   pub answers : (d : Device) (o : Operation) → isOneOf (numberOf (st d o .0)) operationNumbers ≡ true
   -- what is not right is refused
   pub refused : (d : Device) (o : Operation) → (Right d o → ⊥) → 2 ≤ numberOf (st d o .0)
+  -- and so is what is not in time
+  pub untimely : (d : Device) (o : Operation) → (InTime d o → ⊥) → 2 ≤ numberOf (st d o .0)
   -- any answer but 0 and 1 leaves the device as it was
   pub changes-nothing : (d : Device) (o : Operation) → 2 ≤ numberOf (st d o .0) → Same (st d o .1 .0) d
   -- any but 0 leaves the lent octets as they came

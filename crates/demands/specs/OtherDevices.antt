@@ -6,14 +6,15 @@ use lib.Dec.{eqb}
 use lib.ListN.{replicate}
 use Rattle.octets.specs.Tests.{pick}
 use Rattle.answers.specs.declared.Answer.{Answer}
-use Rattle.answers.specs.declared.Answer.the-variants.{Done, Held, NotReady}
+use Rattle.answers.specs.declared.Answer.the-variants.{Done, Held, NotReady, NotNow}
 use Rattle.answers.specs.Numbers.{numberOf}
 use Rattle.answers.specs.Outcomes.{Refusals, outcome}
 use Rattle.keybook.specs.Book.{bookOctets, goodBook}
 use Rattle.session.specs.Ladder.{keyFor}
 use Rattle.voice.specs.declared.call.Call.{Call}
-use Rattle.voice.specs.Call.{sendingEnd, receivingEnd, noCall, written}
+use Rattle.voice.specs.Call.{sendingEnd, receivingEnd, noCall, standing, written}
 use Rattle.voice.specs.Opening.{begun, joined}
+use Rattle.voice.specs.Vector.{told}
 use Rattle.demands.specs.Device.{withNone, Device, CallOperation, Open, Start, Join, Voice, Lost, End, Announce, NextVector, callStep, Operation, OfBook, OfCall, OfPacket, withCall, Step, step, lent}
 use Rattle.demands.specs.Refusals.{callRefusals}
 
@@ -46,20 +47,22 @@ endingBy (OfPacket n o) d = d
 abbrev pub ending : Step → Step
 ending st d o = let r = st d o in (r .0, (endingBy o (r .1 .0), r .1 .1))
 
--- ---- version one: it began to talk while the key loader was still sending
+-- ---- devices that are ours but for an operation on a call
+
+abbrev byCalls : (List ℕ → Call → CallOperation → Answer × (Call × List ℕ)) → Step
+byCalls f d (OfBook o) = step d (OfBook o)
+byCalls f d (OfCall n o) = withCall d n (f (d .book) (d .calls n) o)
+byCalls f d (OfPacket n o) = step d (OfPacket n o)
 
 -- refusals without those by number n
 abbrev unasked : ℕ → Refusals → Refusals
 unasked n [] = []
 unasked n (r ∷ rs) = pick (eqb (numberOf (r .1)) n) (unasked n rs) (r ∷ unasked n rs)
 
--- ours, but the openings of a call that are hasty do not ask whether the entry is ready
+-- version one began to talk while the key loader was still sending: the openings of a call that are hasty do not ask whether the entry is ready
 module _ (isHasty : CallOperation → Bool) where
-  abbrev hastyRefusals : List ℕ → Call → CallOperation → Refusals
-  hastyRefusals b c o = pick (isHasty o) (unasked (numberOf NotReady) (callRefusals b c o)) (callRefusals b c o)
-
   abbrev opened : List ℕ → Call → CallOperation → Call → Answer × (Call × List ℕ)
-  opened b c o after = withNone (outcome c (hastyRefusals b c o) after)
+  opened b c o after = withNone (outcome c (pick (isHasty o) (unasked (numberOf NotReady) (callRefusals b c o)) (callRefusals b c o)) after)
 
   abbrev pub hastyCall : List ℕ → Call → CallOperation → Answer × (Call × List ℕ)
   hastyCall b c (Open cipher i w) = opened b c (Open cipher i w) (begun receivingEnd cipher w (keyFor b cipher i))
@@ -72,6 +75,18 @@ module _ (isHasty : CallOperation → Bool) where
   hastyCall b c (NextVector out) = callStep b c (NextVector out)
 
   abbrev pub hasty : Step
-  hasty d (OfBook o) = step d (OfBook o)
-  hasty d (OfCall n o) = withCall d n (hastyCall (d .book) (d .calls n) o)
-  hasty d (OfPacket n o) = step d (OfPacket n o)
+  hasty = byCalls hastyCall
+
+-- version three applied an announced vector at once: it does not ask whether it is the time for one
+abbrev eagerCall : List ℕ → Call → CallOperation → Answer × (Call × List ℕ)
+eagerCall b c (Open cipher i w) = callStep b c (Open cipher i w)
+eagerCall b c (Start cipher i w) = callStep b c (Start cipher i w)
+eagerCall b c (Join cipher i) = callStep b c (Join cipher i)
+eagerCall b c (Voice mask frame) = callStep b c (Voice mask frame)
+eagerCall b c Lost = callStep b c Lost
+eagerCall b c End = callStep b c End
+eagerCall b c (Announce w) = withNone (outcome c (unasked (numberOf NotNow) (callRefusals b c (Announce w))) (written (told w (standing c))))
+eagerCall b c (NextVector out) = callStep b c (NextVector out)
+
+abbrev pub eager : Step
+eager = byCalls eagerCall

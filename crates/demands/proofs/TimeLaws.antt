@@ -1,0 +1,118 @@
+-- What an operation is not refused came in its time. Assumes nothing.
+use mathlib.Core.Path.{_≡_, refl, sym, ap, _∙_}
+use mathlib.Core.Bool.{Bool, true, false, _&&_, _||_, not, true≢false}
+use mathlib.Core.List.{List}
+use Prim.Native.Nat.{ℕ, _<_}
+use native.Mathlib.Omega.{arith}
+use lib.Dec.{leb, eqb}
+use borrow.Author.Tests.{eq-eqb, eqb-true, leb-false, not-true, not-false}
+use Rattle.octets.proofs.TestLaws.{and-left, and-right, or-neither}
+use Rattle.answers.proofs.OutcomeLaws.{NoneHolds}
+use Rattle.session.specs.Session.{scrambles}
+use Rattle.session.specs.Ladder as ladder
+use Rattle.voice.specs.declared.call.Call.{Call}
+use Rattle.voice.specs.Call.{closedEnd, sendingEnd, receivingEnd, goodCall, Standing, closed, sending, receiving, standing, isBad, stands, receives, endRefusals}
+use Rattle.voice.specs.Opening.{joinRefusals, openRefusals}
+use Rattle.voice.specs.Slot.{lostRefusals, voiceRefusals}
+use Rattle.voice.specs.Vector.{awaits, announceRefusals, generates, nextRefusals}
+use Rattle.voice.proofs.CallLaws.{Stands, none, sender, receiver, good-by, good-stands, stands-none}
+use Rattle.data.specs.declared.packet.Packet.{Packet}
+use Rattle.data.specs.Packet as packet
+use Rattle.data.specs.Opening as opening
+use Rattle.data.specs.Message as message
+use Rattle.data.proofs.PacketLaws.{kind-closed}
+use Rattle.demands.specs.Device.{Device, CallOperation, Open, Start, Join, Voice, Lost, End, Announce, NextVector, PacketOperation, OpenPacket, Message, LostMessage, EndPacket, Operation, OfBook, OfCall, OfPacket}
+use Rattle.demands.specs.Refusals.{callRefusals, packetRefusals, refusalsOf}
+use Rattle.demands.specs.Demand1.{TimeOfCall, TimeOfPacket, InTime}
+
+-- ---- a call
+
+not-scramble : (c : ℕ) → not (scrambles c) ≡ true → c ≡ 1 → ⊥
+not-scramble c e z = true≢false (sym e ∙ ap not (eq-eqb c 1 z))
+
+module _ (c : Call) (good : isBad (standing c) ≡ false) where
+  -- by what it stands for
+  by-end : {P : Type 0} → (c .end ≡ closedEnd → standing c ≡ closed → P)
+      → (c .end ≡ sendingEnd → standing c ≡ sending (c .cipher) (c .key) (c .position) (c .vector) → P)
+      → (c .end ≡ receivingEnd → standing c ≡ receiving (c .cipher) (c .key) (c .position) (c .known) (c .vector) → P) → P
+  by-end {P} f g h = go (good-stands c (good-by c good))
+    where
+      go : Stands c → P
+      go (none o e s) = f e s
+      go (sender o e s) = g e s
+      go (receiver o e s) = h e s
+
+  -- a test of its standing that holds, and is no test of this one
+  unlike : {s : Standing} (t : Standing → Bool) → t (standing c) ≡ true → standing c ≡ s → t s ≡ false → ⊥
+  unlike t e q f = true≢false (sym e ∙ ap t q ∙ f)
+
+  closed-time : stands (standing c) ≡ false → c .end ≡ closedEnd
+  closed-time f =
+      by-end (λ e s. e) (λ e s. absurd (true≢false (sym (ap stands s) ∙ f))) (λ e s. absurd (true≢false (sym (ap stands s) ∙ f)))
+
+  standing-time : not (stands (standing c)) ≡ false → c .end ≡ closedEnd → ⊥
+  standing-time f z = true≢false (sym (stands-none c (good-by c good) z) ∙ f)
+
+  receiving-time : not (receives (standing c)) ≡ false → c .end ≡ receivingEnd
+  receiving-time f =
+      let r = not-false (receives (standing c)) f in
+      by-end (λ e s. absurd (unlike receives r s refl)) (λ e s. absurd (unlike receives r s refl)) (λ e s. e)
+
+  announce-time : not (awaits (standing c)) ≡ false → (c .end ≡ receivingEnd) × (c .cipher ≡ 1 → ⊥) × (c .position ≡ 0) × (c .known ≡ false)
+  announce-time f =
+      let r = not-false (awaits (standing c)) f in
+      by-end (λ e s. absurd (unlike awaits r s refl)) (λ e s. absurd (unlike awaits r s refl))
+      (λ e s.
+      let q : (not (scrambles (c .cipher)) && (eqb (c .position) 0 && not (c .known))) ≡ true = sym (ap awaits s) ∙ r in
+      let p = and-right (not (scrambles (c .cipher))) (eqb (c .position) 0 && not (c .known)) q in (
+        e,
+        not-scramble (c .cipher) (and-left (not (scrambles (c .cipher))) (eqb (c .position) 0 && not (c .known)) q),
+        eqb-true (c .position) 0 (and-left (eqb (c .position) 0) (not (c .known)) p),
+        not-true (c .known) (and-right (eqb (c .position) 0) (not (c .known)) p),
+      ))
+
+  next-time : not (generates (standing c)) ≡ false → (c .end ≡ sendingEnd) × (c .cipher ≡ 1 → ⊥)
+  next-time f =
+      let r = not-false (generates (standing c)) f in
+      by-end (λ e s. absurd (unlike generates r s refl)) (λ e s. (e, not-scramble (c .cipher) (sym (ap generates s) ∙ r)))
+      (λ e s. absurd (unlike generates r s refl))
+
+call-time : (b : List ℕ) (c : Call) (o : CallOperation) → NoneHolds (callRefusals b c o) → TimeOfCall c o
+unfolding openRefusals joinRefusals ladder.vectorRefusals ladder.keyRefusals voiceRefusals lostRefusals endRefusals announceRefusals nextRefusals
+call-time b c (Open m i w) n = closed-time c (n .1 .1 .1 .0) (n .1 .1 .1 .1 .0)
+call-time b c (Start m i w) n = closed-time c (n .1 .1 .1 .0) (n .1 .1 .1 .1 .0)
+call-time b c (Join m i) n = closed-time c (n .1 .1 .0) (n .1 .1 .1 .0)
+call-time b c (Voice mask frame) n = standing-time c (n .1 .1 .0) (n .1 .1 .1 .0)
+call-time b c Lost n = receiving-time c (n .0) (n .1 .0)
+call-time b c End n = standing-time c (n .0) (n .1 .0)
+call-time b c (Announce w) n = announce-time c (n .1 .0) (n .1 .1 .0)
+call-time b c (NextVector out) n = next-time c (n .1 .0) (n .1 .1 .0)
+
+-- ---- a packet
+
+module _ (p : Packet) (good : not (packet.goodPacket p) ≡ false) where
+  packet-closed : eqb (p .kind) 0 ≡ packet.isClosed p
+  packet-closed = kind-closed p (not-false (packet.goodPacket p) good)
+
+  none-time : not (packet.isClosed p) ≡ false → p .kind ≡ 0
+  none-time f = eqb-true (p .kind) 0 (packet-closed ∙ not-false (packet.isClosed p) f)
+
+  some-time : packet.isClosed p ≡ false → p .kind ≡ 0 → ⊥
+  some-time f z = true≢false (sym (eq-eqb (p .kind) 0 z) ∙ packet-closed ∙ f)
+
+  message-time : (packet.isClosed p || leb 1000 (p .count)) ≡ false → (p .kind ≡ 0 → ⊥) × (p .count < 1000)
+  message-time f =
+      let q = or-neither (packet.isClosed p) (leb 1000 (p .count)) f in
+      (some-time (q .0), leb-false 1000 (p .count) (q .1))
+
+packet-time : (b : List ℕ) (p : Packet) (o : PacketOperation) → NoneHolds (packetRefusals b p o) → TimeOfPacket p o
+unfolding opening.openRefusals ladder.vectorRefusals ladder.keyRefusals message.messageRefusals message.lostRefusals packet.endRefusals
+packet-time b p (OpenPacket kind c i w) n = none-time p (n .1 .1 .1 .0) (n .1 .1 .1 .1 .0)
+packet-time b p (Message octets) n = message-time p (n .0) (n .1 .0)
+packet-time b p LostMessage n = message-time p (n .0) (n .1 .0)
+packet-time b p EndPacket n = some-time p (n .0) (n .1 .0)
+
+pub unrefused-in-time : (d : Device) (o : Operation) → NoneHolds (refusalsOf d o) → InTime d o
+unrefused-in-time d (OfBook o) n = tt
+unrefused-in-time d (OfCall m o) n = call-time (d .book) (d .calls m) o n
+unrefused-in-time d (OfPacket m o) n = packet-time (d .book) (d .packets m) o n
