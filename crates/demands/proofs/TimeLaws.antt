@@ -3,7 +3,6 @@ use mathlib.Core.Path.{_≡_, refl, sym, ap, _∙_}
 use mathlib.Core.Bool.{Bool, true, false, _&&_, _||_, not, true≢false}
 use mathlib.Core.List.{List}
 use Prim.Native.Nat.{ℕ, _<_}
-use native.Mathlib.Omega.{arith}
 use lib.Dec.{leb, eqb}
 use borrow.Author.Tests.{eq-eqb, eqb-true, leb-false, not-true, not-false}
 use Rattle.octets.proofs.TestLaws.{and-left, and-right, or-neither}
@@ -11,7 +10,7 @@ use Rattle.answers.proofs.OutcomeLaws.{NoneHolds}
 use Rattle.session.specs.Session.{scrambles}
 use Rattle.session.specs.Ladder as ladder
 use Rattle.voice.specs.declared.call.Call.{Call}
-use Rattle.voice.specs.Call.{closedEnd, sendingEnd, receivingEnd, goodCall, Standing, closed, sending, receiving, standing, isBad, stands, receives, endRefusals}
+use Rattle.voice.specs.Call.{closedEnd, sendingEnd, receivingEnd, Standing, closed, sending, receiving, standing, isBad, stands, receives, endRefusals}
 use Rattle.voice.specs.Opening.{joinRefusals, openRefusals}
 use Rattle.voice.specs.Slot.{lostRefusals, voiceRefusals}
 use Rattle.voice.specs.Vector.{awaits, announceRefusals, generates, nextRefusals}

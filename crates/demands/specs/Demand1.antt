@@ -1,6 +1,6 @@
--- Demand 1, of any device: every operation answers by the table for all lent octets and numbers; what is wrong or not in time is refused, and a refusal changes nothing;
--- an operation reaches only what it is for; and no key that isn't completely loaded ever touches a word or a message. (That each ends is part of every
--- proof of code.)
+-- Demand 1, of any device: every operation answers by the table for all lent octets and numbers; what is wrong or not in time is refused, and a refusal
+-- changes nothing; an operation reaches only what it is for; and no key that isn't completely loaded ever touches a word or a message. (That each ends is
+-- part of every proof of code.)
 use mathlib.Core.Path.{_≡_}
 use mathlib.Core.List.{List, [], _∷_, _++_}
 use mathlib.Core.Bool.{Bool, true, false, _&&_}
