@@ -1,12 +1,13 @@
--- The devices that demand 1 throws out, each by one part of it: noise for a held frame, a bad book taken, everything held, a key operation that reaches a call,
--- version three, which takes a vector in the middle of a session, and version one, which takes half a key. Assumes nothing.
+-- The devices that demand 1 throws out, each by one part of it: noise for a held frame, a bad book taken, a refusal that wipes the book, everything held, a
+-- key operation that reaches a call, version three, which takes a vector in the middle of a session, and version one, which takes half a key. Assumes nothing.
 use mathlib.Core.Path.{_≡_, refl, sym, ap, _∙_}
 use mathlib.Core.Bool.{Bool, true, false, true≢false}
 use mathlib.Core.List.{List, [], _∷_, _++_}
 use Prim.Native.Nat.{ℕ, _≤_}
 use native.Mathlib.Omega.{arith}
-use lib.Dec.{eqb}
-use lib.ListN.{getD, replicate}
+use lib.Dec.{leb, eqb}
+use lib.ListN.{length, getD, replicate}
+use borrow.Author.Tests.{le-leb}
 use Rattle.octets.specs.Tests.{pick, allBelow, firstBelow}
 use Rattle.octets.specs.Lists.{replaced, allZero}
 use Rattle.octets.proofs.TestLaws.{and-false-r}
@@ -31,7 +32,7 @@ use Rattle.data.specs.Packet as packet
 use Rattle.demands.specs.Marked.{holding}
 use Rattle.demands.specs.Device.{Device, CallOperation, Open, Start, Join, Voice, Announce, callStep, Operation, OfBook, OfCall, OfPacket, Step, step, deviceAfter, history}
 use Rattle.demands.specs.Demand1.{Unknown, slot, NoneDone, Demand1}
-use Rattle.demands.specs.OtherDevices.{noise, noisy, wiping, holdingAll, ending, hastyCall, hasty, eager}
+use Rattle.demands.specs.OtherDevices.{noise, noisy, wiped, wiping, careless, holdingAll, ending, hastyCall, hasty, eager}
 use Rattle.demands.proofs.Samples.{silence}
 use Rattle.demands.proofs.ThrownOut1.{finishing, no-word}
 
@@ -73,6 +74,19 @@ wiping-thrown-out st meets =
 -- so is the two of them in one, which answers by the table, changes nothing where it refuses, and turns words and messages as ours
 pub wiping-noise-thrown-out : Demand1 (wiping noisy) → ⊥
 wiping-noise-thrown-out = wiping-thrown-out noisy
+
+-- ---- a refusal that changes something
+
+pub careless-thrown-out : (st : Step) → Demand1 (careless st) → ⊥
+unfolding rules.goodBook
+careless-thrown-out st meets =
+    let d = having [] (λ n. noCall) in
+    let o = OfBook (book.Begin 1 0) in
+    let r : 2 ≤ numberOf (st d o .0) = meets .refused d o (λ k. true≢false (sym (k .good))) in
+    let s : pick (leb 2 (numberOf (st d o .0))) (wiped d) (st d o .1 .0) .book ≡ [] = meets .changes-nothing d o r .book in
+    let t : replicate {A = ℕ} 576 0 ≡ [] = rw (le-leb 2 (numberOf (st d o .0)) r) at s in
+    let z = ap (λ (xs : List ℕ). length xs) t in
+    omega arith
 
 -- ---- everything held
 

@@ -2,7 +2,7 @@
 use mathlib.Core.Bool.{Bool, true, false}
 use mathlib.Core.List.{List, [], _∷_}
 use Prim.Native.Nat.{ℕ}
-use lib.Dec.{eqb}
+use lib.Dec.{leb, eqb}
 use lib.ListN.{replicate}
 use Rattle.octets.specs.Tests.{pick}
 use Rattle.answers.specs.declared.Answer.{Answer}
@@ -26,13 +26,21 @@ noise = replicate 28 170
 abbrev pub noisy : Step
 noisy d o = let r = step d o in (r .0, (r .1 .0, pick (eqb (numberOf (r .0)) 1) noise (r .1 .1)))
 
+-- a device whose book is wiped
+abbrev pub wiped : Device → Device
+wiped d = record { book = replicate bookOctets 0; calls = d .calls; packets = d .packets }
+
 -- any device, but where the book is bad everything is done, the book is wiped and noise comes back
 abbrev wipingBy : Bool → Step → Step
 wipingBy true st d o = st d o
-wipingBy false st d o = (Done, (record { book = replicate bookOctets 0; calls = d .calls; packets = d .packets }, noise))
+wipingBy false st d o = (Done, (wiped d, noise))
 
 abbrev pub wiping : Step → Step
 wiping st d o = wipingBy (goodBook (d .book)) st d o
+
+-- any device, but what is refused wipes the book all the same
+abbrev pub careless : Step → Step
+careless st d o = let r = st d o in (r .0, (pick (leb 2 (numberOf (r .0))) (wiped d) (r .1 .0), r .1 .1))
 
 -- one that holds everything and changes nothing
 abbrev pub holdingAll : Step
