@@ -2,7 +2,7 @@
 use mathlib.Core.Path.{_≡_, refl, sym, ap, _∙_}
 use mathlib.Core.List.{List}
 use mathlib.Core.Bool.{Bool, true, false, _&&_}
-use Prim.Native.Nat.{ℕ, _+_, _*_, _/_, _%_, _^_, _≤_, _<_}
+use Prim.Native.Nat.{ℕ, _+_, _*_, _/_, _%_, _≤_, _<_}
 use native.Mathlib.Nat.{zero-div}
 use native.Mathlib.Decide.{decLt}
 use native.Mathlib.Omega.{arith}
@@ -53,7 +53,7 @@ module _ (slot : ℕ → ℕ) (mask : ℕ) where
       (λ k l. protect-stays frame k l (keyBit-other k (ap (λ (m : ℕ). has m (k / wordBits)) e ∙ none-of (k / wordBits))))
     where
       none-of : (w : ℕ) → has 0 w ≡ false
-      none-of w = rw (zero-div (2 ^ w))
+      none-of w = rw zero-div
 
 -- bits of a word are bits of the frame
 pub word-bit : (w : ℕ) (frame : List ℕ) (j : ℕ) → j < wordBits → bit (word w frame) j ≡ bit frame (wordBits * w + j)
