@@ -10,7 +10,8 @@ use Rattle.keybook.specs.Book.{bookOctets}
 use Rattle.voice.specs.declared.call.Call.{Call}
 use Rattle.voice.specs.Call.{noCall}
 use Rattle.lines.specs.Record.{Record, Load, Open, Join, Voice, Announce, Lost, End, Malformed, lineOf}
-use Rattle.records.specs.Step.{stepOf, answersTo}
+use Rattle.records.specs.Step.{stepOf}
+use Rattle.records.specs.Reach.{answersTo}
 use Rattle.records.specs.declared.reader.Carry.{Carry}
 use Rattle.records.specs.Answered.{answerLine, answerRoom, answered}
 use Rattle.records.specs.Reader.{linesOf, allAnswered, started, finishOf, Run}

@@ -31,7 +31,8 @@ use Rattle.voice.proofs.SlotLaws.{voice-under-two}
 use Rattle.lines.specs.Record.{Record, Load, Open, Join, Voice, Announce, Lost, End, Malformed, lineOf}
 use Rattle.lines.proofs.CanonicalLaws.{read-fine}
 use Rattle.records.specs.Load.{loadOf}
-use Rattle.records.specs.Step.{stepOf, answersTo}
+use Rattle.records.specs.Step.{stepOf}
+use Rattle.records.specs.Reach.{answersTo}
 use Rattle.keybook.proofs.UndoLaws.{Begun, begun-good, begun-found}
 use Rattle.records.proofs.LoadLaws.{load-ways}
 use Rattle.records.proofs.SoundLaws.{Sound}

@@ -2,3 +2,4 @@ pub mod Load
 pub mod Step
 pub mod Answered
 pub mod Reader
+pub mod Reach

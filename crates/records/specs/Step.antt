@@ -1,7 +1,7 @@
 -- What a record does to the book and the call (document 01, "The receiver program").
 use mathlib.Core.Path.{_≡_}
 use mathlib.Core.Bool.{Bool, true}
-use mathlib.Core.List.{List, [], _∷_}
+use mathlib.Core.List.{List, []}
 use Prim.Native.Nat.{ℕ}
 use lib.ListN.{length}
 use Rattle.octets.specs.Tests.{pick}
@@ -44,19 +44,6 @@ stepOf (Announce vector) book call = ofCall book (announceOf call vector)
 stepOf Lost book call = ofCall book (lostOf call)
 stepOf End book call = ofCall book (endOf call)
 stepOf Malformed book call = ofCall book (answer.Malformed, call)
-
--- ---- what it can answer
-
--- the numbers that a record can get in a run from an all-zero book and no call
-abbrev pub answersTo : Record → List ℕ
-answersTo (Load c i key) = 0 ∷ 3 ∷ 6 ∷ 7 ∷ 11 ∷ 12 ∷ 13 ∷ []
-answersTo (Open c i vector) = 0 ∷ 3 ∷ 5 ∷ 8 ∷ 9 ∷ []
-answersTo (Join c i) = 0 ∷ 3 ∷ 5 ∷ 9 ∷ []
-answersTo (Voice mask frame) = 0 ∷ 1 ∷ 9 ∷ 10 ∷ []
-answersTo (Announce vector) = 0 ∷ 8 ∷ 9 ∷ []
-answersTo Lost = 0 ∷ 9 ∷ []
-answersTo End = 0 ∷ 9 ∷ []
-answersTo Malformed = 15 ∷ []
 
 -- ---- as the code has it
 

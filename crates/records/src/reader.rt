@@ -99,11 +99,11 @@ fn end_line(
     ensures { λ r. ⌜ Responded (take count (now (kept .entry)) ++ now (octets .entry)) (now (book .entry)) call (now (out .entry)) (r .length) (now (book .exit)) (r .call) (now (out .exit)) ⌝ }
     ensures { λ r. ⌜ Cached (r .made) (r .call) (now (session .exit)) ⌝ }
 {
-    if count == 0 {
-        return respond(octets, book, call, session, made, out);
+    if count > 0 {
+        let all = keep(kept, count, octets);
+        return respond(&kept[..all], book, call, session, made, out);
     }
-    let all = keep(kept, count, octets);
-    respond(&kept[..all], book, call, session, made, out)
+    respond(octets, book, call, session, made, out)
 }
 
 // ---- pieces of input

@@ -1,4 +1,5 @@
 -- `records::reader::end_line` meets its contract. Assumes nothing.
+use mathlib.Core.Path.{_≡_}
 use native.Mathlib.Omega.{arith}
 use lib.ListN.{length-take}
 use Rattle.records.proofs.CarryLaws.{responded-kept}
@@ -6,14 +7,16 @@ use borrow.Author.Needs.{needs}
 use Rattle.records.proofs.reader.end_line.Statement.{statement}
 use Rattle.records.proofs.reader.end_line.Tie as tie
 
-returns : tie.Need-returns
-returns c = (rw (c .before .before .before .before .before .before .before .before .before .before .if1 .taken) (c .before .before .before .before .before .before .respond .ensures .0), c .before .before .before .before .before .before .respond .ensures .1)
-
 slice-aggregate-respond : tie.Need-slice-aggregate-respond
 slice-aggregate-respond c = simp length-take (omega arith)
 
+returns : tie.Need-returns
+returns c = (responded-kept _ _ _ (rw (c .before .before .before .before .before .before .before .before .before .before .before .before .before .keep .ensures .1) at (c .before .before .before .before .before .before .respond .ensures .0)), c .before .before .before .before .before .before .respond .ensures .1)
+
 returns-2 : tie.Need-returns-2
-returns-2 c = (responded-kept _ _ _ (rw (c .before .before .before .before .before .before .before .before .before .before .before .before .before .keep .ensures .1) at (c .before .before .before .before .before .before .respond2 .ensures .0)), c .before .before .before .before .before .before .respond2 .ensures .1)
+returns-2 c =
+    let none : c .before .before .before .before .before .before .before .before .before .before .before .before .before .before .before .before .args .count ≡ 0 = omega (arith, c .before .before .before .before .before .before .before .before .before .before .if1 .left) in
+    (rw none (c .before .before .before .before .before .before .respond2 .ensures .0), c .before .before .before .before .before .before .respond2 .ensures .1)
 
 pub end-line-spec : {M : Type 1} → statement M
 end-line-spec =
@@ -21,14 +24,14 @@ end-line-spec =
     (tie.spec
     (λ c κs. search needs)
     (λ c. search needs)
+    slice-aggregate-respond
+    (λ c κs. search needs)
+    (λ c. search needs)
+    (λ c. search needs)
     (λ c. search needs)
     (λ c. search needs)
     returns
     (λ c κs. search needs)
-    (λ c. search needs)
-    slice-aggregate-respond
-    (λ c κs. search needs)
-    (λ c. search needs)
     (λ c. search needs)
     (λ c. search needs)
     (λ c. search needs)
