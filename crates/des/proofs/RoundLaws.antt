@@ -80,9 +80,24 @@ module _ (keys : ℕ → List ℕ) (h : Halves) (n : ℕ) (left right : List ℕ
         long-right = ap length en ∙ length-xor left f ∙ w .long-left;
       }
 
-  pub reached-end : n ≡ 16 → right ++ left ≡ joined (rounds keys h 16)
+  pub reached-end : (count : ℕ) → n ≡ count → right ++ left ≡ joined (rounds keys h count)
   unfolding joined
-  reached-end e = ap₂ _++_ (w .is-right) (w .is-left) ∙ ap (λ (k : ℕ). joined (rounds keys h k)) e
+  reached-end count e = ap₂ _++_ (w .is-right) (w .is-left) ∙ ap (λ (k : ℕ). joined (rounds keys h k)) e
+
+-- ---- the right half out of the halves in the other order
+
+module _ (keys : ℕ → List ℕ) (b : List ℕ) (long : length b ≡ 64) (bits : BitList b) where
+  halves-long : (n : ℕ) → (length (rounds keys (halved b) n .left) ≡ 32) × (length (rounds keys (halved b) n .right) ≡ 32)
+  unfolding rounds halved
+  halves-long zero = (length-take-le 32 b (omega arith), length-drop 32 b ∙ omega arith)
+  halves-long (suc n) = (halves-long n .1, length-xor (rounds keys (halved b) n .left) _ ∙ halves-long n .0)
+
+  pub right-of : (n : ℕ) (all right : List ℕ) → all ≡ joined (rounds keys (halved b) n) → right ≡ take 32 (drop 0 all)
+      → (right ≡ rounds keys (halved b) n .right) × (length right ≡ 32) × BitList right
+  unfolding joined halved
+  right-of n all right e f =
+      let q : right ≡ rounds keys (halved b) n .right = f ∙ rw e (take-at (rounds keys (halved b) n .right) (rounds keys (halved b) n .left) 32 (halves-long n .1)) in
+      (q, ap length q ∙ halves-long n .1, rw q (bits-right keys (halved b) (bits-take 32 b bits) (bits-drop 32 b bits) n))
 
 -- two halves put one after the other
 module _ (d a b : List ℕ) (long : length d ≡ 64) (la : length a ≡ 32) (lb : length b ≡ 32) where

@@ -9,7 +9,7 @@ use Rattle.octets.specs.Bits.{bit, octet, octetsFrom}
 use Rattle.octets.proofs.BitLaws.{bit-octetsFrom}
 use Rattle.octets.proofs.ListLaws.{tab-same}
 use Rattle.des.specs.Tables.{ipTable, fpTable, eTable, pTable, pc1Table, pc2Table, shifts, sboxes}
-use Rattle.des.specs.Des.{des, byKeys, enciphered, rounds, halved, joined, cipherF, substituted, boxPlace, xorBits, permuted, roundKey, keyState, rotated}
+use Rattle.des.specs.Des.{des, byKeys, enciphered, rounds, halved, joined, cipherF, boxInput, substituted, boxPlace, xorBits, permuted, roundKey, keyState, rotated}
 
 -- bit k of a number of 64 bits, the most significant first
 abbrev numberBit : ℕ → ℕ → ℕ
@@ -41,7 +41,7 @@ rows =
     ∷ []
 
 bits-work : Each (λ (r : ℕ × ℕ × ℕ). enciphered (roundKey (bits (r .0))) (bits (r .1)) ≡ bits (r .2)) rows
-unfolding rows tab ipTable fpTable eTable pTable pc1Table pc2Table shifts sboxes enciphered rounds halved joined cipherF substituted boxPlace xorBits permuted roundKey keyState rotated
+unfolding rows tab ipTable fpTable eTable pTable pc1Table pc2Table shifts sboxes enciphered rounds halved joined cipherF boxInput substituted boxPlace xorBits permuted roundKey keyState rotated
 bits-work = (refl, (refl, (refl, (refl, (refl, (refl, (refl, (refl, (refl, (refl, (refl, (refl, (refl, tt)))))))))))))
 
 octets-bits : (n : ℕ) → tab (bit (octets n)) 64 ≡ bits n

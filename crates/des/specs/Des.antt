@@ -16,6 +16,10 @@ xorBits a b = tab (λ i. flip (getD a i 0) (getD b i 0)) (length a)
 
 -- ---- the cipher function f(R, K) = P(S(E(R) + K))
 
+-- what the boxes are given
+unfoldable pub boxInput : List ℕ → List ℕ → List ℕ
+boxInput r k = xorBits (permuted eTable r) k
+
 -- where box i, counted from 0, looks: its six bits stand from 6 i on, the first and the last are the row, the four between the column
 unfoldable pub boxPlace : List ℕ → ℕ → ℕ
 boxPlace b i =
@@ -28,7 +32,7 @@ unfoldable pub substituted : List ℕ → List ℕ
 substituted b = tab (λ k. getD sboxes (boxPlace b (k / 4)) 0 / 2 ^ (3 - k % 4) % 2) 32
 
 unfoldable pub cipherF : List ℕ → List ℕ → List ℕ
-cipherF r k = permuted pTable (substituted (xorBits (permuted eTable r) k))
+cipherF r k = permuted pTable (substituted (boxInput r k))
 
 -- ---- the key schedule
 
@@ -89,3 +93,9 @@ roundKeys key = tab (λ k. getD (roundKey key (k / 48)) (k % 48) 0) 768
 -- round n's among keys set out
 unfoldable pub setOut : List ℕ → ℕ → List ℕ
 setOut keys n = take 48 (drop (48 * n) keys)
+
+-- ---- which entries a block uses
+
+-- where box i looks in round n, both counted from 0, of a block of eight octets
+unfoldable pub looksAt : (ℕ → List ℕ) → List ℕ → ℕ → ℕ → ℕ
+looksAt keys block n i = boxPlace (boxInput (rounds keys (halved (permuted ipTable (tab (bit block) 64))) n .right) (keys n)) i

@@ -17,8 +17,8 @@ ghost use Prim.Native.Nat.{ℕ, _+_, _-_, _*_, _/_, _%_, _^_, _<_, _≤_};
 ghost use lib.ListN.{length, getD, take, drop};
 ghost use Rattle.octets.specs.Bits.{bit, octetsFrom, Bits};
 ghost use Rattle.octets.specs.Lists.{tab};
-ghost use Rattle.des.specs.Tables.{cipherTables, pc1Table, pc2Table, sboxes, shifts};
-ghost use Rattle.des.specs.Des.{permuted, xorBits, boxPlace, substituted, cipherF, rotated, roundKeys, rounds, halved, joined, enciphered, byKeys, setOut};
+ghost use Rattle.des.specs.Tables.{ipTable, cipherTables, pc1Table, pc2Table, sboxes, shifts};
+ghost use Rattle.des.specs.Des.{permuted, xorBits, boxInput, boxPlace, looksAt, substituted, cipherF, rotated, roundKeys, rounds, halved, joined, enciphered, byKeys, setOut};
 
 // The tables of a block in one array, made once: a constant is made anew wherever it is read.
 pub fn cipher_tables() -> [u8; 720]
@@ -153,16 +153,26 @@ fn substitute(boxes: &[u8], bits: &[u8]) -> [u8; 32]
     out
 }
 
+// What the boxes are given: E(R) + K.
+fn box_input(tables: &[u8], right: &[u8], key: &[u8]) -> [u8; 48]
+    requires { ⌜ (now tables ≡ cipherTables) × (length (now right) ≡ 32) × (length (now key) ≡ 48) ⌝ }
+    requires { ⌜ Bits (λ k. getD (now right) k 0) × Bits (λ k. getD (now key) k 0) ⌝ }
+    ensures { λ r. ⌜ r ≡ boxInput (now (right .entry)) (now (key .entry)) ⌝ }
+{
+    let mut input = [0u8; 48];
+    permute(right, &tables[64..112], &mut input);
+    add(&mut input, key);
+    input
+}
+
 // f(R, K)
 fn cipher_function(tables: &[u8], right: &[u8], key: &[u8]) -> [u8; 32]
     requires { ⌜ (now tables ≡ cipherTables) × (length (now right) ≡ 32) × (length (now key) ≡ 48) ⌝ }
     requires { ⌜ Bits (λ k. getD (now right) k 0) × Bits (λ k. getD (now key) k 0) ⌝ }
     ensures { λ r. ⌜ r ≡ cipherF (now (right .entry)) (now (key .entry)) ⌝ }
 {
-    let mut mixed = [0u8; 48];
-    permute(right, &tables[64..112], &mut mixed);
-    add(&mut mixed, key);
-    let selected = substitute(&tables[144..656], &mixed);
+    let input = box_input(tables, right, key);
+    let selected = substitute(&tables[144..656], &input);
     let mut out = [0u8; 32];
     permute(&selected, &tables[112..144], &mut out);
     out
@@ -190,16 +200,16 @@ fn join(first: &[u8], second: &[u8]) -> [u8; 64]
     out
 }
 
-// Sixteen rounds, and the halves in the other order.
-fn sixteen_rounds(tables: &[u8], keys: &[u8], bits: &[u8]) -> [u8; 64]
+// The first rounds, as many as asked, and the halves in the other order.
+fn first_rounds(tables: &[u8], keys: &[u8], bits: &[u8], count: usize) -> [u8; 64]
     requires { ⌜ (now tables ≡ cipherTables) × (length (now keys) ≡ 768) × (length (now bits) ≡ 64) ⌝ }
-    requires { ⌜ Bits (λ k. getD (now keys) k 0) × Bits (λ k. getD (now bits) k 0) ⌝ }
-    ensures { λ r. ⌜ r ≡ joined (rounds (setOut (now (keys .entry))) (halved (now (bits .entry))) 16) ⌝ }
+    requires { ⌜ Bits (λ k. getD (now keys) k 0) × Bits (λ k. getD (now bits) k 0) × (count ≤ 16) ⌝ }
+    ensures { λ r. ⌜ r ≡ joined (rounds (setOut (now (keys .entry))) (halved (now (bits .entry))) count) ⌝ }
 {
     let mut left = half(bits, 0);
     let mut right = half(bits, 32);
     let mut n = 0;
-    while n < 16 {
+    while n < count {
         let a = 48 * n;
         let e = a + 48;
         let f = cipher_function(tables, &right, &keys[a..e]);
@@ -212,15 +222,24 @@ fn sixteen_rounds(tables: &[u8], keys: &[u8], bits: &[u8]) -> [u8; 64]
     join(&right, &left)
 }
 
+// The initial permutation.
+fn initial(tables: &[u8], bits: &[u8]) -> [u8; 64]
+    requires { ⌜ (now tables ≡ cipherTables) × (length (now bits) ≡ 64) ⌝ }
+    ensures { λ r. ⌜ r ≡ permuted ipTable (now (bits .entry)) ⌝ }
+{
+    let mut first = [0u8; 64];
+    permute(bits, &tables[0..64], &mut first);
+    first
+}
+
 // 64 bits enciphered.
 fn encipher_bits(tables: &[u8], keys: &[u8], bits: &[u8]) -> [u8; 64]
     requires { ⌜ (now tables ≡ cipherTables) × (length (now keys) ≡ 768) × (length (now bits) ≡ 64) ⌝ }
     requires { ⌜ Bits (λ k. getD (now keys) k 0) × Bits (λ k. getD (now bits) k 0) ⌝ }
     ensures { λ r. ⌜ r ≡ enciphered (setOut (now (keys .entry))) (now (bits .entry)) ⌝ }
 {
-    let mut first = [0u8; 64];
-    permute(bits, &tables[0..64], &mut first);
-    let after = sixteen_rounds(tables, keys, &first);
+    let first = initial(tables, bits);
+    let after = first_rounds(tables, keys, &first, 16);
     let mut last = [0u8; 64];
     permute(&after, &tables[656..720], &mut last);
     last
@@ -234,6 +253,22 @@ pub fn encipher(tables: &[u8], keys: &[u8], block: &mut [u8])
     let bits = unpack(block);
     let out = encipher_bits(tables, keys, &bits);
     pack(&out, block);
+}
+
+// Where box i looks in round n of a block, both counted from 0: so a set of known answers can tell which selection entries it uses.
+pub fn looks_at(tables: &[u8], keys: &[u8], block: &[u8], n: usize, i: usize) -> usize
+    requires { ⌜ (now tables ≡ cipherTables) × (length (now keys) ≡ 768) × Bits (λ k. getD (now keys) k 0) × (length (now block) ≡ 8) ⌝ }
+    requires { ⌜ (n < 16) × (i < 8) ⌝ }
+    ensures { λ r. ⌜ (r ≡ looksAt (setOut (now (keys .entry))) (now (block .entry)) n i) × (r < 512) ⌝ }
+{
+    let bits = unpack(block);
+    let first = initial(tables, &bits);
+    let after = first_rounds(tables, keys, &first, n);
+    let right = half(&after, 0);
+    let a = 48 * n;
+    let e = a + 48;
+    let input = box_input(tables, &right, &keys[a..e]);
+    box_place(&input, i)
 }
 
 // ---- the key schedule

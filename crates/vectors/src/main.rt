@@ -1,11 +1,12 @@
 // Runs known answers through the proved functions: those published for DES, AES-256 and output feedback, those of NXDN TS 1-D's 7.2.2 and 7.2.3,
 // and an independent model's voice slots and messages; and rows of each that one bit makes wrong. Prints one line for each set, with how many of its rows held,
-// and one for each row that did not.
+// one for each row that did not, and how many of DES's selection entries the rows look at.
 mod blocks;
 mod feedback;
 mod messages;
 mod nxdn;
 mod row;
+mod selection;
 mod slots;
 
 use crate::row::is_row;
@@ -115,6 +116,18 @@ fn run(set: Set, file: &[u8], title: &[u8]) {
     print(title, try_rows(set, file, &text[..n]));
 }
 
+// Says how many of DES's selection entries a file's rows look at.
+fn say_selection(file: &[u8]) {
+    let mut text = io::large_buffer();
+    let n = read(file, &mut text);
+    let mut marks = [0u8; selection::ENTRIES];
+    selection::mark_rows(&text[..n], &mut marks);
+    io::write_all(STDOUT_FILENO, file);
+    io::write_all(STDOUT_FILENO, b" looks at ");
+    io::print_decimal(STDOUT_FILENO, selection::marked(&marks));
+    io::write_all(STDOUT_FILENO, b" of the 512 selection entries\n");
+}
+
 // Runs a set's known answers, and then rows of them that one bit makes wrong: none of these may hold.
 fn run_both(set: Set, file: &[u8], title: &[u8], wrong: &[u8]) {
     run(set, file, title);
@@ -132,6 +145,8 @@ fn main() {
         b"DES, SP 500-20 and SP 800-17",
         b"des-one-bit-wrong.tsv",
     );
+    say_selection(b"des-known-answers.tsv");
+    say_selection(b"des-one-bit-wrong.tsv");
     run_both(
         Set::Aes,
         b"aes256-known-answers.tsv",

@@ -2,56 +2,46 @@
 use mathlib.Core.Path.{refl}
 use native.Mathlib.Omega.{arith}
 use borrow.Author.Needs.{needs}
-use Rattle.des.specs.Des.{cipherF}
-use Rattle.des.specs.Tables.{eTable, pTable}
-use Rattle.des.proofs.BitLists.{bits-xor, bits-permuted}
-use Rattle.des.proofs.PlaceLaws.{permutable, e-places, p-places}
-use Rattle.des.proofs.TableLaws.{long-enough, e-part, p-part, s-part}
+use Rattle.des.specs.Des.{boxInput, cipherF}
+use Rattle.des.specs.Tables.{pTable}
+use Rattle.des.proofs.BitLists.{bits-xor}
+use Rattle.des.proofs.PlaceLaws.{permutable, p-places}
+use Rattle.des.proofs.TableLaws.{long-enough, p-part, s-part}
 use Rattle.des.proofs.cipher_function.Statement.{statement}
 use Rattle.des.proofs.cipher_function.Tie as tie
 
-expansion-asked : tie.Need-permute-requires
-unfolding eTable
-expansion-asked c κs = permutable (e-part _ (c .before .before .before .before .before .pre .0 .0)) e-places refl (search needs)
+part-substitute-end : tie.Need-part-substitute-end
+part-substitute-end c = long-enough (c .before .before .before .before .pre .0 .0) (omega arith)
 
-sum-asked : tie.Need-add-requires
-sum-asked c κs =
-    let p = c .before .before .before .before .before .before .before .before .pre in
-    (search needs, rw (c .before .before .permute .ensures) (bits-permuted _ _ (p .1 .0)), p .1 .1)
+substitute-requires : tie.Need-substitute-requires
+unfolding boxInput
+substitute-requires c κs = (s-part _ (c .before .before .before .before .before .before .pre .0 .0), search needs, rw (c .before .before .box-input .ensures) (bits-xor _ _))
 
-boxes-asked : tie.Need-substitute-requires
-boxes-asked c κs = (s-part _ (c .before .before .before .before .before .before .before .before .before .before .before .before .pre .0 .0), search needs, rw (c .before .before .before .add .ensures) (bits-xor _ _))
+part-permute-end : tie.Need-part-permute-end
+part-permute-end c = long-enough (c .before .before .before .before .before .before .before .before .pre .0 .0) (omega arith)
 
-permutation-asked : tie.Need-permute-requires-2
+permute-requires : tie.Need-permute-requires
 unfolding pTable
-permutation-asked c κs = permutable (p-part _ (c .before .before .before .before .before .before .before .before .before .before .before .before .before .before .before .before .pre .0 .0)) p-places refl (search needs)
+permute-requires c κs = permutable (p-part _ (c .before .before .before .before .before .before .before .before .before .before .pre .0 .0)) p-places refl (search needs)
 
-composed : tie.Need-returns
+returns : tie.Need-returns
 unfolding cipherF
-composed c =
-    let t = c .before .before .before .before .before .before .before .before .before .before .before .before .before .before .before .before .before .before .pre .0 .0 in
-    cc (e-part _ t, p-part _ t)
+returns c = cc (p-part _ (c .before .before .before .before .before .before .before .before .before .before .before .before .pre .0 .0))
 
 pub cipher-function-spec : {M : Type 1} → statement M
 cipher-function-spec =
     tie.close
     (tie.spec
+    (λ c κs. search needs)
     (λ c. search needs)
     (λ c. search needs)
-    (λ c. long-enough (c .before .before .before .pre .0 .0) (omega arith))
+    part-substitute-end
     (λ c. search needs)
-    expansion-asked
-    (λ c. search needs)
-    sum-asked
-    (λ c. search needs)
-    (λ c. search needs)
-    (λ c. long-enough (c .before .before .before .before .before .before .before .before .before .before .pre .0 .0) (omega arith))
-    (λ c. search needs)
-    boxes-asked
+    substitute-requires
     (λ c. search needs)
     (λ c. search needs)
     (λ c. search needs)
-    (λ c. long-enough (c .before .before .before .before .before .before .before .before .before .before .before .before .before .before .pre .0 .0) (omega arith))
+    part-permute-end
     (λ c. search needs)
-    permutation-asked
-    composed)
+    permute-requires
+    returns)

@@ -3,47 +3,39 @@ use mathlib.Core.Path.{refl}
 use native.Mathlib.Omega.{arith}
 use borrow.Author.Needs.{needs}
 use Rattle.des.specs.Des.{enciphered}
-use Rattle.des.specs.Tables.{ipTable, fpTable}
+use Rattle.des.specs.Tables.{fpTable}
 use Rattle.des.proofs.BitLists.{bits-permuted}
-use Rattle.des.proofs.PlaceLaws.{permutable, ip-places, fp-places}
-use Rattle.des.proofs.TableLaws.{long-enough, ip-part, fp-part}
+use Rattle.des.proofs.PlaceLaws.{permutable, fp-places}
+use Rattle.des.proofs.TableLaws.{long-enough, fp-part}
 use Rattle.des.proofs.encipher_bits.Statement.{statement}
 use Rattle.des.proofs.encipher_bits.Tie as tie
 
-initial-asked : tie.Need-permute-requires
-unfolding ipTable
-initial-asked c κs = permutable (ip-part _ (c .before .before .before .before .before .pre .0 .0)) ip-places refl (search needs)
+first-rounds-requires : tie.Need-first-rounds-requires
+first-rounds-requires c κs =
+    ((c .before .before .before .before .before .pre .0 .0, c .before .before .before .before .before .pre .0 .1, search needs), (c .before .before .before .before .before .pre .1 .0, rw (c .before .initial .ensures) (bits-permuted _ _ (c .before .before .before .before .before .pre .1 .1)), omega arith))
 
-rounds-asked : tie.Need-sixteen-rounds-requires
-rounds-asked c κs =
-    let p = c .before .before .before .before .before .before .before .before .pre in
-    ((p .0 .0, p .0 .1, search needs), (p .1 .0, rw (c .before .before .permute .ensures) (bits-permuted _ _ (p .1 .1))))
+part-permute-end : tie.Need-part-permute-end
+part-permute-end c = long-enough (c .before .before .before .before .before .before .before .pre .0 .0) (omega arith)
 
-last-asked : tie.Need-permute-requires-2
+permute-requires : tie.Need-permute-requires
 unfolding fpTable
-last-asked c κs = permutable (fp-part _ (c .before .before .before .before .before .before .before .before .before .before .before .before .pre .0 .0)) fp-places refl (search needs)
+permute-requires c κs = permutable (fp-part _ (c .before .before .before .before .before .before .before .before .before .pre .0 .0)) fp-places refl (search needs)
 
-composed : tie.Need-returns
+returns : tie.Need-returns
 unfolding enciphered
-composed c =
-    let t = c .before .before .before .before .before .before .before .before .before .before .before .before .before .before .pre .0 .0 in
-    cc (ip-part _ t, fp-part _ t)
+returns c = cc (fp-part _ (c .before .before .before .before .before .before .before .before .before .before .before .pre .0 .0))
 
 pub encipher-bits-spec : {M : Type 1} → statement M
 encipher-bits-spec =
     tie.close
     (tie.spec
+    (λ c κs. search needs)
     (λ c. search needs)
-    (λ c. search needs)
-    (λ c. long-enough (c .before .before .before .pre .0 .0) (omega arith))
-    (λ c. search needs)
-    initial-asked
-    (λ c. search needs)
-    rounds-asked
+    first-rounds-requires
     (λ c. search needs)
     (λ c. search needs)
     (λ c. search needs)
-    (λ c. long-enough (c .before .before .before .before .before .before .before .before .before .before .pre .0 .0) (omega arith))
+    part-permute-end
     (λ c. search needs)
-    last-asked
-    composed)
+    permute-requires
+    returns)

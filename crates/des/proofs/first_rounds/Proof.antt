@@ -1,4 +1,4 @@
--- `des::sixteen_rounds` meets its contract. Assumes nothing.
+-- `des::first_rounds` meets its contract. Assumes nothing.
 use mathlib.Core.Path.{ap, _∙_}
 use Prim.Native.Nat.{_-_, _≤_}
 use native.Mathlib.Omega.{arith}
@@ -8,14 +8,14 @@ use Rattle.des.specs.Des.{cipherF, setOut, halved}
 use Rattle.des.proofs.BitLists.{bits-cipherF}
 use Rattle.des.proofs.KeyLaws.{lent-key, length-setOut, bits-setOut}
 use Rattle.des.proofs.RoundLaws.{Reached, reached-start, reached-more, reached-end}
-use Rattle.des.proofs.sixteen_rounds.Statement.{statement}
-use Rattle.des.proofs.sixteen_rounds.Tie as tie
+use Rattle.des.proofs.first_rounds.Statement.{statement}
+use Rattle.des.proofs.first_rounds.Tie as tie
 
 abbrev Inv-loop : tie.InvT-loop
-Inv-loop tables keys bits left₀ right₀ n₀ left right n = (n ≤ 16) × Reached (setOut keys) (halved bits) n left right
+Inv-loop tables keys bits count left₀ right₀ n₀ left right n = (n ≤ count) × Reached (setOut keys) (halved bits) n left right
 
 abbrev μ-loop : tie.MeasureT-loop
-μ-loop tables keys bits left₀ right₀ n₀ left right n = 16 - n
+μ-loop tables keys bits count left₀ right₀ n₀ left right n = count - n
 
 started : tie.Need-loop-holds Inv-loop μ-loop
 started c =
@@ -40,8 +40,8 @@ again c =
     let k = lent-key (now (at .before .before .before .before .before .before .args .keys)) (at .loop .n) in
     (search needs, reached-more _ _ _ _ _ (at .loop .inv .1) _ _ (c .before .add .ensures) (c .before .before .before .before .cipher-function .ensures ∙ ap (cipherF (at .loop .right)) k))
 
-pub sixteen-rounds-spec : {M : Type 1} → statement M
-sixteen-rounds-spec =
+pub first-rounds-spec : {M : Type 1} → statement M
+first-rounds-spec =
     tie.close
     (tie.spec
     Inv-loop
@@ -65,4 +65,4 @@ sixteen-rounds-spec =
     (λ c. search needs)
     (λ c. search needs)
     (λ c κs. search needs)
-    (λ c. c .join .ensures ∙ reached-end _ _ _ _ _ (c .before .before .before .before .loop .inv .1) (omega arith)))
+    (λ c. c .join .ensures ∙ reached-end _ _ _ _ _ (c .before .before .before .before .loop .inv .1) _ (omega arith)))
