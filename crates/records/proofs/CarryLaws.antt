@@ -8,14 +8,19 @@ use lib.ListN.{length, take, drop, replicate, length-append}
 use lib.Seq.{take-all, take-at, take-append-add, length-take-le}
 use borrow.Rule.Slice.PartMut.{postOf, putMid}
 use Rattle.voice.specs.declared.call.Call.{Call}
+use Rattle.voice.specs.Call.{noCall}
 use Rattle.records.specs.Answered.{Responded}
-use Rattle.records.specs.Reader.{keptOctets, carried}
+use Rattle.records.specs.Reader.{keptOctets, carried, started}
 use Rattle.records.proofs.ReaderLaws.{answered-kept}
 
 zeros-left : (k n : ℕ) → drop k (replicate {A = ℕ} n 0) ≡ replicate (n - k) 0
 zeros-left zero n = let e : n - 0 ≡ n = omega arith in rw e
 zeros-left (suc k) zero = let e : 0 - suc k ≡ 0 = omega arith in rw e
 zeros-left (suc k) (suc n) = let e : suc n - suc k ≡ n - k = omega arith in rw e (zeros-left k n)
+
+-- before any input
+pub started-is : (call : Call) → call ≡ noCall → record { line = replicate keptOctets 0; count = 0; call = call } ≡ started
+started-is call e = rw e
 
 module _ (kept : List ℕ) (long : length kept ≡ keptOctets) (count : ℕ) (h : count ≤ keptOctets) where
   front : length (take count kept) ≡ count
