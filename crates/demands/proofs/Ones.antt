@@ -14,7 +14,7 @@ use Rattle.octets.proofs.TestLaws.{all-at}
 use Rattle.octets.proofs.BitLaws.{octets-ext}
 use Rattle.scramble.specs.Sequence.{keyNumber, stepped, P}
 use Rattle.des.specs.Tables.{ipTable, fpTable, eTable, pTable, pc1Table, pc2Table, shifts, sboxes}
-use Rattle.des.specs.Des.{des, byKeys, enciphered, rounds, halved, joined, cipherF, substituted, boxPlace, xorBits, permuted, roundKey, keyState, rotated}
+use Rattle.des.specs.Des.{des, byKeys, enciphered, rounds, halved, joined, cipherF, boxInput, substituted, boxPlace, xorBits, permuted, roundKey, keyState, rotated}
 use Rattle.des.proofs.DesLaws.{length-des, octets-des}
 use Rattle.aes.specs.Field as field
 use Rattle.aes.specs.Cipher as aes
@@ -51,7 +51,7 @@ unturned ks b p f h k l =
 -- ---- zeros enciphered: bit 1 is 1
 
 des-zeros : bit (des keyABCD (replicate 8 0)) 1 ≡ 1
-unfolding octet octetsFrom des byKeys tab ipTable fpTable eTable pTable pc1Table pc2Table shifts sboxes enciphered rounds halved joined cipherF
+unfolding octet octetsFrom des byKeys tab ipTable fpTable eTable pTable pc1Table pc2Table shifts sboxes enciphered rounds halved joined cipherF boxInput
     substituted boxPlace xorBits permuted roundKey keyState rotated
 des-zeros = refl
 
