@@ -1,4 +1,4 @@
--- The devices that demand 1 throws out, each by one part of it: noise for a held frame, a bad book taken, a refusal that wipes the book, everything held, a
+-- The devices that demand 1 throws out, each by one part of it: noise for a held frame, or filed as opened speech, a bad book taken, a refusal that wipes the book, everything held, a
 -- key operation that reaches a call, version three, which takes a vector in the middle of a session, and version one, which takes half a key. Assumes nothing.
 use mathlib.Core.Path.{_≡_, refl, sym, ap, _∙_}
 use mathlib.Core.Bool.{Bool, true, false, true≢false}
@@ -32,7 +32,7 @@ use Rattle.data.specs.Packet as packet
 use Rattle.demands.specs.Marked.{holding}
 use Rattle.demands.specs.Device.{Device, CallOperation, Open, Start, Join, Voice, Announce, callStep, Operation, OfBook, OfCall, OfPacket, Step, step, deviceAfter, history}
 use Rattle.demands.specs.Demand1.{Unknown, slot, NoneDone, Demand1}
-use Rattle.demands.specs.OtherDevices.{noise, noisy, wiped, wiping, careless, holdingAll, ending, hastyCall, hasty, eager}
+use Rattle.demands.specs.OtherDevices.{noise, noisy, filing, wiped, wiping, careless, holdingAll, ending, hastyCall, hasty, eager}
 use Rattle.demands.proofs.Samples.{silence}
 use Rattle.demands.proofs.ThrownOut1.{finishing, no-word}
 
@@ -61,6 +61,18 @@ noisy-thrown-out meets =
     let q : noise ≡ silence = rw e at u in
     let r = ap (λ (xs : List ℕ). getD xs 0 0) q in
     omega arith
+
+-- ---- noise filed as opened speech
+
+pub filing-thrown-out : Demand1 filing → ⊥
+unfolding step callStep
+filing-thrown-out meets =
+    let d = having [] (λ n. listening) in
+    let o = OfCall 0 (Voice 15 silence) in
+    let e : numberOf (step d o .0) ≡ 1 =
+    ap (λ (r : Answer × (Call × List ℕ)). numberOf (r .0)) (voice-held listening 15 silence (omega arith) refl 2 desABCD 4 noVector listens) in
+    let z : numberOf (filing d o .0) ≡ 0 = rw e in
+    meets .unopened d o (slot 0 15 silence refl refl) z
 
 -- ---- a bad book taken, by whatever device else
 

@@ -18,7 +18,7 @@ use Rattle.demands.specs.Device.{callStep, Voice, packetStep, Message, O
 use Rattle.demands.specs.Demand1.{WordsTurned, MessageTurned, Demand1}
 use Rattle.data.proofs.MessageBits.{done-open}
 use Rattle.demands.proofs.DeviceLaws.{answers-by-table, refusal-changes-nothing, reaches-its-own}
-use Rattle.demands.proofs.RefusedLaws.{wrong-is-refused, untimely-is-refused, undone-untouched, only-slots-held}
+use Rattle.demands.proofs.RefusedLaws.{wrong-is-refused, untimely-is-refused, undone-untouched, only-slots-held, unknown-not-done}
 use Rattle.demands.proofs.CallsLoaded.{calls-loaded}
 use Rattle.demands.proofs.PacketsLoaded.{packets-loaded}
 
@@ -57,6 +57,7 @@ ours-meets-1 =
       changes-nothing = refusal-changes-nothing;
       untouched = undone-untouched;
       held = only-slots-held;
+      unopened = unknown-not-done;
       apart = reaches-its-own;
       words = words;
       messages = messages;

@@ -3,16 +3,24 @@ use mathlib.Core.Path.{_≡_, refl}
 use mathlib.Core.Bool.{true, false, not}
 use mathlib.Core.List.{List, [], _∷_, _++_}
 use Prim.Native.Nat.{ℕ}
+use lib.ListN.{length}
+use borrow.Author.Tests.{eq-eqb}
+use Rattle.answers.specs.declared.Answer.{Answer}
+use Rattle.answers.specs.declared.Answer.the-variants.{NotNow}
+use Rattle.answers.specs.Outcomes.{answered}
 use Rattle.answers.specs.Order.{refusalOrder, ofGiven, ofCall, ofBook, ofZeros, numbersOf, inOrder}
-use Rattle.keyentry.specs.Entry.{loadRefusals, completeRefusals}
-use Rattle.keybook.specs.Book.{bookRefusals}
+use Rattle.keyentry.specs.Entry.{named, loadRefusals, completeRefusals}
+use Rattle.keybook.specs.Book.{bookOctets, bookRefusals}
 use Rattle.keybook.specs.Operations.{beginRefusals, addRefusals, finishRefusals, eraseRefusals, notReady, readyRefusals}
 use Rattle.keybook.specs.History as book
+use Rattle.session.specs.Session.{vectorOctets}
+use Rattle.session.specs.Ladder.{keyRefusals, vectorRefusals}
 use Rattle.session.proofs.LadderLaws.{key-in-order, vector-in-order}
 use Rattle.voice.specs.Call.{Standing, standing, isBad, stands, endRefusals}
 use Rattle.voice.specs.Opening.{joinRefusals, openRefusals}
 use Rattle.voice.specs.Slot.{lostRefusals, voiceRefusals}
 use Rattle.voice.specs.Vector.{announceRefusals, nextRefusals}
+use Rattle.data.specs.declared.packet.Packet.{Packet}
 use Rattle.data.specs.Kinds.{isKind}
 use Rattle.data.specs.Packet as packet
 use Rattle.data.specs.Opening as opening
@@ -62,6 +70,24 @@ ready-in-order b c i = refl
 -- the parts of the order are all of it
 pub order-parts : refusalOrder ≡ ofGiven ++ (ofCall ++ (ofBook ++ ofZeros))
 order-parts = refl
+
+-- ---- the two 4s
+
+-- the test is of numbers, and an opening has 4 twice: with 9 between them, the one after it is the book's. What stands is 9, whatever the book holds
+module _ (c i : ℕ) (b : List ℕ) (long : length b ≡ 576) (is-named : named c i ≡ true) where
+  module _ (s : Standing) (good : isBad s ≡ false) (there : stands s ≡ true) where
+    pub busy-join : (a : Answer) → answered (joinRefusals s c i b) a ≡ NotNow
+    unfolding joinRefusals keyRefusals
+    busy-join a = rw (eq-eqb (length b) bookOctets long, is-named, good, there)
+
+    pub busy-open : (w : List ℕ) → length w ≡ 8 → (a : Answer) → answered (openRefusals s c i w b) a ≡ NotNow
+    unfolding openRefusals vectorRefusals keyRefusals
+    busy-open w l a = rw (eq-eqb (length w) vectorOctets l, eq-eqb (length b) bookOctets long, is-named, good, there)
+
+  pub busy-packet : (p : Packet) → packet.goodPacket p ≡ true → packet.isClosed p ≡ false → (kind : ℕ) → isKind kind ≡ true → (w : List ℕ) → length w ≡ 8
+      → (a : Answer) → answered (opening.openRefusals p kind c i w b) a ≡ NotNow
+  unfolding opening.openRefusals vectorRefusals keyRefusals
+  busy-packet p good there kind k w l a = rw (eq-eqb (length w) vectorOctets l, eq-eqb (length b) bookOctets long, k, is-named, good, there)
 
 -- ---- what the test throws out
 

@@ -1,12 +1,15 @@
--- What an operation is not refused was right and in time, what is not done leaves the lent octets, and only a slot whose vector is unknown is held. Assumes nothing.
+-- What an operation is not refused was right and in time, what is not done leaves the lent octets, and only a slot whose vector is unknown is held, and it is
+-- never done. Assumes nothing.
 use mathlib.Core.Path.{_≡_, refl, sym, ap, _∙_}
-use mathlib.Core.Bool.{Bool, true, false, _&&_, not}
+use mathlib.Core.Bool.{Bool, true, false, _&&_, not, true≢false}
 use mathlib.Core.List.{List}
 use Prim.Native.Nat.{ℕ, zero, suc, _≤_, _<_}
 use native.Mathlib.Omega.{arith}
 use lib.Dec.{leb, eqb}
-use lib.ListN.{length}
-use borrow.Author.Tests.{eqb-true, leb-true, ltb-false, not-false}
+use lib.ListN.{length, replicate}
+use borrow.Author.Tests.{eqb-true, ne-eqb, leb-true, ltb-false, not-false}
+use Rattle.octets.specs.Tests.{allBelow}
+use Rattle.octets.specs.Lists.{allZero}
 use Rattle.octets.proofs.TestLaws.{and-left, and-right}
 use Rattle.answers.specs.declared.Answer.{Answer}
 use Rattle.answers.specs.declared.Answer.the-variants.{Done}
@@ -28,6 +31,7 @@ use Rattle.voice.specs.Slot.{lostRefusals, voiceRefusals, voiceAfter, voiceOf}
 use Rattle.voice.specs.Vector.{announceRefusals, following, nextRefusals, nextVectorOf}
 use Rattle.voice.proofs.CallLaws.{Stands, none, sender, receiver, good-by, good-stands}
 use Rattle.voice.proofs.SlotLaws.{by-voice, none-good, undone-stays}
+use Rattle.voice.proofs.Exactly.{done-exactly}
 use Rattle.data.specs.declared.packet.Packet.{Packet}
 use Rattle.data.specs.Kinds.{isKind, messageOctets}
 use Rattle.data.specs.Packet as packet
@@ -35,7 +39,7 @@ use Rattle.data.specs.Opening as opening
 use Rattle.data.specs.Message as message
 use Rattle.demands.specs.Device.{Device, CallOperation, Open, Start, Join, Voice, Lost, End, Announce, NextVector, callStep, lentCall, PacketOperation, OpenPacket, Message, LostMessage, EndPacket, packetStep, lentPacket, Operation, OfBook, OfCall, OfPacket, step, lent}
 use Rattle.demands.specs.Refusals.{keyRefusals, callRefusals, packetRefusals, refusalsOf}
-use Rattle.demands.specs.Demand1.{Keyed, RightKey, RightCall, RightPacket, Right, InTime, Unknown, slot}
+use Rattle.demands.specs.Demand1.{Keyed, RightKey, RightVector, RightCall, RightPacket, Right, InTime, Unknown, slot}
 use Rattle.demands.proofs.TimeLaws.{unrefused-in-time}
 use Rattle.demands.proofs.DeviceLaws.{book-settles, call-settles, packet-settles, unrefused-only}
 
@@ -64,12 +68,25 @@ key-right b (book.Add c i xs) n = (keyed b c i true (n .1 .0) (n .1 .1 .0) (n .1
 key-right b (book.Finish c i) n = keyed b c i true (n .0) (n .1 .0) (n .1 .1 .0)
 key-right b (book.Erase c i) n = keyed b c i true (n .0) (n .1 .0) (n .1 .1 .0)
 
+-- a vector that is not all zero
+not-zeros : (w : List ℕ) → allZero w ≡ false → w ≡ replicate 8 0 → ⊥
+unfolding allZero allBelow
+not-zeros w f e = true≢false (sym (ap allZero e) ∙ f)
+
+vector-right : (c : ℕ) (w : List ℕ) → not (eqb (length w) vectorOctets) ≡ false → ladder.zeroFor c w ≡ false → RightVector c w
+unfolding ladder.zeroFor
+vector-right c w l z =
+    record { long = sized (length w) vectorOctets l; some = λ n. not-zeros w (sym (ap (λ (t : Bool). not t && allZero w) (ne-eqb c 1 n)) ∙ z) }
+
 -- open and start
 begun-right : (b : List ℕ) (c : Call) (m i : ℕ) (w : List ℕ) → NoneHolds (openRefusals (standing c) m i w b)
-    → Keyed b m i × (length w ≡ 8) × (goodCall c ≡ true)
+    → Keyed b m i × RightVector m w × (goodCall c ≡ true)
 unfolding openRefusals ladder.vectorRefusals ladder.keyRefusals
-begun-right b c m i w n =
-    (keyed b m i true (n .1 .0) (n .1 .1 .0) (n .1 .1 .1 .1 .1 .0), sized (length w) vectorOctets (n .0), good-by c (n .1 .1 .1 .0))
+begun-right b c m i w n = (
+  keyed b m i true (n .1 .0) (n .1 .1 .0) (n .1 .1 .1 .1 .1 .0),
+  vector-right m w (n .0) (n .1 .1 .1 .1 .1 .1 .1 .1 .0),
+  good-by c (n .1 .1 .1 .0),
+)
 
 call-right : (b : List ℕ) (c : Call) (o : CallOperation) → NoneHolds (callRefusals b c o) → RightCall b c o
 unfolding joinRefusals ladder.keyRefusals voiceRefusals lostRefusals endRefusals announceRefusals nextRefusals
@@ -79,7 +96,8 @@ call-right b c (Join m i) n = (keyed b m i true (n .0) (n .1 .0) (n .1 .1 .1 .1 
 call-right b c (Voice mask frame) n = (sized (length frame) 28 (n .0), ltb-false 15 mask (n .1 .0), good-by c (n .1 .1 .0))
 call-right b c Lost n = good-by c (n .0)
 call-right b c End n = good-by c (n .0)
-call-right b c (Announce w) n = (sized (length w) vectorOctets (n .0), good-by c (n .1 .0))
+call-right b c (Announce w) n =
+    (record { long = sized (length w) vectorOctets (n .0); some = λ _. not-zeros w (n .1 .1 .1 .0) }, good-by c (n .1 .0))
 call-right b c (NextVector out) n = (sized (length out) vectorOctets (n .0), good-by c (n .1 .0))
 
 packet-right : (b : List ℕ) (p : Packet) (o : PacketOperation) → NoneHolds (packetRefusals b p o) → RightPacket b p o
@@ -88,7 +106,7 @@ packet-right b p (OpenPacket kind c i w) n =
     let k = and-left (isKind kind) (named c i) (not-false (isKind kind && named c i) (n .1 .1 .0)) in (
       keyed b c i (isKind kind) (n .1 .0) (n .1 .1 .0) (n .1 .1 .1 .1 .1 .0),
       (leb-true 1 kind (and-left (leb 1 kind) (leb kind 4) k), leb-true kind 4 (and-right (leb 1 kind) (leb kind 4) k)),
-      sized (length w) vectorOctets (n .0),
+      vector-right c w (n .0) (n .1 .1 .1 .1 .1 .1 .1 .1 .0),
       not-false (packet.goodPacket p) (n .1 .1 .1 .0),
     )
 packet-right b p (Message octets) n = (sized (length octets) (messageOctets (p .kind)) (n .1 .1 .0), not-false (packet.goodPacket p) (n .0))
@@ -179,3 +197,8 @@ unfolding step
 only-slots-held d (OfBook o) z = absurd (not-held (book-settles (d .book) o) z)
 only-slots-held d (OfCall n o) z = call-held d n o z
 only-slots-held d (OfPacket n o) z = absurd (not-held (packet-settles (d .book) (d .packets n) o) z)
+
+-- and no such slot is done
+pub unknown-not-done : (d : Device) (o : Operation) → Unknown d o → numberOf (step d o .0) ≡ 0 → ⊥
+unfolding step callStep
+unknown-not-done d _ (slot n mask frame e k) z = true≢false (sym (done-exactly (d .calls n) mask frame .0 z .vector) ∙ k)

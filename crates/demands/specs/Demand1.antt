@@ -6,7 +6,7 @@ use mathlib.Core.List.{List, [], _∷_, _++_}
 use mathlib.Core.Bool.{Bool, true, false, _&&_}
 use Prim.Native.Nat.{ℕ, _≤_, _<_}
 use lib.Dec.{eqb}
-use lib.ListN.{length}
+use lib.ListN.{length, replicate}
 use Rattle.answers.specs.declared.Answer.the-variants.{Done}
 use Rattle.answers.specs.Numbers.{numberOf, isDone, isOneOf, operationNumbers}
 use Rattle.ciphers.specs.Keystream.{stream}
@@ -38,20 +38,25 @@ RightKey b (book.Add c i xs) = Keyed b c i × (length xs ≤ 32)
 RightKey b (book.Finish c i) = Keyed b c i
 RightKey b (book.Erase c i) = Keyed b c i
 
--- a vector has 8 octets, a frame 28, and a mask is at most 15
+-- a vector has 8 octets, and for DES and AES it is not all zero
+pub record RightVector (c : ℕ) (w : List ℕ) : Type 0 where
+  pub long : length w ≡ 8
+  pub some : (c ≡ 1 → ⊥) → w ≡ replicate 8 0 → ⊥
+
+-- a frame has 28 octets, and a mask is at most 15
 abbrev pub RightCall : List ℕ → Call → CallOperation → Type 0
-RightCall b c (Open cipher i w) = Keyed b cipher i × (length w ≡ 8) × (goodCall c ≡ true)
-RightCall b c (Start cipher i w) = Keyed b cipher i × (length w ≡ 8) × (goodCall c ≡ true)
+RightCall b c (Open cipher i w) = Keyed b cipher i × RightVector cipher w × (goodCall c ≡ true)
+RightCall b c (Start cipher i w) = Keyed b cipher i × RightVector cipher w × (goodCall c ≡ true)
 RightCall b c (Join cipher i) = Keyed b cipher i × (goodCall c ≡ true)
 RightCall b c (Voice mask frame) = (length frame ≡ 28) × (mask ≤ 15) × (goodCall c ≡ true)
 RightCall b c Lost = goodCall c ≡ true
 RightCall b c End = goodCall c ≡ true
-RightCall b c (Announce w) = (length w ≡ 8) × (goodCall c ≡ true)
+RightCall b c (Announce w) = RightVector (c .cipher) w × (goodCall c ≡ true)
 RightCall b c (NextVector out) = (length out ≡ 8) × (goodCall c ≡ true)
 
 -- a message kind is 1 to 4, and a message has the length of its packet's kind
 abbrev pub RightPacket : List ℕ → Packet → PacketOperation → Type 0
-RightPacket b p (OpenPacket kind c i w) = Keyed b c i × ((1 ≤ kind) × (kind ≤ 4)) × (length w ≡ 8) × (goodPacket p ≡ true)
+RightPacket b p (OpenPacket kind c i w) = Keyed b c i × ((1 ≤ kind) × (kind ≤ 4)) × RightVector c w × (goodPacket p ≡ true)
 RightPacket b p (Message octets) = (length octets ≡ messageOctets (p .kind)) × (goodPacket p ≡ true)
 RightPacket b p LostMessage = goodPacket p ≡ true
 RightPacket b p EndPacket = goodPacket p ≡ true
@@ -187,8 +192,9 @@ pub record Demand1 (st : Step) : Type 0 where
   pub changes-nothing : (d : Device) (o : Operation) → 2 ≤ numberOf (st d o .0) → Same (st d o .1 .0) d
   -- any but 0 leaves the lent octets as they came
   pub untouched : (d : Device) (o : Operation) → (numberOf (st d o .0) ≡ 0 → ⊥) → st d o .1 .1 ≡ lent o
-  -- only a slot is held
+  -- only a slot whose vector is unknown is held, and no such slot is done: what was not opened is not handed out as opened
   pub held : (d : Device) (o : Operation) → numberOf (st d o .0) ≡ 1 → Unknown d o
+  pub unopened : (d : Device) (o : Operation) → Unknown d o → numberOf (st d o .0) ≡ 0 → ⊥
   -- an operation reaches only what it is for: a key operation, erase too, no call and no packet
   pub apart : (d : Device) (o : Operation) → SameBeside o (st d o .1 .0) d
   -- over every list of operations from an all-zero book with no call and no packet: whenever words are turned, and whenever a message is

@@ -9,10 +9,12 @@ use Rattle.answers.specs.declared.Answer.{Answer}
 use Rattle.answers.specs.declared.Answer.the-variants.{Done, Held, NotReady, NotNow}
 use Rattle.answers.specs.Numbers.{numberOf}
 use Rattle.answers.specs.Outcomes.{Refusals, outcome}
+use Rattle.ciphers.specs.Keystream.{stream}
 use Rattle.keybook.specs.Book.{bookOctets, goodBook}
 use Rattle.session.specs.Ladder.{keyFor}
 use Rattle.voice.specs.declared.call.Call.{Call}
 use Rattle.voice.specs.Call.{sendingEnd, receivingEnd, noCall, standing, written}
+use Rattle.voice.specs.Frame.{ofSlot, protect}
 use Rattle.voice.specs.Opening.{begun, joined}
 use Rattle.voice.specs.Vector.{told}
 use Rattle.demands.specs.Device.{withNone, Device, CallOperation, Open, Start, Join, Voice, Lost, End, Announce, NextVector, callStep, Operation, OfBook, OfCall, OfPacket, withCall, Step, step, lent}
@@ -25,6 +27,25 @@ noise = replicate 28 170
 -- ours, but a held frame comes back as noise
 abbrev pub noisy : Step
 noisy d o = let r = step d o in (r .0, (r .1 .0, pick (eqb (numberOf (r .0)) 1) noise (r .1 .1)))
+
+-- ours, but a slot whose vector is unknown is answered 0 and turned all the same, by the zeros that stand in the vector's place
+abbrev turnedAt : Call → CallOperation → List ℕ
+turnedAt c (Open cipher i w) = []
+turnedAt c (Start cipher i w) = []
+turnedAt c (Join cipher i) = []
+turnedAt c (Voice mask frame) = protect (ofSlot (stream (c .cipher) (c .key) (c .vector)) (c .position)) mask frame
+turnedAt c Lost = []
+turnedAt c End = []
+turnedAt c (Announce w) = []
+turnedAt c (NextVector out) = []
+
+abbrev zerosTurned : Device → Operation → List ℕ
+zerosTurned d (OfBook o) = []
+zerosTurned d (OfCall n o) = turnedAt (d .calls n) o
+zerosTurned d (OfPacket n o) = []
+
+abbrev pub filing : Step
+filing d o = let r = step d o in pick (eqb (numberOf (r .0)) 1) (Done, (r .1 .0, zerosTurned d o)) r
 
 -- a device whose book is wiped
 abbrev pub wiped : Device → Device
