@@ -39,7 +39,7 @@ use Rattle.data.specs.Opening as opening
 use Rattle.data.specs.Message as message
 use Rattle.demands.specs.Device.{Device, CallOperation, Open, Start, Join, Voice, Lost, End, Announce, NextVector, callStep, lentCall, PacketOperation, OpenPacket, Message, LostMessage, EndPacket, packetStep, lentPacket, Operation, OfBook, OfCall, OfPacket, step, lent}
 use Rattle.demands.specs.Refusals.{keyRefusals, callRefusals, packetRefusals, refusalsOf}
-use Rattle.demands.specs.Demand1.{Keyed, RightKey, RightVector, RightCall, RightPacket, Right, InTime, Unknown, slot}
+use Rattle.demands.specs.Demand1.{Keyed, RightKey, RightVector, RightCall, RightPacket, RightInput, InTime, Unknown, slot}
 use Rattle.demands.proofs.TimeLaws.{unrefused-in-time}
 use Rattle.demands.proofs.DeviceLaws.{book-settles, call-settles, packet-settles, unrefused-only}
 
@@ -113,7 +113,7 @@ packet-right b p (Message octets) n = (sized (length octets) (messageOctets (p .
 packet-right b p LostMessage n = not-false (packet.goodPacket p) (n .0)
 packet-right b p EndPacket n = not-false (packet.goodPacket p) (n .0)
 
-unrefused-right : (d : Device) (o : Operation) → NoneHolds (refusalsOf d o) → Right d o
+unrefused-right : (d : Device) (o : Operation) → NoneHolds (refusalsOf d o) → RightInput d o
 unrefused-right d (OfBook o) = key-right (d .book) o
 unrefused-right d (OfCall n o) = call-right (d .book) (d .calls n) o
 unrefused-right d (OfPacket n o) = packet-right (d .book) (d .packets n) o
@@ -123,7 +123,7 @@ from-two zero f = absurd (f (omega arith))
 from-two (suc zero) f = absurd (f (omega arith))
 from-two (suc (suc n)) f = omega arith
 
-pub wrong-is-refused : (d : Device) (o : Operation) → (Right d o → ⊥) → Refusal (step d o .0)
+pub wrong-is-refused : (d : Device) (o : Operation) → (RightInput d o → ⊥) → Refusal (step d o .0)
 wrong-is-refused d o w = from-two (numberOf (step d o .0)) (λ l. w (unrefused-right d o (unrefused-only d o l)))
 
 pub untimely-is-refused : (d : Device) (o : Operation) → (InTime d o → ⊥) → Refusal (step d o .0)

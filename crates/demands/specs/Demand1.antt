@@ -61,10 +61,10 @@ RightPacket b p (Message octets) = (length octets ≡ messageOctets (p .kind)) �
 RightPacket b p LostMessage = goodPacket p ≡ true
 RightPacket b p EndPacket = goodPacket p ≡ true
 
-abbrev pub Right : Device → Operation → Type 0
-Right d (OfBook o) = RightKey (d .book) o
-Right d (OfCall n o) = RightCall (d .book) (d .calls n) o
-Right d (OfPacket n o) = RightPacket (d .book) (d .packets n) o
+abbrev pub RightInput : Device → Operation → Type 0
+RightInput d (OfBook o) = RightKey (d .book) o
+RightInput d (OfCall n o) = RightCall (d .book) (d .calls n) o
+RightInput d (OfPacket n o) = RightPacket (d .book) (d .packets n) o
 
 -- ---- when it is time for it, or it is refused
 
@@ -185,7 +185,7 @@ pub record Demand1 (st : Step) : Type 0 where
   -- on every device, good or bad: the answer is a number of the table that an operation can give
   pub answers : (d : Device) (o : Operation) → isOneOf (numberOf (st d o .0)) operationNumbers ≡ true
   -- what is not right is refused
-  pub refused : (d : Device) (o : Operation) → (Right d o → ⊥) → 2 ≤ numberOf (st d o .0)
+  pub refused : (d : Device) (o : Operation) → (RightInput d o → ⊥) → 2 ≤ numberOf (st d o .0)
   -- and so is what is not in time
   pub untimely : (d : Device) (o : Operation) → (InTime d o → ⊥) → 2 ≤ numberOf (st d o .0)
   -- any answer but 0 and 1 leaves the device as it was
