@@ -6,6 +6,7 @@ ghost use lib.ListN.{length};
 ghost use Rattle.records.specs.Answered.{answerRoom};
 ghost use Rattle.records.specs.Reader.{readingOf, fed};
 use keybook::BOOK_OCTETS;
+use libc::STDERR_FILENO;
 use libc::STDIN_FILENO;
 use libc::STDOUT_FILENO;
 use records::reader::Carry;
@@ -46,14 +47,23 @@ fn answer(carry: Carry, piece: &[u8], book: &mut [u8], out: &mut [u8]) -> Pass
     }
 }
 
-// The end of the input ends the last line.
-fn close(carry: Carry, book: &mut [u8], out: &mut [u8]) {
+// The end of the input ends the last line. False where its answer could not be written.
+fn close(carry: Carry, book: &mut [u8], out: &mut [u8]) -> bool {
     let last = finish(carry, book, out);
     let wrote = last.wrote;
-    io::write_all(STDOUT_FILENO, &out[..wrote]);
+    io::write_all(STDOUT_FILENO, &out[..wrote])
 }
 
-// Reads piece after piece. An error ends it. A proved loop has to end, and nothing says that input does: so it counts its turns down, from a number that no
+// A program here has no exit status, so a line on standard error says that the answers are cut off.
+fn read_failed() {
+    io::write_all(STDERR_FILENO, b"slotcheck: stopped by a read error\n");
+}
+
+fn write_failed() {
+    io::write_all(STDERR_FILENO, b"slotcheck: stopped by a write error\n");
+}
+
+// Reads piece after piece. An error ends it, and is said. A proved loop has to end, and nothing says that input does: so it counts its turns down, from a number that no
 // run uses up.
 fn run(book: &mut [u8], piece: &mut [u8], out: &mut [u8])
     requires { ⌜ answerRoom ≤ length (now out) ⌝ }
@@ -63,15 +73,19 @@ fn run(book: &mut [u8], piece: &mut [u8], out: &mut [u8])
     while turns > 0 {
         let got = libc::read(STDIN_FILENO, piece);
         if got < 0 {
+            read_failed();
             return;
         }
         let n = io::count(got, piece);
         if n == 0 {
-            close(carry, book, out);
+            if !close(carry, book, out) {
+                write_failed();
+            }
             return;
         }
         let pass = answer(carry, &piece[..n], book, out);
         if !pass.more {
+            write_failed();
             return;
         }
         carry = pass.carry;
