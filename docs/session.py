@@ -122,7 +122,7 @@ def legend(x, y):
              "way to signalling (air’s colour) stays as it", "came, and uses up its bits all the same"),
             ("lost", "0 for L: a lost slot. It uses up its bits, so", "the next one opens"),
             ("held", "1: held as it came. The session’s vector", "did not reach this receiver; nothing is", "filed as opened"),
-            ("untold", "on the air, and not told to this receiver")):
+            ("untold", "a slot that this receiver was not told of")):
         box(kind, x, y - 11, 22, 14)
         for line in lines:
             text(x + 30, y, line)

@@ -63,8 +63,8 @@ fn write_failed() {
     io::write_all(STDERR_FILENO, b"slotcheck: stopped by a write error\n");
 }
 
-// Reads piece after piece. An error ends it, and is said. A proved loop has to end, and nothing says that input does: so it counts its turns down, from a number that no
-// run uses up.
+// Reads piece after piece. An error ends it, and is said. A proved loop has to end, and nothing says that input does: so it counts its turns down, from a
+// number that no run uses up.
 fn run(book: &mut [u8], piece: &mut [u8], out: &mut [u8])
     requires { ⌜ answerRoom ≤ length (now out) ⌝ }
 {
