@@ -19,7 +19,7 @@ fn mark_round(tables: &[u8], keys: &[u8], block: &[u8], n: usize, marks: &mut [u
 {
     let mut i = 0;
     while i < 8 {
-        let at = des::looks_at(tables, keys, block, n, i);
+        let at = des::looks::looks_at(tables, keys, block, n, i);
         marks[at] = 1;
         i += 1;
     }
