@@ -11,7 +11,7 @@ use Rattle.octets.proofs.BitLaws.{octetsFrom-same}
 use Rattle.des.specs.Tables.{cipherTables}
 use Rattle.des.specs.Des.{des, roundKeys}
 use Rattle.des.proofs.BitLists.{bits-of}
-use Rattle.des.proofs.DesLaws.{by-set-out}
+use Rattle.des.proofs.DesLaws.{by-schedule}
 use Rattle.des.proofs.KeyLaws.{length-roundKeys, bits-roundKeys}
 use Rattle.aes.specs.Cipher.{aes, keyExpansion}
 use Rattle.aes.specs.Columns.{IsColumns}
@@ -50,8 +50,8 @@ fed-back E F e r v u m w from l q p =
     (λ k. rw (q, l) (feedback-same E F w u e (from + k)))
 
 pub by-des : (key schedule : List ℕ) → schedule ≡ roundKeys (tab (bit key) 64) → (block : List ℕ) → encipheredBy 2 schedule block ≡ des key block
-unfolding encipheredBy des
-by-des key schedule e block = rw e (by-set-out (tab (bit key) 64) block)
+unfolding encipheredBy
+by-des key schedule e block = rw e (by-schedule key block)
 
 pub by-aes : (key schedule : List ℕ) → schedule ≡ keyExpansion key → (block : List ℕ) → encipheredBy 3 schedule block ≡ aes key block
 unfolding encipheredBy aes
