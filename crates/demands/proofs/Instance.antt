@@ -22,7 +22,7 @@ use Rattle.demands.specs.Log.{talkLog}
 use Rattle.demands.specs.Demand3.{ours}
 use Rattle.demands.specs.Others.{turning}
 use Rattle.demands.specs.OurSender.{Said, Saying, talkMade, SaidKept}
-use Rattle.demands.proofs.Zeros.{octets-by}
+use Rattle.octets.proofs.Zeros.{octets-by}
 use Rattle.demands.proofs.AirLaws.{word-bits, protected-air}
 use Rattle.demands.proofs.Standing.{eight-slots}
 use Rattle.demands.proofs.ReceiverMeets.{ours-meets-3}

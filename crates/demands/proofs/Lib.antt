@@ -1,5 +1,3 @@
-pub mod Zeros
-pub mod OwnNext
 pub mod MarkedVoice
 pub mod MarkedData
 pub mod MarkedHold

@@ -28,7 +28,7 @@ use Rattle.ciphers.proofs.Running.{Wide, wide-bounds}
 use Rattle.ciphers.proofs.Cases.{by-range}
 use Rattle.voice.specs.Frame.{has}
 use Rattle.demands.specs.Marked.{key0001}
-use Rattle.demands.proofs.Zeros.{zeros-octets, zeros-bit}
+use Rattle.octets.proofs.Zeros.{zeros-octets, zeros-bit}
 use Rattle.demands.proofs.SampleKeys.{keyABCD, key1F, keyOf, key1F-octets}
 
 -- ---- a slot that is left as it came has zeros for its keystream

@@ -15,7 +15,7 @@ use Rattle.keybook.specs.Book as book
 use Rattle.session.specs.Samples.{scramble0001, desABCD}
 use Rattle.demands.specs.Marked.{key0001}
 use Rattle.demands.specs.Talk.{HasKey}
-use Rattle.demands.proofs.Zeros.{octets-by}
+use Rattle.octets.proofs.Zeros.{octets-by}
 
 -- DES key ABCDEF0123456789
 abbrev pub keyABCD : List ℕ

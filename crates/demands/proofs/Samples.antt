@@ -5,7 +5,7 @@ use mathlib.Core.List.{List, [], _∷_}
 use Prim.Native.Nat.{ℕ, suc, _+_, _*_}
 use native.Mathlib.Omega.{arith}
 use lib.ListN.{length, replicate}
-use Rattle.demands.proofs.Zeros.{octets-by, zeros-octets}
+use Rattle.octets.proofs.Zeros.{octets-by, zeros-octets}
 use Rattle.octets.specs.Tests.{allBelow}
 use Rattle.octets.specs.Lists.{allZero}
 use Rattle.octets.specs.Bits.{Octets}

@@ -8,8 +8,9 @@ use native.Mathlib.Numerals.{add-one}
 use native.Mathlib.Omega.{arith}
 use lib.ListN.{length}
 use borrow.Author.Tests.{eq-eqb, le-ltb, lt-ltb}
-use Rattle.demands.proofs.Zeros.{zeros-octets, next-not-zero}
-use Rattle.demands.proofs.OwnNext.{own-next-zero}
+use Rattle.octets.proofs.Zeros.{zeros-octets}
+use Rattle.generator.proofs.NotZero.{next-not-zero}
+use Rattle.generator.proofs.OwnNext.{own-next-zero}
 use Rattle.octets.specs.Tests.{pick}
 use Rattle.octets.specs.Bits.{Octets}
 use Rattle.octets.specs.Lists.{allZero, Each}

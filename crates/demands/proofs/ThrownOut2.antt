@@ -29,7 +29,7 @@ use Rattle.demands.specs.Talk.{VectorKept}
 use Rattle.demands.specs.Demand2.{OnSlot, OnMessage, Demand2}
 use Rattle.demands.specs.Others.{SameSpeech, Fixed, AsItCame, fixing, onlyMoves}
 use Rattle.demands.proofs.MarkedVoice.{example-2}
-use Rattle.demands.proofs.Zeros.{zeros-octets}
+use Rattle.octets.proofs.Zeros.{zeros-octets}
 use Rattle.demands.proofs.Standing.{slots-some, place-in, place-read, same-stream}
 use Rattle.demands.proofs.Samples.{silence, loud, seed-kept, seed-octets}
 use Rattle.demands.proofs.SampleKeys.{keyOf, bookOfThree, has-key, key-long}

@@ -1,4 +1,5 @@
 pub mod TestLaws
+pub mod Zeros
 pub mod ListLaws
 pub mod BitLaws
 pub mod Front

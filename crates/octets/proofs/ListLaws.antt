@@ -12,6 +12,7 @@ use lib.Dec.{eqb}
 use lib.Seq.{take-suc, getD-at, getD-append-add, ext-getD}
 use borrow.Author.Tests.{eqb-true}
 use Rattle.octets.specs.Lists.{tab, allZero, iterate}
+use Rattle.octets.proofs.Zeros.{zeros-at}
 use Rattle.octets.proofs.TestLaws.{all-at}
 use Rattle.octets.specs.Bits.{Octets}
 
@@ -45,10 +46,6 @@ tab-take l zero h = refl
 tab-take l (suc n) h = ap (λ (r : List ℕ). r ++ (getD l n 0 ∷ [])) (tab-take l n (le-of-lt h)) ∙ sym (take-suc l n 0 h)
 
 module _ (xs : List ℕ) (n : ℕ) where
-  zeros-at : (j : ℕ) → Dec (j < n) → getD {A = ℕ} (replicate n 0) j 0 ≡ 0
-  zeros-at j (yes l) = getD-replicate n j 0 0 l
-  zeros-at j (no m) = List·getD-eq-default (replicate n 0) 0 (simp length-replicate (omega arith))
-
   -- zeros after a list are no elements of it
   pub padded-at : (j : ℕ) → getD (xs ++ replicate n 0) j 0 ≡ getD xs j 0
   padded-at j = go (decLt j (length xs))
@@ -59,7 +56,7 @@ module _ (xs : List ℕ) (n : ℕ) where
           let e : j ≡ length xs + (j - length xs) = omega arith in
           ap (λ (x : ℕ). getD (xs ++ replicate n 0) x 0) e
           ∙ getD-append-add xs (replicate n 0) (j - length xs) 0
-          ∙ zeros-at (j - length xs) (decLt (j - length xs) n)
+          ∙ zeros-at n (j - length xs)
           ∙ sym (List·getD-eq-default xs 0 (omega arith))
 
 -- a list of zeros

@@ -9,9 +9,9 @@ use lib.ListN.{length, replicate}
 use Rattle.octets.specs.Lists.{iterate}
 use Rattle.octets.specs.Bits.{bit, Octets}
 use Rattle.octets.proofs.BitLaws.{bit-octetsFrom}
 use Rattle.generator.specs.Generator.{loaded, announced, shifted, nextVector}
 use Rattle.generator.proofs.VectorLaws.{bits-loaded, bits-iterate}
-use Rattle.demands.proofs.Zeros.{NoStage, loaded-zero}
+use Rattle.generator.proofs.NotZero.{NoStage, loaded-zero}
 
 -- ---- sums over places, of a sequence
 
