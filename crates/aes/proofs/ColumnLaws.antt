@@ -1,6 +1,5 @@
 -- Laws of the columns: the four rows of each, a column as a number turned by rows and added, and that a mixed column is the sum of its four
 -- octets' columns, each turned to its row.
--- Assumes nothing.
 use mathlib.Core.Path.{_≡_, refl, sym, ap, ap₂, _∙_}
 use mathlib.Core.List.{List, [], _∷_}
 use Prim.Native.Nat.{ℕ, zero, suc, _+_, _*_, _/_, _%_, _^_, _≤_, _<_}

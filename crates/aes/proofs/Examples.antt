@@ -1,5 +1,4 @@
 -- FIPS 197's worked examples, computed by antt.
--- Assumes nothing.
 use mathlib.Core.Path.{_≡_, refl}
 use mathlib.Core.List.{List, [], _∷_}
 use Prim.Native.Nat.{ℕ}

@@ -1,6 +1,5 @@
 -- Laws of the field: what `aes::xtime` computes, {02} and {03} times an octet, the inverse, and that all of these are octets. What is said
 -- of each octet is a test at all 256, which antt computes.
--- Assumes nothing.
 use mathlib.Core.Path.{_≡_, refl, ap}
 use mathlib.Core.Bool.{true}
 use mathlib.Core.List.{List}

@@ -1,6 +1,5 @@
 -- Laws of the key schedule: what `aes::temp` returns in its three cases, what a turn of the expansion adds, its size, and that its elements
 -- are octets.
--- Assumes nothing.
 use mathlib.Core.Path.{_≡_, refl, sym, ap, _∙_}
 use mathlib.Core.Bool.{Bool, true, false}
 use mathlib.Core.List.{List, _++_, append-assoc}

@@ -1,7 +1,6 @@
 -- FIPS 197, section 5: the forward cipher of AES-256 (Nb = 4, Nk = 8, Nr = 14), and its key expansion. A state is a list of 16 octets, octet
 -- r + 4 c being the standard's s[r, c], so that the input block is the first state and the last state is the output. A word is a list of
 -- 4 octets, and a key schedule the list of the octets of its 60 words, in order.
--- Assumes nothing.
 use Prim.Native.Nat.{ℕ, zero, suc, _+_, _*_, _/_, _%_, _-_}
 use mathlib.Core.List.{List, [], _∷_, _++_}
 use lib.Bits.{bitXor}

@@ -1,5 +1,4 @@
 -- SubBytes and MixColumns (FIPS 197, 5.1.1 and 5.1.3) as one table. Only the contracts of what makes, lends and reads that table cite it.
--- Assumes nothing.
 use mathlib.Core.Path.{_≡_}
 use mathlib.Core.List.{List, [], _∷_}
 use Prim.Native.Nat.{ℕ, _<_, _+_, _*_}

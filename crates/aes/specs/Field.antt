@@ -1,6 +1,5 @@
 -- FIPS 197, sections 4.2 and 5.1.1: octets as elements of GF(2^8), and the S-box's rule. An octet is a number below 256, whose bit i has the
 -- weight 2^i; the sum of two elements is their exclusive or, bitXor.
--- Assumes nothing.
 use mathlib.Core.Path.{_≡_}
 use mathlib.Core.List.{List}
 use mathlib.Core.Bool.{Bool, true, false}

@@ -7,8 +7,7 @@ ghost use lib.Bits.{bitOr};
 ghost use mathlib.Core.List.{_++_};
 ghost use lib.ListN.{length, getD, replicate};
 ghost use Rattle.aes.specs.Field.{sboxOf, IsSbox, xtime as xtimeOf};
-ghost use Rattle.aes.specs.Cipher.{word, subBytes, shiftRows, mixColumns, addRoundKey, cipher};
-ghost use Rattle.aes.specs.Cipher.{xors, rconOf, rotWord, subWord, temp as tempOf, nextWord, keyExpansion};
+ghost use Rattle.aes.specs.Cipher.{word, subBytes, shiftRows, mixColumns, addRoundKey, cipher, xors, rconOf, rotWord, subWord, temp as tempOf, nextWord, keyExpansion};
 ghost use Rattle.aes.specs.Columns.{mixedAlone, IsColumns, joined};
 
 // The S-box. A constant that is indexed is made anew at each read, so this is called once.

@@ -1,4 +1,4 @@
--- No two answers share a number. Assumes nothing.
+-- No two answers share a number.
 use mathlib.Core.Path.{_≡_, refl, sym, ap, _∙_}
 use mathlib.Core.List.{[], _∷_}
 use Prim.Native.Nat.{ℕ}

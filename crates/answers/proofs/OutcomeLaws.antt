@@ -1,4 +1,4 @@
--- Laws of every outcome, whatever it refuses and leaves. Assumes nothing.
+-- Laws of every outcome, whatever it refuses and leaves.
 use mathlib.Core.Path.{_≡_, refl, sym, ap, _∙_}
 use Prim.Native.Nat.{ℕ, zero, suc, _≤_, _<_}
 use native.Mathlib.Omega.{arith}

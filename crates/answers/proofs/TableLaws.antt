@@ -1,4 +1,4 @@
--- What an operation answers is a number of document 01's table, settled by its refusals in their order; and a refusal leaves all as it was. Assumes nothing.
+-- What an operation answers is a number of document 01's table, settled by its refusals in their order; and a refusal leaves all as it was.
 use mathlib.Core.Path.{_≡_, refl, sym, ap, subst, _∙_}
 use mathlib.Core.Bool.{Bool, true, false, _&&_, true≢false}
 use mathlib.Core.Logic.{inl, inr}

@@ -1,4 +1,4 @@
--- What an engine is for DES and for AES, and that by a key's own schedule it enciphers as the standards do. Assumes nothing.
+-- What an engine is for DES and for AES, and that by a key's own schedule it enciphers as the standards do.
 use mathlib.Core.Path.{_≡_, refl, ap, _∙_}
 use mathlib.Core.List.{List}
 use Prim.Native.Nat.{ℕ, _+_, _*_, _/_, _%_}
@@ -16,7 +16,7 @@ use Rattle.des.proofs.KeyLaws.{length-roundKeys, bits-roundKeys}
 use Rattle.aes.specs.Cipher.{aes, keyExpansion}
 use Rattle.aes.specs.Columns.{IsColumns}
 use Rattle.aes.proofs.ScheduleLaws.{length-keyExpansion}
-use Rattle.ciphers.specs.Numbers.{blockBits}
+use Rattle.sizes.specs.Ciphers.{blockBits}
 use Rattle.ciphers.specs.Keystream.{usedBlock, feedback}
 use Rattle.ciphers.specs.Engine.{Engine, encipheredBy}
 use Rattle.ciphers.specs.Engine.Engine.{forDes, forAes}

@@ -1,17 +1,19 @@
--- The cases of the keys' definitions, each as a way through the code meets it. Assumes nothing.
-use Prim.Native.Nat.{ℕ, _≤_, _<_}
+-- The cases of the keys' definitions, each as a way through the code meets it.
+use Prim.Native.Nat.{ℕ, _-_, _≤_, _<_}
 use native.Mathlib.Omega.{arith}
-use mathlib.Core.Path.{_≡_, sym, ap, fun-ext}
-use mathlib.Core.Bool.{true, false, _&&_, not}
+use mathlib.Core.Path.{_≡_, refl, sym, ap, _∙_, fun-ext}
+use mathlib.Core.Bool.{Bool, true, false, _&&_, not, true≢false}
 use mathlib.Core.List.{List, _++_}
-use lib.ListN.{getD, replicate}
+use lib.ListN.{length, getD, take, drop, replicate}
 use lib.Dec.{ltb, eqb}
-use borrow.Author.Tests.{lt-ltb, le-ltb, eq-eqb, ne-eqb}
-use Rattle.octets.specs.Tests.{allBelow}
-use Rattle.ciphers.specs.Keys.{oddOctet, scrambleKey, desKey, keyAllowed}
-use Rattle.octets.proofs.TestLaws.{all-fails}
+use borrow.Author.Tests.{lt-ltb, le-ltb, eq-eqb, ne-eqb, eqb-true}
+use borrow.Rule.Slice.PartAt.{part-to-end}
+use Rattle.octets.specs.Tests.{pick, allBelow}
+use Rattle.octets.specs.Lists.{allZero}
+use Rattle.ciphers.specs.Keys.{oddOctet, scrambleKey, desKey, keyAllowed, keyRight}
+use Rattle.octets.proofs.TestLaws.{and-left, all-fails}
 use Rattle.octets.proofs.ListLaws.{padded-at}
-use Rattle.ciphers.specs.Numbers.{byCipher}
+use Rattle.sizes.specs.Ciphers.{byCipher}
 
 module _ (k : List ℕ) where
   pub scramble-top : 128 ≤ getD k 0 0 → false ≡ scrambleKey k
@@ -40,3 +42,18 @@ unfolding keyAllowed scrambleKey desKey
 padded-allowed xs n c =
     ap (λ (f : ℕ → ℕ). byCipher c (ltb (f 0) 128 && not (eqb (f 0) 0 && eqb (f 1) 0)) (allBelow (λ i. oddOctet (f i)) 8) true false)
     (fun-ext (padded-at xs n))
+
+pub zeros-past : (key : List ℕ) (room n : ℕ) → length key ≡ room → allZero (take (room - n) (drop n key)) ≡ allZero (drop n key)
+zeros-past key room n e = ap (λ (m : ℕ). allZero (take (m - n) (drop n key))) (sym e) ∙ ap allZero (part-to-end key n)
+
+-- only a cipher has a key that is right
+pub key-ranged : (c : ℕ) (k : List ℕ) → keyRight c k ≡ true → (1 ≤ c) × (c ≤ 3)
+unfolding keyRight keyAllowed
+key-ranged c k e = go (eqb c 1) refl (eqb c 2) refl (eqb c 3) refl (and-left (keyAllowed c k) _ e)
+  where
+    go : (x : Bool) → eqb c 1 ≡ x → (y : Bool) → eqb c 2 ≡ y → (z : Bool) → eqb c 3 ≡ z
+        → pick x (scrambleKey k) (pick y (desKey k) (pick z true false)) ≡ true → (1 ≤ c) × (c ≤ 3)
+    go true e y f z g h = let q = eqb-true c 1 e in omega arith
+    go false e true f z g h = let q = eqb-true c 2 f in omega arith
+    go false e false f true g h = let q = eqb-true c 3 g in omega arith
+    go false e false f false g h = absurd (true≢false (sym h))

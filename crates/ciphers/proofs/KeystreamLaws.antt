@@ -1,4 +1,4 @@
--- A keystream is bits, and rests on the key's own octets alone. Assumes nothing.
+-- A keystream is bits, and rests on the key's own octets alone.
 use mathlib.Core.Path.{_≡_, ap}
 use mathlib.Core.List.{List, _++_, append-nil}
 use Prim.Native.Nat.{ℕ, _-_, _/_, _%_, _≤_, _<_}
@@ -13,9 +13,9 @@ use Rattle.scramble.proofs.Recurrence.{P-bit}
 use Rattle.generator.specs.Generator.{aesVector}
 use Rattle.des.specs.Des.{byKeys, roundKey, des}
 use Rattle.aes.specs.Cipher.{aes}
-use Rattle.ciphers.specs.Numbers.{blockBits, keyOctets}
+use Rattle.sizes.specs.Ciphers.{blockBits, keyOctets}
 use Rattle.ciphers.specs.Keystream.{usedBlock, feedback, stream}
-use Rattle.ciphers.proofs.Cases.{by-each, by-range}
+use Rattle.sizes.proofs.Cases.{by-each, by-range}
 
 feedback-lt : (encipher : List ℕ → List ℕ) (width : ℕ) (vector : List ℕ) (n : ℕ) → feedback encipher width vector n < 2
 unfolding feedback

@@ -1,5 +1,3 @@
-pub mod Cases
-pub mod NumberLaws
 pub mod KeyLaws
 pub mod Running
 pub mod EngineLaws

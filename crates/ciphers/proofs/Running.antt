@@ -1,4 +1,4 @@
--- Octet by octet through the blocks of output feedback. Assumes nothing.
+-- Octet by octet through the blocks of output feedback.
 use mathlib.Core.Path.{_≡_, sym, ap, _∙_}
 use mathlib.Core.List.{List}
 use mathlib.Core.Logic.{_⊎_, inl, inr}
@@ -16,7 +16,7 @@ use Rattle.octets.proofs.ListLaws.{iterate-add}
 use Rattle.octets.proofs.Front.{Front, front-more}
 use Rattle.octets.proofs.Windows.{window-octet}
 use Rattle.ciphers.specs.Keystream.{usedBlock, feedback}
-use Rattle.ciphers.specs.Numbers.{blockBits}
+use Rattle.sizes.specs.Ciphers.{blockBits}
 use Rattle.ciphers.specs.Engine.{Engine, running}
 use Rattle.ciphers.specs.Engine.Engine.{forDes, forAes}
 

@@ -9,7 +9,7 @@ use Rattle.des.specs.Tables.{cipherTables}
 use Rattle.des.specs.Des.{byKeys, setOut}
 use Rattle.aes.specs.Cipher.{cipher}
 use Rattle.aes.specs.Columns.{IsColumns}
-use Rattle.ciphers.specs.Numbers.{byCipher}
+use Rattle.sizes.specs.Ciphers.{byCipher}
 
 -- the tables are the cipher's, and the schedule has its size: DES's holds bits
 pub data Engine (c : ℕ) (tables schedule : List ℕ) : Type 0 where

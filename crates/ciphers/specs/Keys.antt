@@ -2,10 +2,11 @@
 use Prim.Native.Nat.{ℕ, _+_, _/_, _%_}
 use mathlib.Core.Bool.{Bool, true, false, _&&_, not}
 use mathlib.Core.List.{List}
-use lib.ListN.{getD}
+use lib.ListN.{getD, drop}
 use lib.Dec.{ltb, eqb}
-use Rattle.ciphers.specs.Numbers.{byCipher}
+use Rattle.sizes.specs.Ciphers.{byCipher, keyOctets}
 use Rattle.octets.specs.Tests.{allBelow}
+use Rattle.octets.specs.Lists.{allZero}
 
 -- how many of an octet's eight bits are 1
 abbrev pub ones : ℕ → ℕ
@@ -26,3 +27,7 @@ desKey k = allBelow (λ i. oddOctet (getD k i 0)) 8
 -- the key is allowed for the cipher type
 unfoldable pub keyAllowed : ℕ → List ℕ → Bool
 keyAllowed c k = byCipher c (scrambleKey k) (desKey k) true false
+
+-- an allowed key, and nothing past its length
+unfoldable pub keyRight : ℕ → List ℕ → Bool
+keyRight cipher key = keyAllowed cipher key && allZero (drop (keyOctets cipher) key)

@@ -7,7 +7,7 @@ use Rattle.des.specs.Des.{des}
 use Rattle.aes.specs.Cipher.{aes}
 use Rattle.generator.specs.Generator.{aesVector}
 use Rattle.scramble.specs.Sequence.{P}
-use Rattle.ciphers.specs.Numbers.{byCipher, blockBits}
+use Rattle.sizes.specs.Ciphers.{byCipher, blockBits}
 
 -- Output feedback (001, 5.3.2.1 and 5.3.3.1): the vector is enciphered once and that block is fed back but not used; the next one is the
 -- first used, and each further one is the encipherment of the one before. Used block j, counted from 0:

@@ -6,12 +6,12 @@ ghost use lib.ListN.{length};
 ghost use Rattle.octets.specs.Tests.{pick};
 ghost use Rattle.octets.specs.Lists.{iterate};
 ghost use Rattle.octets.specs.Bits.{octetsFrom};
-ghost use Rattle.ciphers.specs.Numbers.{blockBits};
+ghost use Rattle.sizes.specs.Ciphers.{blockBits};
 ghost use Rattle.ciphers.specs.Keystream.{usedBlock, feedback};
 ghost use Rattle.ciphers.specs.Engine.{Engine, encipheredBy, running};
-use crate::cipher::Des;
-use crate::cipher::block_bits;
 use octets::window;
+use sizes::cipher::Des;
+use sizes::cipher::block_bits;
 
 // Enciphers a block where it stands.
 fn encipher(cipher: u8, tables: &[u8], schedule: &[u8], block: &mut [u8])

@@ -2,10 +2,13 @@
 ghost use mathlib.Core.Path.{_≡_};
 ghost use Prim.Native.Nat.{_≤_};
 ghost use lib.ListN.{length};
-ghost use Rattle.ciphers.specs.Keys.{oddOctet, scrambleKey, desKey, keyAllowed};
-use crate::cipher::Aes;
-use crate::cipher::Des;
-use crate::cipher::Scramble;
+ghost use Rattle.ciphers.specs.Keys.{oddOctet, scrambleKey, desKey, keyAllowed, keyRight};
+use octets::all_zero;
+use sizes::cipher::Aes;
+use sizes::cipher::Des;
+use sizes::cipher::KEY_ROOM;
+use sizes::cipher::Scramble;
+use sizes::cipher::key_octets;
 
 // Whether an odd number of an octet's bits are 1.
 fn odd_octet(x: u8) -> bool
@@ -62,4 +65,15 @@ pub fn key_allowed(cipher: u8, key: &[u8]) -> bool
         Aes::TYPE => true,
         _ => false,
     }
+}
+
+// Whether the key is allowed, and zero past its length.
+pub fn key_right(cipher: u8, key: [u8; KEY_ROOM]) -> bool
+    ensures { λ r. ⌜ r ≡ keyRight cipher key ⌝ }
+{
+    if !key_allowed(cipher, &key) {
+        return false;
+    }
+    let length = key_octets(cipher);
+    all_zero(&key[length..])
 }

@@ -6,14 +6,16 @@ ghost use Rattle.octets.specs.Bits.{octetsFrom};
 ghost use Rattle.des.specs.Des.{des};
 ghost use Rattle.aes.specs.Cipher.{aes};
 ghost use Rattle.generator.specs.Generator.{aesVector};
-ghost use Rattle.ciphers.specs.Numbers.{blockBits};
+ghost use Rattle.sizes.specs.Ciphers.{blockBits};
 ghost use Rattle.ciphers.specs.Keystream.{feedback, stream};
-use crate::cipher::Aes;
-use crate::cipher::Des;
-use crate::cipher::Scramble;
 use crate::feedback::feed_back;
+use sizes::cipher::Aes;
+use sizes::cipher::Des;
+use sizes::cipher::KEY_ROOM;
+use sizes::cipher::Scramble;
+use sizes::cipher::VECTOR_OCTETS;
 
-fn des_stream(key: [u8; 32], vector: [u8; 8], from: usize, out: &mut [u8])
+fn des_stream(key: [u8; KEY_ROOM], vector: [u8; VECTOR_OCTETS], from: usize, out: &mut [u8])
     ensures { λ _. ⌜ now (out .exit) ≡ octetsFrom (length (now (out .entry))) (λ k. feedback (des key) (blockBits 2) vector (from + k)) ⌝ }
 {
     let tables = des::cipher_tables();
@@ -22,7 +24,7 @@ fn des_stream(key: [u8; 32], vector: [u8; 8], from: usize, out: &mut [u8])
     feed_back(Des::TYPE, &tables, &schedule, &mut block, from, out);
 }
 
-fn aes_stream(key: [u8; 32], vector: [u8; 8], from: usize, out: &mut [u8])
+fn aes_stream(key: [u8; KEY_ROOM], vector: [u8; VECTOR_OCTETS], from: usize, out: &mut [u8])
     ensures { λ _. ⌜ now (out .exit) ≡ octetsFrom (length (now (out .entry))) (λ k. feedback (aes key) (blockBits 3) (aesVector vector) (from + k)) ⌝ }
 {
     let sbox = aes::sbox();
@@ -33,7 +35,13 @@ fn aes_stream(key: [u8; 32], vector: [u8; 8], from: usize, out: &mut [u8])
 }
 
 // The bits of a session from bit `from` on. The key's own octets come first in `key`.
-pub fn keystream(cipher: u8, key: [u8; 32], vector: [u8; 8], from: usize, out: &mut [u8])
+pub fn keystream(
+    cipher: u8,
+    key: [u8; KEY_ROOM],
+    vector: [u8; VECTOR_OCTETS],
+    from: usize,
+    out: &mut [u8],
+)
     requires { ⌜ (1 ≤ cipher) × (cipher ≤ 3) ⌝ }
     ensures { λ _. ⌜ now (out .exit) ≡ octetsFrom (length (now (out .entry))) (λ k. stream cipher key vector (from + k)) ⌝ }
 {

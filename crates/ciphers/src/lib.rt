@@ -1,5 +1,4 @@
-// The three ciphers: their numbers, which keys they allow, and the one keystream.
-pub mod cipher;
+// The three ciphers: which keys they allow, and the one keystream.
 mod feedback;
 pub mod key;
 pub mod keystream;

@@ -1,4 +1,4 @@
--- A message of each kind past a packet's first, and bad and good packets of every kind. Assumes nothing.
+-- A message of each kind past a packet's first, and bad and good packets of every kind.
 use mathlib.Core.Path.{_≡_, refl}
 use mathlib.Core.Bool.{Bool, true, _&&_, not}
 use mathlib.Core.List.{List, [], _∷_, _++_}
@@ -9,10 +9,10 @@ use Rattle.octets.specs.Lists.{replaced, allZero, iterate}
 use Rattle.octets.specs.Bits.{octet, octetsFrom}
 use Rattle.octets.specs.Turn.{within, turned, turnedIn}
 use Rattle.scramble.specs.Sequence.{keyNumber, stepped, P}
-use Rattle.ciphers.specs.Keys.{oddOctet, scrambleKey, desKey, keyAllowed}
+use Rattle.ciphers.specs.Keys.{oddOctet, scrambleKey, desKey, keyAllowed, keyRight}
 use Rattle.ciphers.specs.Keystream.{stream}
-use Rattle.session.specs.Session.{noVector, keyRight}
-use Rattle.session.specs.Samples.{scramble0001, desABCD, seed}
+use Rattle.sizes.specs.Ciphers.{noVector}
+use Rattle.openings.specs.Samples.{scramble0001, desABCD, seed}
 use Rattle.data.specs.declared.packet.Packet.{Packet}
 use Rattle.data.specs.Kinds.{isKind}
 use Rattle.data.specs.Packet.{closedTests, openTests, isClosed, isOpen, goodPacket, noPacket}

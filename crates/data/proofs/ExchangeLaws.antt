@@ -1,5 +1,5 @@
 -- Messages sent over one packet and received over another with the same key and vector are handed out as they were said, whichever are lost on
--- the way; and the message after n others starts at bit protectedBits * n. Assumes nothing.
+-- the way; and the message after n others starts at bit protectedBits * n.
 use mathlib.Core.Path.{_≡_, refl, sym, ap, ap₂, _∙_}
 use mathlib.Core.Bool.{Bool, true, false, not}
 use mathlib.Core.List.{List, [], _∷_}
@@ -15,13 +15,12 @@ use Rattle.answers.specs.declared.Answer.the-variants.{Done}
 use Rattle.answers.specs.Numbers.{isDone}
 use Rattle.answers.proofs.OutcomeLaws.{NoneHolds}
 use Rattle.ciphers.specs.Keystream.{stream}
-use Rattle.session.specs.Session.{sessionVector}
-use Rattle.session.specs.Ladder.{keyFor}
+use Rattle.openings.specs.Ladder.{sessionVector, keyFor}
 use Rattle.octets.proofs.Parts.{turnedIn-twice}
 use Rattle.data.specs.declared.packet.Packet.{Packet}
 use Rattle.data.specs.Kinds.{messageOctets, headOctets, protectedOctets, protectedBits}
 use Rattle.data.specs.Packet.{mostMessages, isOpen, noPacket}
-use Rattle.data.specs.Opening.{opened, openOf}
+use Rattle.data.specs.Opening.{newPacket, openOf}
 use Rattle.data.specs.Message.{counted, lostRefusals, lostOf, ofMessage, messageTurned, messageOf}
 use Rattle.octets.specs.Lists.{Each}
 use Rattle.data.specs.Exchange.{Message, onAir, handedOut, after, arrived, Fit}
@@ -94,7 +93,7 @@ told p o (m ∷ ms) few long =
 -- ---- packets that were opened
 
 module _ (kind c i : ℕ) (v b : List ℕ) (p : Packet) (e : openOf noPacket kind c i v b ≡ (Done, p)) where
-  is-opened : p ≡ opened kind c v (keyFor b c i)
+  is-opened : p ≡ newPacket kind c v (keyFor b c i)
   is-opened =
       sym (ap (λ (r : Answer × Packet). r .1) e)
       ∙ open-leaves noPacket kind c i v b (ap (λ (r : Answer × Packet). isDone (r .0)) e) .0
@@ -104,16 +103,16 @@ module _ (kind c i : ℕ) (v b : List ℕ) (p : Packet) (e : openOf noPacket kin
       ap (λ (r : Answer × Packet). isOpen (r .1)) (sym e)
       ∙ open-leaves noPacket kind c i v b (ap (λ (r : Answer × Packet). isDone (r .0)) e) .1
 
-  first-open : isOpen (opened kind c v (keyFor b c i)) ≡ true
+  first-open : isOpen (newPacket kind c v (keyFor b c i)) ≡ true
   first-open = sym (ap isOpen is-opened) ∙ is-open
 
   module _ (before : List Message) (long : Each (λ m. length (m .octets) ≡ messageOctets kind) before) where
     -- the packet after any messages, arrived or lost
-    pub after-is : length before ≤ mostMessages → after p before ≡ atCount (opened kind c v (keyFor b c i)) (length before)
+    pub after-is : length before ≤ mostMessages → after p before ≡ atCount (newPacket kind c v (keyFor b c i)) (length before)
     after-is few =
         ap (λ (q : Packet). after q before) is-opened
-        ∙ told (opened kind c v (keyFor b c i)) first-open before (omega arith) long
-        ∙ ap (atCount (opened kind c v (keyFor b c i))) (zero-add (length before))
+        ∙ told (newPacket kind c v (keyFor b c i)) first-open before (omega arith) long
+        ∙ ap (atCount (newPacket kind c v (keyFor b c i))) (zero-add (length before))
 
     -- it has counted them all
     pub nth-count : length before ≤ mostMessages → after p before .count ≡ length before
@@ -122,10 +121,10 @@ module _ (kind c i : ℕ) (v b : List ℕ) (p : Packet) (e : openOf noPacket kin
     -- so the next message is taken, and its bit 16 + k is turned by stream bit protectedBits kind * n + k
     module _ (few : length before < mostMessages) (message : List ℕ) (is : length message ≡ messageOctets kind) where
       abbrev place : Packet
-      place = atCount (opened kind c v (keyFor b c i)) (length before)
+      place = atCount (newPacket kind c v (keyFor b c i)) (length before)
 
       place-open : isOpen place ≡ true
-      place-open = at-open (opened kind c v (keyFor b c i)) first-open (length before) (omega arith)
+      place-open = at-open (newPacket kind c v (keyFor b c i)) first-open (length before) (omega arith)
 
       pub nth-taken : messageOf (after p before) message ≡ (Done, (counted place, messageTurned place message))
       nth-taken =
@@ -144,8 +143,8 @@ pub round-trip : (kind c i j : ℕ) (v b d : List ℕ) (sender receiver : Packet
     → openOf noPacket kind c i v b ≡ (Done, sender) → openOf noPacket kind c j v d ≡ (Done, receiver) → keyFor b c i ≡ keyFor d c j
     → (said : List Message) → Fit kind said → handedOut receiver (onAir sender said) ≡ arrived said
 round-trip kind c i j v b d sender receiver opens heard-by same said fit =
-    let here : Packet = opened kind c v (keyFor b c i) in
+    let here : Packet = newPacket kind c v (keyFor b c i) in
     let s : sender ≡ here = is-opened kind c i v b sender opens in
-    let r : receiver ≡ here = is-opened kind c j v d receiver heard-by ∙ ap (opened kind c v) (sym same) in
+    let r : receiver ≡ here = is-opened kind c j v d receiver heard-by ∙ ap (newPacket kind c v) (sym same) in
     ap₂ (λ (x y : Packet). handedOut x (onAir y said)) r s
     ∙ both here (first-open kind c i v b sender opens) said (omega (arith, fit .few)) (fit .long) (fit .octets)

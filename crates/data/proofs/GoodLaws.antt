@@ -1,4 +1,4 @@
--- A good packet stays good under every operation, and what open leaves is a good open packet. Assumes nothing.
+-- A good packet stays good under every operation, and what open leaves is a good open packet.
 use mathlib.Core.Path.{_≡_, refl, ap, _∙_}
 use mathlib.Core.Bool.{Bool, true, false, _||_, not}
 use mathlib.Core.List.{List, [], _∷_}
@@ -12,14 +12,15 @@ use Rattle.answers.specs.declared.Answer.the-variants.{Done, ZeroVector}
 use Rattle.answers.specs.Numbers.{isDone}
 use Rattle.answers.specs.Outcomes.{Refusals, settled}
 use Rattle.answers.proofs.OutcomeLaws.{NoneHolds, neverDone, none-left, none-settles, by-refusals, done-none}
-use Rattle.session.specs.Session.{scrambles, sessionVector, keyRight}
-use Rattle.session.specs.Ladder.{keyFor, keyRefusals, zeroFor, vectorRefusals}
-use Rattle.session.proofs.SessionLaws.{no-vector-zero}
-use Rattle.session.proofs.ReadyLaws.{none-ranged, none-key}
+use Rattle.sizes.specs.Ciphers.{scrambles}
+use Rattle.openings.specs.Ladder.{sessionVector, keyFor, keyRefusals, zeroFor, vectorRefusals}
+use Rattle.ciphers.specs.Keys.{keyRight}
+use Rattle.sizes.proofs.SizeLaws.{no-vector-zero}
+use Rattle.openings.proofs.ReadyLaws.{none-ranged, none-key}
 use Rattle.data.specs.declared.packet.Packet.{Packet}
 use Rattle.data.specs.Kinds.{isKind}
 use Rattle.data.specs.Packet.{mostMessages, closedTests, openTests, isClosed, isOpen, goodPacket, noPacket, endRefusals, endOf}
-use Rattle.data.specs.Opening.{openRefusals, opened, openOf}
+use Rattle.data.specs.Opening.{openRefusals, newPacket, openOf}
 use Rattle.data.specs.Message.{counted, lostRefusals, lostOf, messageRefusals, messageTurned, messageOf}
 use Rattle.data.proofs.PacketLaws.{open-kind, open-key, open-vector, open-is-good}
 use Rattle.data.proofs.MessageLaws.{none-open, none-few}
@@ -55,7 +56,7 @@ session-right c w = go (scrambles c) refl
     go false e = rw e
 
 module _ (p : Packet) (kind c i : ℕ) (w b : List ℕ) where
-  opened-open : NoneHolds (openRefusals p kind c i w b) → isOpen (opened kind c w (keyFor b c i)) ≡ true
+  opened-open : NoneHolds (openRefusals p kind c i w b) → isOpen (newPacket kind c w (keyFor b c i)) ≡ true
   unfolding openRefusals vectorRefusals
   opened-open n =
       let m = none-left (keyRefusals (isKind kind) (not (goodPacket p)) (not (isClosed p)) c i b) ((zeroFor c w, ZeroVector) ∷ []) (n .1) in
@@ -68,11 +69,11 @@ module _ (p : Packet) (kind c i : ℕ) (w b : List ℕ) where
 
   -- done, it leaves the one packet before its first message, which is open and so good
   pub open-leaves : isDone (openOf p kind c i w b .0) ≡ true
-      → (openOf p kind c i w b .1 ≡ opened kind c w (keyFor b c i)) × (isOpen (openOf p kind c i w b .1) ≡ true)
+      → (openOf p kind c i w b .1 ≡ newPacket kind c w (keyFor b c i)) × (isOpen (openOf p kind c i w b .1) ≡ true)
   unfolding openOf
   open-leaves d =
-      let n = done-none (openRefusals p kind c i w b) p (opened kind c w (keyFor b c i)) open-never d in
-      let e = ap (λ (o : Answer × Packet). o .1) (none-settles (openRefusals p kind c i w b) p (Done, opened kind c w (keyFor b c i)) n) in
+      let n = done-none (openRefusals p kind c i w b) p (newPacket kind c w (keyFor b c i)) open-never d in
+      let e = ap (λ (o : Answer × Packet). o .1) (none-settles (openRefusals p kind c i w b) p (Done, newPacket kind c w (keyFor b c i)) n) in
       (e, ap isOpen e ∙ opened-open n)
 
 -- ---- the operations
@@ -90,8 +91,8 @@ module _ (p : Packet) (good : goodPacket p ≡ true) where
   pub open-good : (kind c i : ℕ) (w b : List ℕ) → goodPacket (openOf p kind c i w b .1) ≡ true
   unfolding openOf
   open-good kind c i w b =
-      kept (λ q. q) p (openRefusals p kind c i w b) (Done, opened kind c w (keyFor b c i)) good
-      (λ n. open-is-good (opened kind c w (keyFor b c i)) (opened-open p kind c i w b n))
+      kept (λ q. q) p (openRefusals p kind c i w b) (Done, newPacket kind c w (keyFor b c i)) good
+      (λ n. open-is-good (newPacket kind c w (keyFor b c i)) (opened-open p kind c i w b n))
 
   on-good : NoneHolds (lostRefusals p) → goodPacket (counted p) ≡ true
   on-good n = open-is-good (counted p) (counted-open p (none-open p n) (none-few p n))

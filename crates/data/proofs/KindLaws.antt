@@ -1,4 +1,4 @@
--- What belongs to each kind of message, by cases. Assumes nothing.
+-- What belongs to each kind of message, by cases.
 use mathlib.Core.Path.{_≡_}
 use mathlib.Core.Bool.{true}
 use Prim.Native.Nat.{ℕ, zero, suc, _+_, _≤_}

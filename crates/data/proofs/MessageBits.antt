@@ -1,4 +1,4 @@
--- Demand 2 for data: a message after the operation, bit by bit, sent or received. Assumes nothing.
+-- Demand 2 for data: a message after the operation, bit by bit, sent or received.
 use mathlib.Core.Path.{_≡_, refl, ap, _∙_}
 use mathlib.Core.Bool.{true}
 use mathlib.Core.List.{List}

@@ -1,4 +1,4 @@
--- A message of a packet, as the code goes through it. Assumes nothing.
+-- A message of a packet, as the code goes through it.
 use mathlib.Core.Path.{_≡_, refl, sym, ap, ap₂, _∙_}
 use mathlib.Core.Bool.{true, false, _||_, not, or-true, true≢false}
 use mathlib.Core.List.{List, [], _∷_, _++_}

@@ -1,4 +1,4 @@
--- How a packet begins, as the code goes through it. Assumes nothing.
+-- How a packet begins, as the code goes through it.
 use mathlib.Core.Path.{_≡_, refl, ap, _∙_}
 use mathlib.Core.Bool.{Bool, true, false, not}
 use mathlib.Core.List.{List}
@@ -7,12 +7,12 @@ use lib.Dec.{eqb}
 use Rattle.answers.specs.declared.Answer.{Answer}
 use Rattle.answers.specs.declared.Answer.the-variants.{Done}
 use Rattle.answers.specs.Numbers.{isDone}
-use Rattle.session.specs.Ladder.{vectorKeyOf}
-use Rattle.session.proofs.BegunLaws.{Alike, both-bad, the-same, vector-begun-refused, vector-begun}
+use Rattle.openings.specs.Ladder.{vectorKeyOf}
+use Rattle.openings.proofs.BegunLaws.{Alike, both-bad, the-same, vector-begun-refused, vector-begun}
 use Rattle.data.specs.declared.packet.Packet.{Packet}
 use Rattle.data.specs.Kinds.{isKind}
 use Rattle.data.specs.Packet.{isClosed, goodPacket}
-use Rattle.data.specs.Opening.{openRefusals, opened, openOf}
+use Rattle.data.specs.Opening.{openRefusals, newPacket, openOf}
 use Rattle.data.proofs.PacketLaws.{kind-closed}
 
 -- the code and the definition refuse alike
@@ -29,9 +29,9 @@ module _ (p : Packet) (kind c i : ℕ) (w b : List ℕ) (is good : Bool) (k : is
   pub open-refused : isDone a ≡ false → (a, p) ≡ openOf p kind c i w b
   unfolding openOf openRefusals
   open-refused =
-      vector-begun-refused p (opened kind c w) (isKind kind) (not good) (not (eqb (p .kind) 0)) _ _ (packet-alike p good g) c i b w a key (rw k at e)
+      vector-begun-refused p (newPacket kind c w) (isKind kind) (not good) (not (eqb (p .kind) 0)) _ _ (packet-alike p good g) c i b w a key (rw k at e)
 
-  pub open-done : isDone a ≡ true → (Done, opened kind c w key) ≡ openOf p kind c i w b
+  pub open-done : isDone a ≡ true → (Done, newPacket kind c w key) ≡ openOf p kind c i w b
   unfolding openOf openRefusals
   open-done =
-      vector-begun p (opened kind c w) (isKind kind) (not good) (not (eqb (p .kind) 0)) _ _ (packet-alike p good g) c i b w a key (rw k at e)
+      vector-begun p (newPacket kind c w) (isKind kind) (not good) (not (eqb (p .kind) 0)) _ _ (packet-alike p good g) c i b w a key (rw k at e)

@@ -1,4 +1,4 @@
--- The rules of a packet, as the code tests them, and its end. Assumes nothing.
+-- The rules of a packet, as the code tests them, and its end.
 use mathlib.Core.Path.{_≡_, refl, sym}
 use mathlib.Core.Bool.{Bool, true, false, _||_, not}
 use Prim.Native.Nat.{ℕ, _≤_}
@@ -9,7 +9,8 @@ use Rattle.octets.specs.Lists.{allZero}
 use Rattle.octets.proofs.TestLaws.{every-at, or-left, or-right, not-so}
 use Rattle.answers.specs.declared.Answer.the-variants.{Done}
 use Rattle.answers.proofs.OutcomeLaws.{NoneHolds, none-settles, Refuses, answerAt, refused-at}
-use Rattle.session.specs.Session.{scrambles, keyRight}
+use Rattle.sizes.specs.Ciphers.{scrambles}
+use Rattle.ciphers.specs.Keys.{keyRight}
 use Rattle.data.specs.declared.packet.Packet.{Packet}
 use Rattle.data.specs.Kinds.{isKind}
 use Rattle.data.specs.Packet.{mostMessages, closedTests, openTests, isClosed, isOpen, goodPacket, noPacket, endRefusals, endOf}

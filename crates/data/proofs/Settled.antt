@@ -1,5 +1,5 @@
 -- Each operation's statement settles its outcome: any two outcomes that meet it are equal. And a refusal, any answer but 0, changes
--- nothing. Assumes nothing.
+-- nothing.
 use mathlib.Core.Path.{_≡_, refl, sym, ap, _∙_}
 use mathlib.Core.Bool.{false, not, true≢false}
 use mathlib.Core.List.{List}
@@ -8,10 +8,10 @@ use native.Mathlib.Omega.{arith}
 use Rattle.answers.specs.declared.Answer.{Answer}
 use Rattle.answers.specs.declared.Answer.the-variants.{Done}
 use Rattle.answers.proofs.OutcomeLaws.{Refusal, keeps, some-refuses, one-outcome}
-use Rattle.session.specs.Ladder.{keyFor, keyRefusals, vectorRefusals}
+use Rattle.openings.specs.Ladder.{keyFor, keyRefusals, vectorRefusals}
 use Rattle.data.specs.declared.packet.Packet.{Packet}
 use Rattle.data.specs.Packet.{isClosed, noPacket, endRefusals, endOf}
-use Rattle.data.specs.Opening.{openRefusals, opened, openOf}
+use Rattle.data.specs.Opening.{openRefusals, newPacket, openOf}
 use Rattle.data.specs.Message.{counted, lostRefusals, lostOf, messageRefusals, messageTurned, messageOf}
 use Rattle.data.proofs.PacketLaws.{not-closed}
 
@@ -41,7 +41,7 @@ module _ (p : Packet) where
 
   pub open-keeps : (kind c i : ℕ) (w b : List ℕ) → Refusal (openOf p kind c i w b .0) → openOf p kind c i w b .1 ≡ p
   unfolding openOf
-  open-keeps kind c i w b = keeps p (openRefusals p kind c i w b) (Done, opened kind c w (keyFor b c i)) (omega arith)
+  open-keeps kind c i w b = keeps p (openRefusals p kind c i w b) (Done, newPacket kind c w (keyFor b c i)) (omega arith)
 
   pub lost-keeps : Refusal (lostOf p .0) → lostOf p .1 ≡ p
   unfolding lostOf
@@ -57,5 +57,5 @@ module _ (p : Packet) where
 pub open-busy : (p : Packet) → (p .kind ≡ 0 → ⊥) → (kind c i : ℕ) (w b : List ℕ) → Refusal (openOf p kind c i w b .0) × (openOf p kind c i w b .1 ≡ p)
 unfolding openOf openRefusals vectorRefusals keyRefusals
 open-busy p busy kind c i w b =
-    some-refuses p (openRefusals p kind c i w b) (Done, opened kind c w (keyFor b c i)) refl
+    some-refuses p (openRefusals p kind c i w b) (Done, newPacket kind c w (keyFor b c i)) refl
     (λ n. let closed : not (isClosed p) ≡ false = search n in true≢false (sym (ap not (not-closed p busy)) ∙ closed))

@@ -4,8 +4,7 @@ use mathlib.Core.Bool.{not}
 use Prim.Native.Nat.{ℕ}
 use Rattle.answers.specs.declared.Answer.{Answer}
 use Rattle.answers.specs.Outcomes.{Refusals, outcome}
-use Rattle.session.specs.Session.{sessionVector}
-use Rattle.session.specs.Ladder.{keyFor, vectorRefusals}
+use Rattle.openings.specs.Ladder.{sessionVector, keyFor, vectorRefusals}
 use Rattle.data.specs.declared.packet.Packet.{Packet}
 use Rattle.data.specs.Kinds.{isKind}
 use Rattle.data.specs.Packet.{isClosed, goodPacket}
@@ -15,8 +14,8 @@ unfoldable pub openRefusals : Packet → ℕ → ℕ → ℕ → List ℕ → Li
 openRefusals p kind c i w b = vectorRefusals (isKind kind) (not (goodPacket p)) (not (isClosed p)) c i w b
 
 -- a packet before its first message
-abbrev pub opened : ℕ → ℕ → List ℕ → List ℕ → Packet
-opened kind c w k = record { kind = kind; cipher = c; key = k; count = 0; vector = sessionVector c w }
+abbrev pub newPacket : ℕ → ℕ → List ℕ → List ℕ → Packet
+newPacket kind c w k = record { kind = kind; cipher = c; key = k; count = 0; vector = sessionVector c w }
 
 unfoldable pub openOf : Packet → ℕ → ℕ → ℕ → List ℕ → List ℕ → Answer × Packet
-openOf p kind c i w b = outcome p (openRefusals p kind c i w b) (opened kind c w (keyFor b c i))
+openOf p kind c i w b = outcome p (openRefusals p kind c i w b) (newPacket kind c w (keyFor b c i))

@@ -9,8 +9,8 @@ use Rattle.octets.specs.Lists.{allZero}
 use Rattle.answers.specs.declared.Answer.{Answer}
 use Rattle.answers.specs.declared.Answer.the-variants.{Bad, NotNow}
 use Rattle.answers.specs.Outcomes.{Refusals, outcome}
-use Rattle.keyentry.specs.Entry.{keyRoom}
-use Rattle.session.specs.Session.{noVector, scrambles, keyRight}
+use Rattle.sizes.specs.Ciphers.{keyRoom, noVector, scrambles}
+use Rattle.ciphers.specs.Keys.{keyRight}
 use Rattle.data.specs.declared.packet.Packet.{Packet}
 use Rattle.data.specs.Kinds.{isKind}
 

@@ -7,8 +7,8 @@ use crate::packet::Packet;
 use crate::packet::Taken;
 use crate::packet::good_packet;
 use answers::Answer;
-use session::ladder::opening_key_with;
-use session::session_vector;
+use openings::opening_key_with;
+use openings::session_vector;
 
 pub fn open(packet: Packet, kind: u8, cipher: u8, id: u8, vector: &[u8], book: &[u8]) -> Taken
     ensures { λ r. ⌜ (r .answer, r .packet) ≡ openOf packet kind cipher id (now (vector .entry)) (now (book .entry)) ⌝ }

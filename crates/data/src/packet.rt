@@ -3,11 +3,11 @@ ghost use mathlib.Core.Path.{_≡_};
 ghost use Rattle.data.specs.Packet.{isClosed, isOpen, goodPacket, noPacket, endOf};
 use crate::kind::is_kind;
 use answers::Answer;
-use ciphers::cipher::Scramble;
-use keyentry::KEY_ROOM;
+use ciphers::key::key_right;
 use octets::all_zero;
-use session::VECTOR_OCTETS;
-use session::key_right;
+use sizes::cipher::KEY_ROOM;
+use sizes::cipher::Scramble;
+use sizes::cipher::VECTOR_OCTETS;
 
 // The kind of no packet.
 pub const NONE: u8 = 0;

@@ -1,4 +1,4 @@
--- What a sender that keeps the rules puts on the air opens, word by word, to what was spoken; and a protected frame keeps the rules. Assumes nothing.
+-- What a sender that keeps the rules puts on the air opens, word by word, to what was spoken; and a protected frame keeps the rules.
 use mathlib.Core.Path.{_≡_, sym, ap, _∙_}
 use mathlib.Core.Bool.{true}
 use mathlib.Core.List.{List}
@@ -7,7 +7,7 @@ use native.Mathlib.Decide.{decLt}
 use native.Mathlib.Omega.{arith}
 use Rattle.octets.specs.Bits.{bit, flip}
 use Rattle.octets.proofs.BitLaws.{bit-lt, flip-flip}
-use Rattle.voice.specs.Frame.{word, has, ofSlot, protect}
+use Rattle.voice.specs.Frame.{word, inMask, ofSlot, protect}
 use Rattle.voice.proofs.FrameLaws.{protect-bit, protect-frame, protect-stays, word-bit, word-ext, keyBit-spare, keyBit-speech}
 use Rattle.demands.specs.Talk.{Slot, OnAir, SlotKept}
 
@@ -21,7 +21,7 @@ module _ (ks : ℕ → ℕ) (p : ℕ) (x : Slot) where
   abbrev slot : ℕ → ℕ
   slot = ofSlot ks p
 
-  module _ (w : ℕ) (hw : w < 4) (m : has (x .mask) w ≡ true) (frame : List ℕ) where
+  module _ (w : ℕ) (hw : w < 4) (m : inMask (x .mask) w ≡ true) (frame : List ℕ) where
     -- a speech bit of a word in the mask is turned by its own bit of the session
     turned : (j : ℕ) → j < 49 → bit (protect slot (x .mask) frame) (56 * w + j) ≡ flip (bit frame (56 * w + j)) (ks (196 * p + 49 * w + j))
     turned j l =
@@ -32,7 +32,7 @@ module _ (ks : ℕ → ℕ) (p : ℕ) (x : Slot) where
     spare : (j : ℕ) → 49 ≤ j → j < 56 → bit (protect slot (x .mask) frame) (56 * w + j) ≡ bit frame (56 * w + j)
     spare j l h = protect-stays slot (x .mask) frame (56 * w + j) (omega arith) (keyBit-spare slot (x .mask) (56 * w + j) (omega arith))
 
-  pub opened-word : SlotKept ks p x → (w : ℕ) → w < 4 → has (x .mask) w ≡ true → word w (protect slot (x .mask) (x .sent)) ≡ word w (x .spoken)
+  pub opened-word : SlotKept ks p x → (w : ℕ) → w < 4 → inMask (x .mask) w ≡ true → word w (protect slot (x .mask) (x .sent)) ≡ word w (x .spoken)
   opened-word s w hw m =
       word-ext w hw (protect slot (x .mask) (x .sent)) (x .spoken) (protect-frame slot (x .mask) (x .sent)) (s .spoken) (λ j h. go j h (decLt j 49))
     where

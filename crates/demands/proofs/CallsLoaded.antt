@@ -1,4 +1,4 @@
--- Whatever a device has been through, a call that stands holds a key that was completely loaded when it was opened. Assumes nothing.
+-- Whatever a device has been through, a call that stands holds a key that was completely loaded when it was opened.
 use mathlib.Core.Path.{_≡_, refl, ap, _∙_}
 use mathlib.Core.Bool.{Bool, true, false}
 use mathlib.Core.List.{List}
@@ -9,12 +9,11 @@ use borrow.Author.Tests.{ne-eqb}
 use Rattle.octets.specs.Tests.{pick}
 use Rattle.octets.proofs.TestLaws.{and-false-r}
 use Rattle.answers.specs.declared.Answer.the-variants.{Done}
-use Rattle.ciphers.specs.Numbers.{sessionSlots}
+use Rattle.sizes.specs.Ciphers.{sessionSlots, noVector, scrambles}
 use Rattle.ciphers.specs.Keystream.{stream}
 use Rattle.keybook.specs.History as book
-use Rattle.session.specs.Session.{noVector, scrambles}
-use Rattle.session.specs.Ladder.{keyFor}
-use Rattle.session.proofs.LadderLaws.{key-never, vector-never}
+use Rattle.openings.specs.Ladder.{keyFor}
+use Rattle.openings.proofs.LadderLaws.{key-never, vector-never}
 use Rattle.voice.specs.declared.call.Call.{Call}
 use Rattle.voice.specs.Call.{sendingEnd, receivingEnd, goodCall, Standing, closed, bad, sending, receiving, standing, written, isBad, stands, endRefusals, endOf}
 use Rattle.voice.specs.Opening.{superframeSlots, joinRefusals, openRefusals, begun, begunOf, openOf, startOf, joined, joinOf}
@@ -25,7 +24,7 @@ use Rattle.voice.proofs.SlotLaws.{voice-moves}
 use Rattle.demands.specs.Device.{Device, CallOperation, Open, Start, Join, Voice, Lost, End, Announce, NextVector, callStep, packetStep, Operation, OfBook, OfCall, OfPacket, step, deviceAfter, history}
 use Rattle.demands.specs.Demand1.{OpensCall, by-open, by-start, by-join, renewsCall}
 use Rattle.demands.proofs.LoadedLaws.{Holder, KeepsKey, begins, Left, Held, always-loaded, as-it-was, renewing, keeping, of-number}
-use Rattle.session.proofs.ReadyLaws.{none-ready, none-ready-vector}
+use Rattle.openings.proofs.ReadyLaws.{none-ready, none-ready-vector}
 
 -- ---- a call
 

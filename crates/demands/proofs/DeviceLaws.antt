@@ -1,4 +1,4 @@
--- Every operation on a device answers by the table, and where it refuses leaves book, calls, packets and lent octets as they were. Assumes nothing.
+-- Every operation on a device answers by the table, and where it refuses leaves book, calls, packets and lent octets as they were.
 use mathlib.Core.Path.{_≡_, refl, sym, ap, subst, _∙_}
 use mathlib.Core.Bool.{Bool, true, false}
 use mathlib.Core.List.{List, []}
@@ -14,12 +14,12 @@ use Rattle.answers.specs.Outcomes.{Refusals, answered}
 use Rattle.answers.proofs.OutcomeLaws.{Refusal, NoneHolds}
 use Rattle.answers.proofs.TableLaws.{Settles, settles}
 use Rattle.ciphers.specs.Keystream.{stream}
-use Rattle.keyentry.specs.Entry.{loadRefusals, completeRefusals, blank, loaded, completed}
+use Rattle.keyentry.specs.Entry.{extendRefusals, completeRefusals, blank, extended, completed}
 use Rattle.keybook.specs.Book.{bookRefusals}
 use Rattle.keybook.specs.Operations as operations
 use Rattle.keybook.specs.History as book
-use Rattle.session.specs.Ladder as ladder
-use Rattle.session.specs.Ladder.{keyFor, vectorRefusals}
+use Rattle.openings.specs.Ladder as ladder
+use Rattle.openings.specs.Ladder.{keyFor, vectorRefusals}
 use Rattle.voice.specs.declared.call.Call.{Call}
 use Rattle.voice.specs.Call.{sendingEnd, receivingEnd, Standing, closed, bad, sending, receiving, standing, written, endRefusals, endOf}
 use Rattle.voice.specs.Opening.{joinRefusals, openRefusals, begun, openOf, startOf, joined, joinOf}
@@ -38,10 +38,10 @@ use Rattle.demands.specs.Demand1.{Same, SameBeside}
 
 pub book-settles : (b : List ℕ) (o : book.Operation) → Settles b (keyRefusals b o) Done (book.step o b)
 unfolding book.step operations.beginOf operations.addOf operations.finishOf operations.eraseOf operations.beginRefusals operations.addRefusals
-    operations.finishRefusals operations.eraseRefusals bookRefusals loadRefusals completeRefusals
+    operations.finishRefusals operations.eraseRefusals bookRefusals extendRefusals completeRefusals
 book-settles b (book.Begin c i) = settles b (operations.beginRefusals b c i) (Done, operations.beginAfter b c i) refl (omega arith)
 book-settles b (book.Add c i xs) =
-    settles b (operations.addRefusals b c i xs) (Done, operations.withFor b c i (loaded (operations.entryFor b c i) xs)) refl (omega arith)
+    settles b (operations.addRefusals b c i xs) (Done, operations.withFor b c i (extended (operations.entryFor b c i) xs)) refl (omega arith)
 book-settles b (book.Finish c i) =
     settles b (operations.finishRefusals b c i) (Done, operations.withFor b c i (completed (operations.entryFor b c i))) refl (omega arith)
 book-settles b (book.Erase c i) = settles b (operations.eraseRefusals b c i) (Done, operations.withFor b c i blank) refl (omega arith)
@@ -79,7 +79,7 @@ pub packet-settles : (b : List ℕ) (p : Packet) (o : PacketOperation) → Settl
 unfolding packetStep opening.openOf message.messageOf message.lostOf packet.endOf opening.openRefusals vectorRefusals ladder.keyRefusals
     message.messageRefusals message.lostRefusals packet.endRefusals
 packet-settles b p (OpenPacket kind c i w) =
-    none-lent (settles p (opening.openRefusals p kind c i w b) (Done, opening.opened kind c w (keyFor b c i)) refl (omega arith))
+    none-lent (settles p (opening.openRefusals p kind c i w b) (Done, opening.newPacket kind c w (keyFor b c i)) refl (omega arith))
 packet-settles b p (Message octets) =
     settles (p, octets) (message.messageRefusals p octets) (Done, (message.counted p, message.messageTurned p octets)) refl (omega arith)
 packet-settles b p LostMessage = none-lent (settles p (message.lostRefusals p) (Done, message.counted p) refl (omega arith))

@@ -1,5 +1,5 @@
 -- The devices that demand 1 throws out, each by one part of it: noise for a held frame, or filed as opened speech, a bad book taken, a refusal that wipes the book, everything held, a
--- key operation that reaches a call, version three, which takes a vector in the middle of a session, and version one, which takes half a key. Assumes nothing.
+-- key operation that reaches a call, version three, which takes a vector in the middle of a session, and version one, which takes half a key.
 use mathlib.Core.Path.{_≡_, refl, sym, ap, _∙_}
 use mathlib.Core.Bool.{Bool, true, false, true≢false}
 use mathlib.Core.List.{List, [], _∷_, _++_}
@@ -11,7 +11,7 @@ use borrow.Author.Tests.{le-leb}
 use Rattle.octets.specs.Tests.{pick, allBelow, firstBelow}
 use Rattle.octets.specs.Lists.{replaced, allZero}
 use Rattle.octets.proofs.TestLaws.{and-false-r}
-use Rattle.ciphers.specs.Keys.{oddOctet, scrambleKey, desKey, keyAllowed}
+use Rattle.ciphers.specs.Keys.{oddOctet, scrambleKey, desKey, keyAllowed, keyRight}
 use Rattle.answers.specs.declared.Answer.{Answer}
 use Rattle.answers.specs.declared.Answer.the-variants.{Done}
 use Rattle.answers.specs.Numbers.{numberOf, isDone}
@@ -19,9 +19,9 @@ use Rattle.keyentry.specs.Entry as entry
 use Rattle.keybook.specs.Book as rules
 use Rattle.keybook.specs.Operations as operations
 use Rattle.keybook.specs.History as book
-use Rattle.session.specs.Session.{noVector, keyRight}
-use Rattle.session.specs.Ladder.{keyRefusals, zeroFor, vectorRefusals}
-use Rattle.session.specs.Samples.{seed, desABCD}
+use Rattle.sizes.specs.Ciphers.{noVector}
+use Rattle.openings.specs.Ladder.{keyRefusals, zeroFor, vectorRefusals}
+use Rattle.openings.specs.Samples.{seed, desABCD}
 use Rattle.voice.specs.declared.call.Call.{Call}
 use Rattle.voice.specs.Call.{vectorRight, closedTests, openTests, isClosed, isOpen, noCall, sending, receiving, standing, written}
 use Rattle.voice.specs.Opening.{openRefusals, joinRefusals}
@@ -163,8 +163,8 @@ keptScramble = halfScramble ++ replicate 31 0
 books : (book.step (book.Begin 3 0) (replicate 576 0) ≡ (Done, holding 3 [])) × (book.step (book.Add 3 0 halfAes) (holding 3 []) ≡ (Done, holding 3 halfAes))
     × (book.step (book.Begin 1 0) (replicate 576 0) ≡ (Done, holding 1 [])) × (book.step (book.Add 1 0 halfScramble) (holding 1 []) ≡ (Done, holding 1 halfScramble))
 unfolding book.step operations.beginOf operations.addOf operations.beginRefusals operations.beginAfter operations.addRefusals rules.bookRefusals rules.entryOf
-    rules.withEntry rules.apart rules.goodBook rules.findEntry rules.freeEntry entry.named entry.isFor entry.entryRight entry.usedRight entry.readyRight
-    entry.lacks entry.newEntry entry.loadRefusals entry.loaded allZero allBelow firstBelow replaced keyAllowed
+    rules.withEntry rules.apart rules.goodBook rules.findEntry rules.freeEntry entry.inRange entry.isFor entry.entryRight entry.usedRight entry.readyRight
+    entry.lacks entry.newEntry entry.extendRefusals entry.extended allZero allBelow firstBelow replaced keyAllowed
 books = (refl, refl, refl, refl)
 
 -- the calls are good
@@ -207,13 +207,13 @@ module _ (isHasty : CallOperation → Bool) where
 
   -- hasty in open, in start or in join: each alone is thrown out
   pub hasty-open-thrown-out : isHasty (Open 3 0 seed) ≡ true → Demand1 (hasty isHasty) → ⊥
-  unfolding openRefusals vectorRefusals keyRefusals zeroFor standing isClosed closedTests allZero allBelow firstBelow entry.named entry.isFor
+  unfolding openRefusals vectorRefusals keyRefusals zeroFor standing isClosed closedTests allZero allBelow firstBelow entry.inRange entry.isFor
       entry.entryRight entry.usedRight entry.readyRight entry.lacks rules.entryOf rules.findEntry rules.apart rules.goodBook
   hasty-open-thrown-out e =
       half-key-fails 3 halfAes (books .0) (books .1) (Open 3 0 seed) (written (receiving 3 keptAes 0 true seed)) (rw e) (heard 3 keptAes seed (stand .0))
 
   pub hasty-start-thrown-out : isHasty (Start 3 0 seed) ≡ true → Demand1 (hasty isHasty) → ⊥
-  unfolding openRefusals vectorRefusals keyRefusals zeroFor standing isClosed closedTests allZero allBelow firstBelow entry.named entry.isFor
+  unfolding openRefusals vectorRefusals keyRefusals zeroFor standing isClosed closedTests allZero allBelow firstBelow entry.inRange entry.isFor
       entry.entryRight entry.usedRight entry.readyRight entry.lacks rules.entryOf rules.findEntry rules.apart rules.goodBook zeroAfter
   hasty-start-thrown-out e =
       half-key-fails 3 halfAes (books .0) (books .1) (Start 3 0 seed) (written (sending 3 keptAes 0 seed)) (rw e)
@@ -221,7 +221,7 @@ module _ (isHasty : CallOperation → Bool) where
       (voice-sent (written (sending 3 keptAes 0 seed)) 15 silence (omega arith) refl 3 keptAes 0 seed (stand .1) refl))
 
   pub hasty-join-thrown-out : isHasty (Join 1 0) ≡ true → Demand1 (hasty isHasty) → ⊥
-  unfolding joinRefusals keyRefusals standing isClosed closedTests allZero allBelow firstBelow entry.named entry.isFor entry.entryRight entry.usedRight
+  unfolding joinRefusals keyRefusals standing isClosed closedTests allZero allBelow firstBelow entry.inRange entry.isFor entry.entryRight entry.usedRight
       entry.readyRight entry.lacks rules.entryOf rules.findEntry rules.apart rules.goodBook
   hasty-join-thrown-out e =
       half-key-fails 1 halfScramble (books .2) (books .3) (Join 1 0) (written (receiving 1 keptScramble 0 true noVector)) (rw e)

@@ -1,5 +1,5 @@
 -- The premises can be met: for DES and for AES a call of our sender with losses, of whose three sessions the second's vector does not reach the
--- receiver; for scramble a call with losses and with words that gave way to signalling; and what our receiver answers. Assumes nothing.
+-- receiver; for scramble a call with losses and with words that gave way to signalling; and what our receiver answers.
 use mathlib.Core.Path.{_≡_, refl, sym, ap, _∙_}
 use mathlib.Core.Bool.{Bool, true, false, true≢false}
 use mathlib.Core.List.{List, [], _∷_, _++_, map}
@@ -7,13 +7,13 @@ use Prim.Native.Nat.{ℕ, zero, suc, _+_, _*_, _^_, _≤_, _<_}
 use native.Mathlib.Nat.{zero-div}
 use native.Mathlib.Omega.{arith}
 use lib.ListN.{getD, replicate}
-use Rattle.session.specs.Session.{noVector, scrambles}
-use Rattle.session.specs.Samples.{seed}
+use Rattle.sizes.specs.Ciphers.{noVector, scrambles}
+use Rattle.openings.specs.Samples.{seed}
 use Rattle.octets.specs.Tests.{allBelow}
 use Rattle.octets.specs.Lists.{Each}
 use Rattle.octets.specs.Bits.{flip}
 use Rattle.ciphers.specs.Keystream.{stream}
-use Rattle.voice.specs.Frame.{IsFrame, word, has, ofSlot}
+use Rattle.voice.specs.Frame.{IsFrame, word, inMask, ofSlot}
 use Rattle.voice.proofs.FrameLaws.{protect-frame, word-stays}
 use Rattle.demands.specs.Marked.{key0001}
 use Rattle.demands.specs.Talk.{Slot, Talk, WayIn, opening, joining, OnAir, SlotKept, Kept}
@@ -90,7 +90,7 @@ ks = stream 1 key0001 noVector
 abbrev gaveWay : ℕ → List ℕ → ℕ → Slot
 gaveWay mask frame p = record { mask = mask; spoken = silence; sent = turning ks p mask frame; arrived = true }
 
-gave-way-kept : (mask : ℕ) (frame : List ℕ) → mask ≤ 15 → ((w : ℕ) → w < 4 → has mask w ≡ true → word w frame ≡ word w silence)
+gave-way-kept : (mask : ℕ) (frame : List ℕ) → mask ≤ 15 → ((w : ℕ) → w < 4 → inMask mask w ≡ true → word w frame ≡ word w silence)
     → (p : ℕ) → SlotKept ks p (gaveWay mask frame p)
 gave-way-kept mask frame m same p =
     record {
@@ -113,7 +113,7 @@ signalling = replicate 7 0 ++ (replicate 7 255 ++ replicate 14 0)
 one-gave-way : (p : ℕ) → SlotKept ks p (gaveWay 13 signalling p)
 one-gave-way = gave-way-kept 13 signalling (omega arith) same
   where
-    same : (w : ℕ) → w < 4 → has 13 w ≡ true → word w signalling ≡ word w silence
+    same : (w : ℕ) → w < 4 → inMask 13 w ≡ true → word w signalling ≡ word w silence
     same zero l h = refl
     same (suc zero) l h = absurd (true≢false (sym h))
     same (suc (suc zero)) l h = refl
@@ -124,7 +124,7 @@ one-gave-way = gave-way-kept 13 signalling (omega arith) same
 all-gave-way : (p : ℕ) → SlotKept ks p (gaveWay 0 loud p)
 all-gave-way = gave-way-kept 0 loud (omega arith) same
   where
-    same : (w : ℕ) → w < 4 → has 0 w ≡ true → word w loud ≡ word w silence
+    same : (w : ℕ) → w < 4 → inMask 0 w ≡ true → word w loud ≡ word w silence
     same w l h = absurd (true≢false (sym h ∙ rw (zero-div (2 ^ w))))
 
 -- of two sessions, in one slot of each the second word gave way, in another all did, and two slots are lost

@@ -1,5 +1,5 @@
 -- The premises of demand 1 can be met: a DES key that is begun, added in two parts and finished opens a call and a packet, and then a word and a
--- message are turned, under it and no other. Assumes nothing.
+-- message are turned, under it and no other.
 use mathlib.Core.Path.{_≡_, refl, sym, ap, _∙_}
 use mathlib.Core.Bool.{true}
 use mathlib.Core.List.{List, [], _∷_, _++_}
@@ -8,7 +8,7 @@ use native.Mathlib.Omega.{arith}
 use lib.ListN.{replicate}
 use Rattle.octets.specs.Tests.{allBelow, firstBelow}
 use Rattle.octets.specs.Lists.{replaced, allZero}
-use Rattle.ciphers.specs.Keys.{oddOctet, desKey, keyAllowed}
+use Rattle.ciphers.specs.Keys.{oddOctet, desKey, keyAllowed, keyRight}
 use Rattle.answers.specs.declared.Answer.{Answer}
 use Rattle.answers.specs.declared.Answer.the-variants.{Done}
 use Rattle.answers.specs.Numbers.{numberOf}
@@ -17,8 +17,7 @@ use Rattle.keyentry.specs.Entry as entry
 use Rattle.keybook.specs.Book as rules
 use Rattle.keybook.specs.Operations as operations
 use Rattle.keybook.specs.History as book
-use Rattle.session.specs.Session.{keyRight}
-use Rattle.session.specs.Ladder.{keyRefusals, zeroFor, vectorRefusals}
+use Rattle.openings.specs.Ladder.{keyRefusals, zeroFor, vectorRefusals}
 use Rattle.voice.specs.declared.call.Call.{Call}
 use Rattle.voice.specs.Call.{vectorRight, closedTests, openTests, isClosed, isOpen, noCall, receiving, standing, written}
 use Rattle.voice.specs.Opening.{openRefusals, openOf}
@@ -30,7 +29,7 @@ use Rattle.data.specs.Packet as packet
 use Rattle.data.specs.Opening as opening
 use Rattle.data.specs.Message.{lostRefusals, messageOf}
 use Rattle.data.proofs.MessageLaws.{message-done}
-use Rattle.session.specs.Samples.{seed, desABCD}
+use Rattle.openings.specs.Samples.{seed, desABCD}
 use Rattle.demands.specs.Marked.{holding}
 use Rattle.demands.specs.Device.{Device, Open, Voice, callStep, OpenPacket, Message, packetStep, Operation, OfBook, OfCall, OfPacket, step, deviceAfter, history}
 use Rattle.demands.specs.Demand1.{WordsTurned, MessageTurned}
@@ -55,8 +54,8 @@ books : (book.step (book.Begin 2 0) (replicate 576 0) ≡ (Done, holding 2 []))
     × (book.step (book.Add 2 0 last) (holding 2 first) ≡ (Done, holding 2 keyABCD))
     × (book.step (book.Finish 2 0) (holding 2 keyABCD) ≡ (Done, ready))
 unfolding book.step operations.beginOf operations.addOf operations.finishOf operations.beginRefusals operations.beginAfter operations.addRefusals
-    operations.finishRefusals rules.bookRefusals rules.entryOf rules.withEntry rules.apart rules.goodBook rules.findEntry rules.freeEntry entry.named
-    entry.isFor entry.entryRight entry.usedRight entry.readyRight entry.lacks entry.newEntry entry.loadRefusals entry.loaded entry.completeRefusals
+    operations.finishRefusals rules.bookRefusals rules.entryOf rules.withEntry rules.apart rules.goodBook rules.findEntry rules.freeEntry entry.inRange
+    entry.isFor entry.entryRight entry.usedRight entry.readyRight entry.lacks entry.newEntry entry.extendRefusals entry.extended entry.completeRefusals
     entry.completed allZero allBelow firstBelow replaced keyAllowed desKey oddOctet
 books = (refl, refl, refl, refl)
 
@@ -90,7 +89,7 @@ abbrev told : Call
 told = written (receiving 2 desABCD 0 true seed)
 
 opens : openOf noCall 2 0 seed ready ≡ (Done, told)
-unfolding openOf openRefusals vectorRefusals keyRefusals zeroFor standing isClosed closedTests allZero allBelow firstBelow entry.named entry.isFor
+unfolding openOf openRefusals vectorRefusals keyRefusals zeroFor standing isClosed closedTests allZero allBelow firstBelow entry.inRange entry.isFor
     entry.entryRight entry.usedRight entry.readyRight entry.lacks rules.entryOf rules.findEntry rules.apart rules.goodBook keyAllowed desKey oddOctet
 opens = refl
 
@@ -122,11 +121,11 @@ word-key = ap (λ (c : Call). c .key) is-open
 -- ---- and a packet
 
 abbrev dcalls : Packet
-dcalls = opening.opened 1 2 seed desABCD
+dcalls = opening.newPacket 1 2 seed desABCD
 
 opens-packet : opening.openOf packet.noPacket 1 2 0 seed ready ≡ (Done, dcalls)
 unfolding opening.openOf opening.openRefusals vectorRefusals keyRefusals zeroFor packet.goodPacket packet.isClosed packet.closedTests isKind allZero
-    allBelow firstBelow entry.named entry.isFor entry.entryRight entry.usedRight entry.readyRight entry.lacks rules.entryOf rules.findEntry rules.apart
+    allBelow firstBelow entry.inRange entry.isFor entry.entryRight entry.usedRight entry.readyRight entry.lacks rules.entryOf rules.findEntry rules.apart
     rules.goodBook keyAllowed desKey oddOctet
 opens-packet = refl
 

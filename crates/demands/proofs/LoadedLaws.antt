@@ -1,4 +1,4 @@
--- How what stands, a call or a packet, comes to hold a key that was completely loaded when it was opened: one law for both. Assumes nothing.
+-- How what stands, a call or a packet, comes to hold a key that was completely loaded when it was opened: one law for both.
 use mathlib.Core.Path.{_≡_, refl, sym, ap, ap₂, _∙_}
 use mathlib.Core.Bool.{Bool, true, false, _&&_}
 use mathlib.Core.List.{List, [], _∷_}

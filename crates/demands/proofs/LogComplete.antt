@@ -1,10 +1,10 @@
--- No slot is left out of a log, whatever the receiver: the log lists exactly the slots that arrived, in order. Assumes nothing.
+-- No slot is left out of a log, whatever the receiver: the log lists exactly the slots that arrived, in order.
 use mathlib.Core.Path.{_≡_, refl, ap, _∙_}
 use mathlib.Core.List.{List, [], _∷_, _++_}
 use mathlib.Core.Bool.{Bool, true, false, _&&_, not}
 use Prim.Native.Nat.{ℕ}
 use lib.ListN.{drop}
-use Rattle.session.specs.Session.{scrambles}
+use Rattle.sizes.specs.Ciphers.{scrambles}
 use Rattle.voice.specs.Opening.{superframeSlots}
 use Rattle.octets.specs.Tests.{pick}
 use Rattle.demands.specs.Talk.{Slot, Session, Talk, WayIn, opening, joining}

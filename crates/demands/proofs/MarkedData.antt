@@ -1,4 +1,4 @@
--- The marked examples of data: 3 and 10. Assumes nothing.
+-- The marked examples of data: 3 and 10.
 use mathlib.Core.Path.{_≡_, refl, sym, ap, _∙_}
 use mathlib.Core.List.{List, _∷_}
 use Prim.Native.Nat.{ℕ}
@@ -8,11 +8,10 @@ use Rattle.octets.specs.Bits.{bit, octet, octetsFrom}
 use Rattle.octets.specs.Turn.{within, turned, turnedIn}
 use Rattle.scramble.specs.Sequence.{keyNumber, stepped, P}
 use Rattle.des.specs.Des.{des}
-use Rattle.ciphers.specs.Keys.{scrambleKey, keyAllowed}
+use Rattle.ciphers.specs.Keys.{scrambleKey, keyAllowed, keyRight}
 use Rattle.ciphers.specs.Keystream.{usedBlock, feedback, stream}
 use Rattle.answers.specs.declared.Answer.the-variants.{Done}
 use Rattle.answers.proofs.OutcomeLaws.{NoneHolds}
-use Rattle.session.specs.Session.{keyRight}
 use Rattle.data.specs.Kinds.{isKind}
 use Rattle.data.specs.Packet.{closedTests, openTests, isClosed, isOpen, goodPacket}
 use Rattle.data.specs.Message.{counted, lostRefusals, ofMessage, messageTurned, messageOf}

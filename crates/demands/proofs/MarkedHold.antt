@@ -1,4 +1,4 @@
--- The marked examples hold. Assumes nothing.
+-- The marked examples hold.
 use mathlib.Core.Path.{refl, ap, _∙_}
 use native.Mathlib.Omega.{arith}
 use Rattle.generator.specs.Generator.{nextVector}
@@ -8,7 +8,7 @@ use Rattle.octets.specs.Lists.{allZero}
 use Rattle.octets.specs.Tests.{allBelow, firstBelow}
 use Rattle.ciphers.specs.Keys.{oddOctet, scrambleKey, desKey, keyAllowed}
 use Rattle.ciphers.specs.Keystream.{feedback, stream}
-use Rattle.keyentry.specs.Entry.{named, lacks, readyRight, usedRight, entryRight, isFor, completeRefusals}
+use Rattle.keyentry.specs.Entry.{inRange, lacks, readyRight, usedRight, entryRight, isFor, completeRefusals}
 use Rattle.keybook.specs.Book.{entryOf, apart, goodBook, findEntry, bookRefusals}
 use Rattle.keybook.specs.Operations.{finishRefusals, finishOf}
 use Rattle.voice.specs.Slot.{received}
@@ -17,7 +17,7 @@ use Rattle.demands.proofs.MarkedVoice.{openings, example-2, held-on, af
 use Rattle.demands.proofs.MarkedData.{example-3, example-10}
 
 pub marked : Marked
-unfolding stream feedback received finishNumber allBelow firstBelow oddOctet scrambleKey desKey keyAllowed allZero named lacks readyRight usedRight entryRight isFor completeRefusals entryOf apart goodBook findEntry bookRefusals finishRefusals finishOf
+unfolding stream feedback received finishNumber allBelow firstBelow oddOctet scrambleKey desKey keyAllowed allZero inRange lacks readyRight usedRight entryRight isFor completeRefusals entryOf apart goodBook findEntry bookRefusals finishRefusals finishOf
 marked =
     record {
       example-1 = key-one;

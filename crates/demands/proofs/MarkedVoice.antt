@@ -1,4 +1,4 @@
--- The marked examples of voice: 2, 11 and 12. Assumes nothing.
+-- The marked examples of voice: 2, 11 and 12.
 use mathlib.Core.Path.{_≡_, refl, ap, _∙_}
 use mathlib.Core.Bool.{true, false}
 use mathlib.Core.List.{List}
@@ -10,15 +10,16 @@ use Rattle.octets.specs.Tests.{allBelow, firstBelow}
 use Rattle.octets.specs.Lists.{allZero, iterate}
 use Rattle.octets.specs.Bits.{octet, octetsFrom}
 use Rattle.scramble.specs.Sequence.{keyNumber, stepped, P}
-use Rattle.ciphers.specs.Keys.{oddOctet, scrambleKey, desKey, keyAllowed}
+use Rattle.ciphers.specs.Keys.{oddOctet, scrambleKey, desKey, keyAllowed, keyRight}
 use Rattle.ciphers.specs.Keystream.{stream}
 use Rattle.answers.specs.declared.Answer.the-variants.{Done, Held, NotNow, ZeroVector}
 use Rattle.keyentry.specs.Entry as entry
 use Rattle.keybook.specs.Book as book
-use Rattle.session.specs.Session.{vectorOctets, noVector, keyRight}
-use Rattle.session.specs.Ladder.{keyRefusals, zeroFor, vectorRefusals}
-use Rattle.session.specs.Samples.{scramble0001, desABCD}
-use Rattle.voice.specs.Frame.{frameOctets, keyBit, ofSlot, protect}
+use Rattle.sizes.specs.Ciphers.{vectorOctets, noVector}
+use Rattle.openings.specs.Ladder.{keyRefusals, zeroFor, vectorRefusals}
+use Rattle.openings.specs.Samples.{scramble0001, desABCD}
+use Rattle.sizes.specs.Frame.{frameOctets}
+use Rattle.voice.specs.Frame.{keyBit, ofSlot, protect}
 use Rattle.voice.specs.Call.{vectorRight, closedTests, openTests, isClosed, isOpen, noCall, receiving, standing, written}
 use Rattle.voice.specs.Opening.{joinRefusals, openRefusals, openOf, joinOf}
 use Rattle.voice.specs.Slot.{received, topMask, voiceOf}
@@ -31,7 +32,7 @@ pub openings : (openOf noCall 2 0 noVector bookOfTwo ≡ (ZeroVector, noCall))
     × (openOf noCall 1 0 noVector bookOfTwo ≡ (Done, scrambling 0))
     × (joinOf noCall 2 0 bookOfTwo ≡ (Done, waiting 4))
 unfolding openOf joinOf openRefusals joinRefusals vectorRefusals keyRefusals zeroFor standing isClosed closedTests allZero allBelow firstBelow
-    entry.named entry.isFor entry.entryRight entry.usedRight entry.readyRight entry.lacks book.entryOf book.findEntry book.apart book.goodBook
+    entry.inRange entry.isFor entry.entryRight entry.usedRight entry.readyRight entry.lacks book.entryOf book.findEntry book.apart book.goodBook
     keyAllowed scrambleKey desKey oddOctet
 openings = (refl, refl, refl)
 

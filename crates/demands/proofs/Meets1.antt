@@ -1,4 +1,4 @@
--- Demand 1 is met. Assumes nothing.
+-- Demand 1 is met.
 use mathlib.Core.Path.{_≡_, ap}
 use mathlib.Core.List.{List}
 use Prim.Native.Nat.{ℕ, _≤_}
@@ -6,7 +6,7 @@ use native.Mathlib.Omega.{arith}
 use lib.ListN.{replicate}
 use Rattle.answers.specs.Numbers.{numberOf}
 use Rattle.ciphers.specs.Keystream.{stream}
-use Rattle.keyentry.specs.Entry.{keyRoom}
+use Rattle.sizes.specs.Ciphers.{keyRoom}
 use Rattle.keybook.specs.Operations.{noKey, readyKeyOf}
 use Rattle.keybook.proofs.Laws.{refused-ready-no-key}
 use Rattle.voice.specs.declared.call.Call.{Call}

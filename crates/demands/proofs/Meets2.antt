@@ -1,4 +1,4 @@
--- Demand 2 is met: the definitions that the code is proved to compute agree bit for bit with the standards' own words. Assumes nothing.
+-- Demand 2 is met: the definitions that the code is proved to compute agree bit for bit with the standards' own words.
 use mathlib.Core.Path.{_≡_, refl, sym, ap, subst, _∙_}
 use mathlib.Core.Bool.{false}
 use mathlib.Core.Logic.{_⊎_, inl, inr}
@@ -10,7 +10,7 @@ use Rattle.answers.specs.Numbers.{numberOf}
 use Rattle.generator.specs.Generator.{aesVector}
 use Rattle.ciphers.specs.Keystream.{usedBlock, feedback, stream}
 use Rattle.voice.specs.declared.call.Call.{Call}
-use Rattle.voice.specs.Frame.{IsFrame, has, ofSlot}
+use Rattle.voice.specs.Frame.{IsFrame, inMask, ofSlot}
 use Rattle.voice.specs.Slot.{voiceOf}
 use Rattle.voice.proofs.FrameLaws.{protect-frame}
 use Rattle.voice.proofs.SlotLaws.{done-turned, undone-stays}
@@ -28,11 +28,11 @@ keystreams = record { scramble-bit = λ key vector n. refl; des-bit = λ key vec
 
 module _ (call : Call) (mask : ℕ) (frame : List ℕ) (z : numberOf (voiceOf call mask frame .0) ≡ 0) where
   -- bit j of word w, where it is not speech or the mask has not the word
-  stays : (w j : ℕ) → w < 4 → j < 56 → ((49 ≤ j) ⊎ (has mask w ≡ false)) → bit (voiceOf call mask frame .1 .1) (56 * w + j) ≡ bit frame (56 * w + j)
+  stays : (w j : ℕ) → w < 4 → j < 56 → ((49 ≤ j) ⊎ (inMask mask w ≡ false)) → bit (voiceOf call mask frame .1 .1) (56 * w + j) ≡ bit frame (56 * w + j)
   stays w j hw hj (inl spare) = spare-stays call mask frame z (56 * w + j) (omega arith) (omega arith)
   stays w j hw hj (inr other) =
       let e : (56 * w + j) / 56 ≡ w = omega arith in
-      other-stays call mask frame z (56 * w + j) (omega arith) (ap (has mask) e ∙ other)
+      other-stays call mask frame z (56 * w + j) (omega arith) (ap (inMask mask) e ∙ other)
 
   whole : IsFrame (voiceOf call mask frame .1 .1)
   whole =

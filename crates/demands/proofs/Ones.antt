@@ -1,5 +1,5 @@
 -- Under the sample keys no session of any vector has zeros for the keystream of its first slot, or of its last: a block of zeros is followed
--- by the encipherment of zeros, which has a 1. Assumes nothing.
+-- by the encipherment of zeros, which has a 1.
 use mathlib.Core.Path.{_≡_, refl, sym, ap, _∙_}
 use mathlib.Core.Bool.{true}
 use mathlib.Core.Logic.{inl, inr}
@@ -22,20 +22,20 @@ use Rattle.aes.proofs.StateLaws.{length-cipher, octets-cipher}
 use Rattle.aes.proofs.ScheduleLaws.{octets-keyExpansion}
 use Rattle.generator.specs.Generator.{aesVector}
 use Rattle.generator.proofs.VectorLaws.{octets-aesVector}
-use Rattle.ciphers.specs.Numbers.{sessionSlots}
+use Rattle.sizes.specs.Ciphers.{sessionSlots}
 use Rattle.ciphers.specs.Keystream.{usedBlock, feedback, stream}
 use Rattle.ciphers.proofs.Running.{Wide, wide-bounds}
-use Rattle.ciphers.proofs.Cases.{by-range}
-use Rattle.voice.specs.Frame.{has}
+use Rattle.sizes.proofs.Cases.{by-range}
+use Rattle.voice.specs.Frame.{inMask}
 use Rattle.demands.specs.Marked.{key0001}
 use Rattle.octets.proofs.Zeros.{zeros-octets, zeros-bit}
 use Rattle.demands.proofs.SampleKeys.{keyABCD, key1F, keyOf, key1F-octets}
 
 -- ---- a slot that is left as it came has zeros for its keystream
 
-pub all-words : (w : ℕ) → w < 4 → has 15 w ≡ true
+pub all-words : (w : ℕ) → w < 4 → inMask 15 w ≡ true
 unfolding allBelow
-all-words w l = all-at (has 15) 4 w l refl
+all-words w l = all-at (inMask 15) 4 w l refl
 
 unturned-bit : (a k : ℕ) → k < 2 → flip a k ≡ a → k ≡ 0
 unturned-bit a k l e = omega arith

@@ -1,4 +1,4 @@
--- Whatever a device has been through, a packet that stands holds a key that was completely loaded when it was opened. Assumes nothing.
+-- Whatever a device has been through, a packet that stands holds a key that was completely loaded when it was opened.
 use mathlib.Core.Path.{_≡_, refl}
 use mathlib.Core.Bool.{not}
 use mathlib.Core.List.{List}
@@ -8,8 +8,8 @@ use borrow.Author.Tests.{ne-eqb}
 use Rattle.octets.proofs.TestLaws.{and-false-r}
 use Rattle.answers.specs.declared.Answer.the-variants.{Done}
 use Rattle.keybook.specs.History as book
-use Rattle.session.specs.Ladder.{keyFor}
-use Rattle.session.proofs.LadderLaws.{vector-never}
+use Rattle.openings.specs.Ladder.{keyFor}
+use Rattle.openings.proofs.LadderLaws.{vector-never}
 use Rattle.data.specs.declared.packet.Packet.{Packet}
 use Rattle.data.specs.Kinds.{isKind}
 use Rattle.data.specs.Packet as packet
@@ -18,7 +18,7 @@ use Rattle.data.specs.Message as message
 use Rattle.demands.specs.Device.{Device, callStep, PacketOperation, OpenPacket, Message, LostMessage, EndPacket, packetStep, Operation, OfBook, OfCall, OfPacket, step, deviceAfter, history}
 use Rattle.demands.specs.Demand1.{OpensPacket, by-opening, renewsPacket}
 use Rattle.demands.proofs.LoadedLaws.{Holder, begins, Left, Held, always-loaded, as-it-was, renewing, keeping, of-number}
-use Rattle.session.proofs.ReadyLaws.{none-ready-vector}
+use Rattle.openings.proofs.ReadyLaws.{none-ready-vector}
 
 -- ---- a packet
 
@@ -37,7 +37,7 @@ thePackets =
 packet-left : (n : ℕ) (b : List ℕ) (p : Packet) (o : PacketOperation) → Left thePackets n b (OfPacket n o) p (packetStep b p o .0) (packetStep b p o .1 .0)
 unfolding packetStep opening.openOf message.messageOf message.lostOf packet.endOf opening.openRefusals packet.endRefusals
 packet-left n b p (OpenPacket kind c i w) =
-    renewing thePackets n b (OfPacket n (OpenPacket kind c i w)) p (opening.opened kind c w (keyFor b c i)) (opening.openRefusals p kind c i w b)
+    renewing thePackets n b (OfPacket n (OpenPacket kind c i w)) p (opening.newPacket kind c w (keyFor b c i)) (opening.openRefusals p kind c i w b)
     (vector-never (isKind kind) (not (packet.goodPacket p)) (not (packet.isClosed p)) c i b w)
     (λ h s.
     begins c i (keyFor b c i) refl (by-opening kind w)

@@ -1,4 +1,4 @@
--- Our receiver meets demand 3. Assumes nothing.
+-- Our receiver meets demand 3.
 use mathlib.Core.Path.{_≡_, refl, sym, _∙_}
 use mathlib.Core.Bool.{Bool, true, false, _&&_, _||_, not, true≢false}
 use mathlib.Core.Logic.{_⊎_, inl, inr}
@@ -9,12 +9,11 @@ use native.Mathlib.Numerals.{add-one}
 use native.Mathlib.Omega.{arith}
 use lib.ListN.{length, drop, length-drop}
 use Rattle.answers.specs.Numbers.{numberOf}
-use Rattle.ciphers.specs.Numbers.{keyOctets, sessionSlots}
+use Rattle.sizes.specs.Ciphers.{keyOctets, sessionSlots, noVector, scrambles}
 use Rattle.ciphers.specs.Keystream.{stream}
 use Rattle.voice.specs.declared.call.Call.{Call}
-use Rattle.voice.specs.Frame.{word, has}
+use Rattle.voice.specs.Frame.{word, inMask}
 use Rattle.voice.specs.Call.{noCall}
-use Rattle.session.specs.Session.{noVector, scrambles}
 use Rattle.voice.specs.Opening.{superframeSlots}
 use Rattle.octets.specs.Lists.{Each}
 use Rattle.demands.specs.Talk.{Slot, Session, WayIn, opening, joining, SlotKept, SlotsKept, VectorKept, SessionKept, Full, slotCounts, HasKey}
@@ -46,7 +45,7 @@ full-drop c (suc n) [] f = f
 full-drop c (suc n) (x ∷ xs) f = full-drop c n xs (full-tail c x xs f)
 
 -- handed out as it was spoken, in a session that counts as reached; held as it came, in another
-right-handed : (r : Report) → r .reached ≡ true → numberOf (r .answer) ≡ 0 → ((w : ℕ) → w < 4 → has (r .mask) w ≡ true → word w (r .frame) ≡ word w (r .spoken))
+right-handed : (r : Report) → r .reached ≡ true → numberOf (r .answer) ≡ 0 → ((w : ℕ) → w < 4 → inMask (r .mask) w ≡ true → word w (r .frame) ≡ word w (r .spoken))
     → RightSlot r
 right-handed r e a f = record { opened = λ z. f; handed = λ z. a; held = λ n. absurd (true≢false (sym e ∙ n)) }
 

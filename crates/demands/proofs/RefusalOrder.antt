@@ -1,4 +1,4 @@
--- Every operation's refusals stand in the order in which document 01 has them count, whatever the device. Assumes nothing.
+-- Every operation's refusals stand in the order in which document 01 has them count, whatever the device.
 use mathlib.Core.Path.{_≡_, refl}
 use mathlib.Core.Bool.{true, false, not}
 use mathlib.Core.List.{List, [], _∷_, _++_}
@@ -9,13 +9,13 @@ use Rattle.answers.specs.declared.Answer.{Answer}
 use Rattle.answers.specs.declared.Answer.the-variants.{NotNow}
 use Rattle.answers.specs.Outcomes.{answered}
 use Rattle.answers.specs.Order.{refusalOrder, ofGiven, ofCall, ofBook, ofZeros, numbersOf, inOrder}
-use Rattle.keyentry.specs.Entry.{named, loadRefusals, completeRefusals}
+use Rattle.keyentry.specs.Entry.{inRange, extendRefusals, completeRefusals}
 use Rattle.keybook.specs.Book.{bookOctets, bookRefusals}
 use Rattle.keybook.specs.Operations.{beginRefusals, addRefusals, finishRefusals, eraseRefusals, notReady, readyRefusals}
 use Rattle.keybook.specs.History as book
-use Rattle.session.specs.Session.{vectorOctets}
-use Rattle.session.specs.Ladder.{keyRefusals, vectorRefusals}
-use Rattle.session.proofs.LadderLaws.{key-in-order, vector-in-order}
+use Rattle.sizes.specs.Ciphers.{vectorOctets}
+use Rattle.openings.specs.Ladder.{keyRefusals, vectorRefusals}
+use Rattle.openings.proofs.LadderLaws.{key-in-order, vector-in-order}
 use Rattle.voice.specs.Call.{Standing, standing, isBad, stands, endRefusals}
 use Rattle.voice.specs.Opening.{joinRefusals, openRefusals}
 use Rattle.voice.specs.Slot.{lostRefusals, voiceRefusals}
@@ -34,7 +34,7 @@ unfolding openRefusals
 begun-in-order s c i w b = vector-in-order true (isBad s) (stands s) c i b w
 
 pub in-order : (d : Device) (o : Operation) → inOrder (orderOf o) (numbersOf (refusalsOf d o)) ≡ true
-unfolding beginRefusals addRefusals finishRefusals eraseRefusals bookRefusals loadRefusals completeRefusals joinRefusals voiceRefusals lostRefusals
+unfolding beginRefusals addRefusals finishRefusals eraseRefusals bookRefusals extendRefusals completeRefusals joinRefusals voiceRefusals lostRefusals
     endRefusals announceRefusals nextRefusals opening.openRefusals message.messageRefusals message.lostRefusals packet.endRefusals
 in-order d (OfBook (book.Begin c i)) = refl
 in-order d (OfBook (book.Add c i xs)) = refl
@@ -74,20 +74,20 @@ order-parts = refl
 -- ---- the two 4s
 
 -- the test is of numbers, and an opening has 4 twice: with 9 between them, the one after it is the book's. What stands is 9, whatever the book holds
-module _ (c i : ℕ) (b : List ℕ) (long : length b ≡ 576) (is-named : named c i ≡ true) where
+module _ (c i : ℕ) (b : List ℕ) (long : length b ≡ 576) (in-range : inRange c i ≡ true) where
   module _ (s : Standing) (good : isBad s ≡ false) (there : stands s ≡ true) where
     pub busy-join : (a : Answer) → answered (joinRefusals s c i b) a ≡ NotNow
     unfolding joinRefusals keyRefusals
-    busy-join a = rw (eq-eqb (length b) bookOctets long, is-named, good, there)
+    busy-join a = rw (eq-eqb (length b) bookOctets long, in-range, good, there)
 
     pub busy-open : (w : List ℕ) → length w ≡ 8 → (a : Answer) → answered (openRefusals s c i w b) a ≡ NotNow
     unfolding openRefusals vectorRefusals keyRefusals
-    busy-open w l a = rw (eq-eqb (length w) vectorOctets l, eq-eqb (length b) bookOctets long, is-named, good, there)
+    busy-open w l a = rw (eq-eqb (length w) vectorOctets l, eq-eqb (length b) bookOctets long, in-range, good, there)
 
   pub busy-packet : (p : Packet) → packet.goodPacket p ≡ true → packet.isClosed p ≡ false → (kind : ℕ) → isKind kind ≡ true → (w : List ℕ) → length w ≡ 8
       → (a : Answer) → answered (opening.openRefusals p kind c i w b) a ≡ NotNow
   unfolding opening.openRefusals vectorRefusals keyRefusals
-  busy-packet p good there kind k w l a = rw (eq-eqb (length w) vectorOctets l, eq-eqb (length b) bookOctets long, k, is-named, good, there)
+  busy-packet p good there kind k w l a = rw (eq-eqb (length w) vectorOctets l, eq-eqb (length b) bookOctets long, k, in-range, good, there)
 
 -- ---- what the test throws out
 

@@ -1,5 +1,5 @@
 -- What an operation is not refused was right and in time, what is not done leaves the lent octets, and only a slot whose vector is unknown is held, and it is
--- never done. Assumes nothing.
+-- never done.
 use mathlib.Core.Path.{_≡_, refl, sym, ap, _∙_}
 use mathlib.Core.Bool.{Bool, true, false, _&&_, not, true≢false}
 use mathlib.Core.List.{List}
@@ -17,12 +17,12 @@ use Rattle.answers.specs.Numbers.{numberOf}
 use Rattle.answers.specs.Outcomes.{Refusals, outcome}
 use Rattle.answers.proofs.OutcomeLaws.{NoneHolds, Refusal, refusal-keeps}
 use Rattle.answers.proofs.TableLaws.{Settles, not-refused}
-use Rattle.keyentry.specs.Entry.{named}
+use Rattle.keyentry.specs.Entry.{inRange}
 use Rattle.keybook.specs.Book.{bookOctets, goodBook, bookRefusals}
 use Rattle.keybook.specs.Operations.{beginRefusals, addRefusals, finishRefusals, eraseRefusals}
 use Rattle.keybook.specs.History as book
-use Rattle.session.specs.Session.{vectorOctets}
-use Rattle.session.specs.Ladder as ladder
+use Rattle.sizes.specs.Ciphers.{vectorOctets}
+use Rattle.openings.specs.Ladder as ladder
 use Rattle.ciphers.specs.Keystream.{stream}
 use Rattle.voice.specs.declared.call.Call.{Call}
 use Rattle.voice.specs.Call.{receivingEnd, goodCall, Standing, receiving, standing, endRefusals}
@@ -49,10 +49,10 @@ use Rattle.demands.proofs.DeviceLaws.{book-settles, call-settles, packe
 sized : (n m : ℕ) → not (eqb n m) ≡ false → n ≡ m
 sized n m e = eqb-true n m (not-false (eqb n m) e)
 
-keyed : (b : List ℕ) (c i : ℕ) (own : Bool) → not (eqb (length b) bookOctets) ≡ false → not (own && named c i) ≡ false → not (goodBook b) ≡ false → Keyed b c i
-unfolding named
+keyed : (b : List ℕ) (c i : ℕ) (own : Bool) → not (eqb (length b) bookOctets) ≡ false → not (own && inRange c i) ≡ false → not (goodBook b) ≡ false → Keyed b c i
+unfolding inRange
 keyed b c i own l n g =
-    let m : named c i ≡ true = and-right own (named c i) (not-false (own && named c i) n) in
+    let m : inRange c i ≡ true = and-right own (inRange c i) (not-false (own && inRange c i) n) in
     let r = and-right (leb 1 c) (leb c 3 && leb i 63) m in
     record {
       long = sized (length b) bookOctets l;
@@ -103,7 +103,7 @@ call-right b c (NextVector out) n = (sized (length out) vectorOctets (n .0), goo
 packet-right : (b : List ℕ) (p : Packet) (o : PacketOperation) → NoneHolds (packetRefusals b p o) → RightPacket b p o
 unfolding opening.openRefusals ladder.vectorRefusals ladder.keyRefusals message.messageRefusals message.lostRefusals packet.endRefusals isKind
 packet-right b p (OpenPacket kind c i w) n =
-    let k = and-left (isKind kind) (named c i) (not-false (isKind kind && named c i) (n .1 .1 .0)) in (
+    let k = and-left (isKind kind) (inRange c i) (not-false (isKind kind && inRange c i) (n .1 .1 .0)) in (
       keyed b c i (isKind kind) (n .1 .0) (n .1 .1 .0) (n .1 .1 .1 .1 .1 .0),
       (leb-true 1 kind (and-left (leb 1 kind) (leb kind 4) k), leb-true kind 4 (and-right (leb 1 kind) (leb kind 4) k)),
       vector-right c w (n .0) (n .1 .1 .1 .1 .1 .1 .1 .1 .0),

@@ -1,5 +1,5 @@
 -- Receivers that refuse what they are told: demand 3 throws out each that never answers 0 to an opening, to joining, to a lost slot or to a timely
--- announcement. Assumes nothing.
+-- announcement.
 use mathlib.Core.Path.{refl}
 use mathlib.Core.Bool.{Bool, true, false}
 use mathlib.Core.List.{List, [], _∷_}
@@ -8,7 +8,7 @@ use native.Mathlib.Omega.{arith}
 use Rattle.octets.specs.Lists.{Each}
 use Rattle.ciphers.specs.Keystream.{stream}
 use Rattle.answers.specs.Numbers.{numberOf}
-use Rattle.session.specs.Samples.{seed}
+use Rattle.openings.specs.Samples.{seed}
 use Rattle.demands.specs.Talk.{Talk, WayIn, opening, joining, Kept}
 use Rattle.demands.specs.Log.{Receiver, talkLog}
 use Rattle.demands.specs.Demand3.{Right, Meets3}

@@ -1,4 +1,4 @@
--- A key for each cipher, and a book that has them ready. Assumes nothing.
+-- A key for each cipher, and a book that has them ready.
 use mathlib.Core.Path.{_≡_, refl}
 use mathlib.Core.Bool.{true}
 use mathlib.Core.List.{List, [], _∷_, _++_}
@@ -7,12 +7,12 @@ use lib.ListN.{length, replicate}
 use Rattle.octets.specs.Tests.{allBelow, firstBelow}
 use Rattle.octets.specs.Lists.{allZero}
 use Rattle.octets.specs.Bits.{Octets}
-use Rattle.ciphers.specs.Numbers.{byCipher, keyOctets}
+use Rattle.sizes.specs.Ciphers.{byCipher, keyOctets}
 use Rattle.ciphers.specs.Keys.{oddOctet, scrambleKey, desKey, keyAllowed}
-use Rattle.ciphers.proofs.Cases.{by-range}
+use Rattle.sizes.proofs.Cases.{by-range}
 use Rattle.keyentry.specs.Entry as entry
 use Rattle.keybook.specs.Book as book
-use Rattle.session.specs.Samples.{scramble0001, desABCD}
+use Rattle.openings.specs.Samples.{scramble0001, desABCD}
 use Rattle.demands.specs.Marked.{key0001}
 use Rattle.demands.specs.Talk.{HasKey}
 use Rattle.octets.proofs.Zeros.{octets-by}
@@ -37,7 +37,7 @@ bookOfThree =
     ++ ((2 ∷ 0 ∷ 8 ∷ 1 ∷ desABCD) ++ ((3 ∷ 0 ∷ 32 ∷ 1 ∷ key1F) ++ replicate (13 * entry.entryOctets) 0))
 
 three-good : book.goodBook bookOfThree ≡ true
-unfolding book.goodBook book.apart book.findEntry book.entryOf allBelow firstBelow allZero entry.isFor entry.named entry.entryRight
+unfolding book.goodBook book.apart book.findEntry book.entryOf allBelow firstBelow allZero entry.isFor entry.inRange entry.entryRight
     entry.usedRight entry.readyRight entry.lacks keyAllowed scrambleKey desKey oddOctet
 three-good = refl
 

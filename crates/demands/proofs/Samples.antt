@@ -1,4 +1,4 @@
--- Slots of silence and the seed of example 4, for the calls that show what is thrown out and what can be met. Assumes nothing.
+-- Slots of silence and the seed of example 4, for the calls that show what is thrown out and what can be met.
 use mathlib.Core.Path.{_≡_, refl, ap}
 use mathlib.Core.Bool.{Bool, true≢false}
 use mathlib.Core.List.{List, [], _∷_}
@@ -11,7 +11,7 @@ use Rattle.octets.specs.Lists.{allZero}
 use Rattle.octets.specs.Bits.{Octets}
 use Rattle.voice.specs.Frame.{IsFrame}
 use Rattle.voice.proofs.FrameLaws.{protect-frame}
-use Rattle.session.specs.Samples.{seed}
+use Rattle.openings.specs.Samples.{seed}
 use Rattle.demands.specs.Talk.{Slot, SlotKept, SlotsKept, VectorKept}
 use Rattle.demands.specs.Others.{Sending, turning}
 use Rattle.demands.proofs.AirLaws.{protected-air}

@@ -1,4 +1,4 @@
--- Our sender keeps the rules: the call that it makes is one of those that demand 3 is about. And its sessions' vectors follow one another. Assumes nothing.
+-- Our sender keeps the rules: the call that it makes is one of those that demand 3 is about. And its sessions' vectors follow one another.
 use mathlib.Core.Path.{_≡_, refl, sym, ap, ap₂, _∙_}
 use mathlib.Core.Bool.{Bool, true, false, _&&_, not, true≢false}
 use mathlib.Core.List.{List, [], _∷_, map}
@@ -17,21 +17,20 @@ use Rattle.octets.specs.Lists.{allZero, Each}
 use Rattle.octets.proofs.TestLaws.{and-false-r}
 use Rattle.generator.specs.Generator.{nextVector}
 use Rattle.generator.proofs.VectorLaws.{length-nextVector, octets-nextVector}
-use Rattle.ciphers.specs.Numbers.{keyOctets, sessionSlots}
+use Rattle.sizes.specs.Ciphers.{keyOctets, sessionSlots, noVector, scrambles}
 use Rattle.ciphers.specs.Keystream.{stream}
 use Rattle.answers.specs.declared.Answer.{Answer}
 use Rattle.answers.specs.declared.Answer.the-variants.{Done}
 use Rattle.keybook.proofs.GoodLaws.{good-sized}
 use Rattle.voice.specs.declared.call.Call.{Call}
 use Rattle.voice.specs.Frame.{ofSlot, protect}
-use Rattle.session.specs.Session.{noVector, scrambles, sessionVector}
-use Rattle.session.specs.Ladder.{keyFor, keyRefusals, vectorRefusals}
+use Rattle.openings.specs.Ladder.{sessionVector, keyFor, keyRefusals, vectorRefusals}
 use Rattle.voice.specs.Call.{vectorRight, noCall, sending, standing, written}
 use Rattle.voice.specs.Opening.{openRefusals, startOf}
 use Rattle.voice.specs.Slot.{goingOn, sent, zeroAfter, voiceOf}
 use Rattle.voice.specs.Vector.{nextRefusals, nextVectorOf}
 use Rattle.voice.proofs.FrameLaws.{protect-same, protect-frame}
-use Rattle.session.proofs.SessionLaws.{no-vector-zero}
+use Rattle.sizes.proofs.SizeLaws.{no-vector-zero}
 use Rattle.voice.proofs.GoodLaws.{good-open, read-written}
 use Rattle.voice.proofs.SlotSteps.{voice-sent}
 use Rattle.demands.specs.Talk.{Slot, Session, SlotKept, SlotsKept, VectorKept, SessionKept, Full, slotCounts, Kept, HasKey, WayIn}

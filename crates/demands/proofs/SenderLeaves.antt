@@ -1,4 +1,4 @@
--- Our sender leaves a word that gave way to signalling as it was spoken. Assumes nothing.
+-- Our sender leaves a word that gave way to signalling as it was spoken.
 use mathlib.Core.Path.{_≡_, ap, _∙_}
 use mathlib.Core.Bool.{false}
 use mathlib.Core.List.{List, [], _∷_}
@@ -9,7 +9,7 @@ use Rattle.octets.specs.Lists.{Each}
 use Rattle.ciphers.specs.Keystream.{stream}
 use Rattle.answers.specs.Numbers.{numberOf}
 use Rattle.voice.specs.declared.call.Call.{Call}
-use Rattle.voice.specs.Frame.{IsFrame, word, has, ofSlot}
+use Rattle.voice.specs.Frame.{IsFrame, word, inMask, ofSlot}
 use Rattle.voice.specs.Call.{noCall}
 use Rattle.voice.specs.Opening.{startOf}
 use Rattle.voice.specs.Slot.{voiceOf}
@@ -18,7 +18,7 @@ use Rattle.voice.proofs.SlotLaws.{done-turned, undone-stays}
 use Rattle.demands.specs.OurSender.{Said, Saying, slotsMade, afterwards, sessionsMade, talkMade, SaidKept, AllSaid, OthersAsSpoken}
 
 -- whatever the call, and whatever it answers
-voice-leaves : (s : Call) (mask : ℕ) (frame : List ℕ) → IsFrame frame → (w : ℕ) → w < 4 → has mask w ≡ false → word w (voiceOf s mask frame .1 .1) ≡ word w frame
+voice-leaves : (s : Call) (mask : ℕ) (frame : List ℕ) → IsFrame frame → (w : ℕ) → w < 4 → inMask mask w ≡ false → word w (voiceOf s mask frame .1 .1) ≡ word w frame
 voice-leaves s mask frame f w l e = go (decLt 0 (numberOf (voiceOf s mask frame .0)))
   where
     go : Dec (0 < numberOf (voiceOf s mask frame .0)) → word w (voiceOf s mask frame .1 .1) ≡ word w frame

@@ -1,4 +1,4 @@
--- Demand 3 settles every answer: 0 to whatever a receiver is told, but 1 to a slot of a session that does not count as reached. Assumes nothing.
+-- Demand 3 settles every answer: 0 to whatever a receiver is told, but 1 to a slot of a session that does not count as reached.
 use mathlib.Core.Path.{_≡_, refl, ap₂}
 use mathlib.Core.List.{List, [], _∷_, map}
 use mathlib.Core.Bool.{Bool, true, false}

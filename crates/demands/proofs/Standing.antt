@@ -1,4 +1,4 @@
--- Where a receiver stands after p slots of a session, and what each operation does there. Assumes nothing.
+-- Where a receiver stands after p slots of a session, and what each operation does there.
 use mathlib.Core.Path.{_≡_, refl, sym, ap, _∙_}
 use mathlib.Core.Bool.{Bool, true, false, _&&_, _||_, not, or-true, true≢false}
 use mathlib.Core.List.{List}
@@ -8,29 +8,29 @@ use lib.Dec.{leb}
 use lib.ListN.{length}
 use borrow.Author.Tests.{eq-eqb, eqb-true, le-ltb, lt-ltb, ltb-true, leb-true}
 use Rattle.ciphers.proofs.KeystreamLaws.{stream-rest}
-use Rattle.ciphers.proofs.Cases.{by-range}
+use Rattle.sizes.proofs.Cases.{by-range}
 use Rattle.octets.specs.Tests.{pick}
 use Rattle.octets.specs.Lists.{allZero}
 use Rattle.octets.proofs.TestLaws.{and-left, and-right}
 use Rattle.answers.specs.declared.Answer.the-variants.{Done, Held}
-use Rattle.ciphers.specs.Numbers.{keyOctets, sessionSlots}
+use Rattle.sizes.specs.Ciphers.{keyOctets, sessionSlots, noVector, scrambles}
 use Rattle.ciphers.specs.Keystream.{stream}
-use Rattle.keyentry.specs.Entry.{cipherIn, readyPlace, readyIn, named}
-use Rattle.keyentry.proofs.RightLaws.{used-of, free-zero, for-name}
+use Rattle.keyentry.specs.Entry.{cipherIn, readyPlace, readyIn, inRange}
+use Rattle.keyentry.proofs.RightLaws.{used-of, free-zero, for-parts}
 use Rattle.keybook.specs.Book.{entries, findEntry}
 use Rattle.keybook.specs.Operations.{entryFor}
 use Rattle.keybook.proofs.GoodLaws.{good-sized, good-entry, found-for}
 use Rattle.voice.specs.declared.call.Call.{Call}
 use Rattle.voice.specs.Frame.{ofSlot, protect}
-use Rattle.session.specs.Session.{noVector, scrambles, sessionVector, keyRight}
-use Rattle.session.specs.Ladder.{keyFor, keyRefusals, zeroFor, vectorRefusals}
+use Rattle.openings.specs.Ladder.{sessionVector, keyFor, keyRefusals, zeroFor, vectorRefusals}
+use Rattle.ciphers.specs.Keys.{keyRight}
 use Rattle.voice.specs.Call.{vectorRight, noCall, Standing, closed, receiving, standing, written}
 use Rattle.voice.specs.Opening.{superframeSlots, joinRefusals, openRefusals, openOf, joined, joinOf}
 use Rattle.voice.specs.Slot.{received, lostRefusals, lostOf, voiceOf}
 use Rattle.voice.specs.Vector.{announceRefusals, announceOf}
 use Rattle.voice.proofs.FrameLaws.{protect-same}
-use Rattle.session.proofs.SessionLaws.{no-vector-zero}
-use Rattle.session.proofs.ReadyLaws.{key-right}
+use Rattle.sizes.proofs.SizeLaws.{no-vector-zero}
+use Rattle.openings.proofs.ReadyLaws.{key-right}
 use Rattle.voice.proofs.GoodLaws.{closed-good, good-open, read-written, fresh-right}
 use Rattle.voice.proofs.SlotSteps.{voice-heard, voice-held}
 use Rattle.demands.specs.Talk.{Slot, SlotKept, VectorKept, HasKey}
@@ -51,13 +51,13 @@ module _ (b : List ℕ) (c i : ℕ) (key : List ℕ) (h : HasKey b c i key) wher
       let ready : readyIn e ≡ 1 = eqb-true (readyIn e) 1 (h .ready) in
       omega arith
 
-  pub key-named : named c i ≡ true
+  pub key-named : inRange c i ≡ true
   key-named =
-      let f = for-name e c i (found-for b c i below) in
-      rw (f .0, f .1) at (used-of e used (good-entry b (h .good) (findEntry b c i) below) .name)
+      let f = for-parts e c i (found-for b c i below) in
+      rw (f .0, f .1) at (used-of e used (good-entry b (h .good) (findEntry b c i) below) .range)
 
   pub key-ranged : (1 ≤ c) × (c ≤ 3)
-  unfolding named
+  unfolding inRange
   key-ranged = (leb-true 1 c (and-left (leb 1 c) _ key-named), leb-true c 3 (and-left (leb c 3) _ (and-right (leb 1 c) _ key-named)))
 
   pub has-key-right : keyRight c (keyFor b c i) ≡ true

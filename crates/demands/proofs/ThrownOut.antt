@@ -1,4 +1,4 @@
--- Receivers that do not meet demand 3, already by the calls of any one cipher; and senders that do not keep its rules. Assumes nothing.
+-- Receivers that do not meet demand 3, already by the calls of any one cipher; and senders that do not keep its rules.
 use mathlib.Core.Path.{_≡_, refl, sym, ap, _∙_}
 use mathlib.Core.Bool.{Bool, true, false, _&&_, _||_, not, or-true}
 use mathlib.Core.List.{List, [], _∷_, _++_}
@@ -10,21 +10,20 @@ use Rattle.octets.specs.Lists.{iterate, Each}
 use Rattle.octets.specs.Bits.{octet, octetsFrom}
 use Rattle.octets.proofs.TestLaws.{and-false-r}
 use Rattle.scramble.specs.Sequence.{keyNumber, stepped, P}
-use Rattle.ciphers.specs.Numbers.{sessionSlots}
+use Rattle.sizes.specs.Ciphers.{sessionSlots, noVector, scrambles}
 use Rattle.ciphers.specs.Keystream.{stream}
 use Rattle.ciphers.proofs.KeystreamLaws.{bits-stream}
 use Rattle.answers.specs.declared.Answer.{Answer}
 use Rattle.answers.specs.declared.Answer.the-variants.{Done}
 use Rattle.answers.specs.Numbers.{numberOf}
 use Rattle.voice.specs.declared.call.Call.{Call}
-use Rattle.voice.specs.Frame.{IsFrame, word, has, keyBit, ofSlot, protect}
-use Rattle.session.specs.Session.{noVector, scrambles}
+use Rattle.voice.specs.Frame.{IsFrame, word, inMask, keyBit, ofSlot, protect}
 use Rattle.voice.specs.Call.{noCall}
 use Rattle.voice.specs.Opening.{openOf}
 use Rattle.voice.specs.Slot.{lostOf, voiceOf}
 use Rattle.voice.proofs.FrameLaws.{protect-frame}
 use Rattle.voice.proofs.SlotSteps.{voice-heard}
-use Rattle.session.specs.Samples.{seed}
+use Rattle.openings.specs.Samples.{seed}
 use Rattle.demands.specs.Marked.{key0001}
 use Rattle.demands.specs.Talk.{Session, Talk, opening, joining, SlotKept, VectorKept, SessionKept, Full, slotCounts, Kept}
 use Rattle.demands.specs.Notices.{Notice, counts, slotNotices, startNotices, sessionNotices}
@@ -40,7 +39,7 @@ use Rattle.demands.proofs.Ones.{all-words, unturned, first-some}
 pub meets-in : (c : ℕ) (R : Receiver) → Meets3 R → MeetsIn c R
 meets-in c R m t e = m t
 
-word-speech : (mask : ℕ) (f g : List ℕ) → ((w : ℕ) → w < 4 → has mask w ≡ true → word w f ≡ word w g) → SameSpeech mask f g
+word-speech : (mask : ℕ) (f g : List ℕ) → ((w : ℕ) → w < 4 → inMask mask w ≡ true → word w f ≡ word w g) → SameSpeech mask f g
 word-speech mask f g h w j lw lj e = word-bits w f g (h w lw e) j (omega arith)
 
 module _ (c : ℕ) (r : (1 ≤ c) × (c ≤ 3)) where

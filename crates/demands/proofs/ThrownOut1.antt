@@ -1,5 +1,5 @@
 -- What demand 1 throws out: every key but one, histories in which no finish was done (version one began while the key loader was still sending),
--- and keys that were erased before the opening. Assumes nothing.
+-- and keys that were erased before the opening.
 use mathlib.Core.Path.{_≡_, refl, sym, ap, subst, _∙_}
 use mathlib.Core.Bool.{Bool, true, false, _&&_, true≢false}
 use mathlib.Core.List.{List, [], _∷_, _++_}
@@ -45,7 +45,7 @@ not-by (book.Erase d j) t e = refl
 unfinished : (h : History) → NoneDone finishing h → (c i : ℕ) → isFinished (book.telling (keyOperations h) c i) ≡ false
 unfolding keyOperations book.telling
 unfinished [] n c i = refl
-unfinished ((OfBook o, a) ∷ h) n c i = go (isDone a) (book.names c i o) (n .0) (book.telling (keyOperations h) c i) (unfinished h (n .1) c i)
+unfinished ((OfBook o, a) ∷ h) n c i = go (isDone a) (book.concerns c i o) (n .0) (book.telling (keyOperations h) c i) (unfinished h (n .1) c i)
   where
     go : (d m : Bool) → (d && isFinish o) ≡ false → (t : book.Progress) → isFinished t ≡ false → isFinished (pick (d && m) (book.tells o t) t) ≡ false
     go true true e t f = not-by o t e
@@ -92,8 +92,8 @@ module _ (n c i d : ℕ) (half k : List ℕ) where
 
 -- ---- one opening stands, and so one key is loaded
 
-module _ (opens : ℕ → ℕ → Operation → Type 0) (renews : Operation → Bool) (named : Operation → ℕ × ℕ)
-    (renewing : (c i : ℕ) (o : Operation) → opens c i o → renews o ≡ true) (naming : (c i : ℕ) (o : Operation) → opens c i o → (c, i) ≡ named o) where
+module _ (opens : ℕ → ℕ → Operation → Type 0) (renews : Operation → Bool) (inRange : Operation → ℕ × ℕ)
+    (renewing : (c i : ℕ) (o : Operation) → opens c i o → renews o ≡ true) (naming : (c i : ℕ) (o : Operation) → opens c i o → (c, i) ≡ inRange o) where
   -- what is done and renews is not among what came since
   not-since : (x : Operation × Answer) (o : Operation) → renews o ≡ true → (o, Done) ≡ x → (isDone (x .1) && renews (x .0)) ≡ false → ⊥
   not-since x o r q e = true≢false (sym r ∙ (rw (← q) at e))
@@ -110,11 +110,11 @@ module _ (opens : ℕ → ℕ → Operation → Type 0) (renews : Operation → 
   -- the key is the one that was told of when the opening that stands was done
   module _ (h : History) (c : ℕ) (k : List ℕ) (l : Loaded opens renews h c k) where
     told-at : (since before : History) (o : Operation) → renews o ≡ true → NoneDone renews since → h ≡ since ++ ((o, Done) ∷ before)
-        → (c ≡ named o .0) × book.Told (keyOperations before) (named o .0) (named o .1) k
+        → (c ≡ inRange o .0) × book.Told (keyOperations before) (inRange o .0) (inRange o .1) k
     told-at since before o r n e =
         let q = one-opening (l .since) since (l .before) before (l .opening) o (renewing c (l .id) (l .opening) (l .opens-it)) r (l .still-stands) n
         (sym (l .is-history) ∙ e) in
-        let m : (c, l .id) ≡ named o = naming c (l .id) (l .opening) (l .opens-it) ∙ ap named (q .0) in
+        let m : (c, l .id) ≡ inRange o = naming c (l .id) (l .opening) (l .opens-it) ∙ ap inRange (q .0) in
         let t : book.Told (keyOperations before) c (l .id) k = rw (q .1) at (l .told) in
         (ap (λ (p : ℕ × ℕ). p .0) m, subst (λ (p : ℕ × ℕ). book.Told (keyOperations before) (p .0) (p .1) k) m t)
 

@@ -1,5 +1,4 @@
 -- What demand 2 throws out: slot operations that answer 0 with the speech of a fixed frame, or with speech as it came, whatever they do else.
--- Assumes nothing.
 use mathlib.Core.Path.{_≡_, refl, sym, ap, _∙_}
 use mathlib.Core.Bool.{Bool, true, false, not, or-true}
 use mathlib.Core.List.{List}
@@ -12,18 +11,18 @@ use Rattle.octets.specs.Bits.{bit, flip, Octets}
 use Rattle.octets.proofs.TestLaws.{agree}
 use Rattle.answers.specs.declared.Answer.{Answer}
 use Rattle.answers.specs.Numbers.{numberOf}
-use Rattle.ciphers.specs.Numbers.{sessionSlots}
+use Rattle.sizes.specs.Ciphers.{sessionSlots, noVector, scrambles}
 use Rattle.ciphers.specs.Keystream.{stream}
 use Rattle.ciphers.proofs.KeystreamLaws.{bits-stream}
 use Rattle.voice.specs.declared.call.Call.{Call}
-use Rattle.voice.specs.Frame.{frameOctets, has}
+use Rattle.sizes.specs.Frame.{frameOctets}
+use Rattle.voice.specs.Frame.{inMask}
 use Rattle.voice.specs.Call.{Standing, closed, bad, sending, receiving, standing, written}
 use Rattle.voice.specs.Slot.{voiceRefusals, voiceAfter, voiceOf}
 use Rattle.voice.proofs.SlotLaws.{voice-done, voice-taken}
 use Rattle.voice.proofs.SlotSteps.{voice-heard}
-use Rattle.session.specs.Session.{noVector, scrambles, sessionVector}
-use Rattle.session.specs.Ladder.{keyFor}
-use Rattle.session.specs.Samples.{seed}
+use Rattle.openings.specs.Ladder.{sessionVector, keyFor}
+use Rattle.openings.specs.Samples.{seed}
 use Rattle.demands.specs.Marked.{scrambling}
 use Rattle.demands.specs.Talk.{VectorKept}
 use Rattle.demands.specs.Demand2.{OnSlot, OnMessage, Demand2}
@@ -61,7 +60,7 @@ turned-apart a b k x y e = omega arith
 
 module _ (voice : OnSlot) (send : OnMessage) where
   -- at any call and any mask with a word, where ours opens a frame f
-  pub fixed-fails-2 : (call : Call) (mask w : ℕ) → w < 4 → has mask w ≡ true → (f : List ℕ) → numberOf (voiceOf call mask f .0) ≡ 0
+  pub fixed-fails-2 : (call : Call) (mask w : ℕ) → w < 4 → inMask mask w ≡ true → (f : List ℕ) → numberOf (voiceOf call mask f .0) ≡ 0
       → (g : List ℕ) → Fixed voice call mask g → Demand2 voice send → ⊥
   fixed-fails-2 call mask w lw h f z g fixed m =
       turned-apart (bit silence (56 * w + 0)) (bit loud (56 * w + 0)) _ (first-bits w lw .0) (first-bits w lw .1)

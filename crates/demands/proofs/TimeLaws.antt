@@ -1,4 +1,4 @@
--- What an operation is not refused came in its time. Assumes nothing.
+-- What an operation is not refused came in its time.
 use mathlib.Core.Path.{_≡_, refl, sym, ap, _∙_}
 use mathlib.Core.Bool.{Bool, true, false, _&&_, _||_, not, true≢false}
 use mathlib.Core.List.{List}
@@ -7,8 +7,8 @@ use lib.Dec.{leb, eqb}
 use borrow.Author.Tests.{eq-eqb, eqb-true, leb-false, not-true, not-false}
 use Rattle.octets.proofs.TestLaws.{and-left, and-right, or-neither}
 use Rattle.answers.proofs.OutcomeLaws.{NoneHolds}
-use Rattle.session.specs.Session.{scrambles}
-use Rattle.session.specs.Ladder as ladder
+use Rattle.sizes.specs.Ciphers.{scrambles}
+use Rattle.openings.specs.Ladder as ladder
 use Rattle.voice.specs.declared.call.Call.{Call}
 use Rattle.voice.specs.Call.{closedEnd, sendingEnd, receivingEnd, Standing, closed, sending, receiving, standing, isBad, stands, receives, endRefusals}
 use Rattle.voice.specs.Opening.{joinRefusals, openRefusals}

@@ -5,7 +5,7 @@ use mathlib.Core.Bool.{true, false}
 use Prim.Native.Nat.{ℕ, _<_}
 use Rattle.answers.specs.Numbers.{numberOf}
 use Rattle.voice.specs.declared.call.Call.{Call}
-use Rattle.voice.specs.Frame.{word, has}
+use Rattle.voice.specs.Frame.{word, inMask}
 use Rattle.voice.specs.Call.{noCall}
 use Rattle.voice.specs.Opening.{openOf, joinOf}
 use Rattle.voice.specs.Slot.{lostOf, voiceOf}
@@ -16,7 +16,7 @@ use Rattle.demands.specs.Log.{Receiver, Report, Event, answered, arrived
 
 pub record RightSlot (r : Report) : Type 0 where
   -- every word handed out as opened is the word the sender spoke, whole
-  pub opened : numberOf (r .answer) ≡ 0 → (w : ℕ) → w < 4 → has (r .mask) w ≡ true → word w (r .frame) ≡ word w (r .spoken)
+  pub opened : numberOf (r .answer) ≡ 0 → (w : ℕ) → w < 4 → inMask (r .mask) w ≡ true → word w (r .frame) ≡ word w (r .spoken)
   -- each word that arrives in a session whose vector reached the receiver is handed out
   pub handed : r .reached ≡ true → numberOf (r .answer) ≡ 0
   -- each word that arrives in another session is held as it came

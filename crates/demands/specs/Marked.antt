@@ -17,15 +17,15 @@ use Rattle.keyentry.specs.Entry.{entryOctets, keyPlace}
 use Rattle.keybook.specs.Book.{bookOctets}
 use Rattle.keybook.specs.Operations.{finishOf}
 use Rattle.voice.specs.declared.call.Call.{Call}
-use Rattle.voice.specs.Frame.{frameOctets}
-use Rattle.session.specs.Session.{vectorOctets, noVector}
-use Rattle.session.specs.Samples.{scramble0001, desABCD, seed}
+use Rattle.sizes.specs.Frame.{frameOctets}
+use Rattle.sizes.specs.Ciphers.{vectorOctets, noVector}
+use Rattle.openings.specs.Samples.{scramble0001, desABCD, seed}
 use Rattle.voice.specs.Call.{noCall, receiving, written}
 use Rattle.voice.specs.Opening.{openOf, joinOf}
 use Rattle.voice.specs.Slot.{topMask, voiceOf}
 use Rattle.voice.specs.Vector.{announceOf}
 use Rattle.data.specs.declared.packet.Packet.{Packet}
-use Rattle.data.specs.Opening.{opened}
+use Rattle.data.specs.Opening.{newPacket}
 use Rattle.data.specs.Message.{counted, ofMessage, messageOf}
 
 -- scramble key 0001
@@ -58,7 +58,7 @@ frame8001 =
 
 -- a scramble packet of DCALL messages under key 0001, before its first
 abbrev pub dcalls : Packet
-dcalls = opened 1 1 noVector scramble0001
+dcalls = newPacket 1 1 noVector scramble0001
 
 -- ABCDEFGHIJKLMNOPQRST, and C143434245524730485A4D2C580E30D150545540
 abbrev pub letters : List ℕ

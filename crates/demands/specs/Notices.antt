@@ -3,7 +3,7 @@ use mathlib.Core.List.{List, [], _∷_, _++_, map}
 use mathlib.Core.Bool.{Bool, true, false, _&&_, _||_, not}
 use Prim.Native.Nat.{ℕ}
 use lib.ListN.{drop}
-use Rattle.session.specs.Session.{scrambles}
+use Rattle.sizes.specs.Ciphers.{scrambles}
 use Rattle.voice.specs.Opening.{superframeSlots}
 use Rattle.demands.specs.Talk.{Slot, Session, Talk, WayIn, opening, joining}
 

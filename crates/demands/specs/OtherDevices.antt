@@ -11,7 +11,7 @@ use Rattle.answers.specs.Numbers.{numberOf}
 use Rattle.answers.specs.Outcomes.{Refusals, outcome}
 use Rattle.ciphers.specs.Keystream.{stream}
 use Rattle.keybook.specs.Book.{bookOctets, goodBook}
-use Rattle.session.specs.Ladder.{keyFor}
+use Rattle.openings.specs.Ladder.{keyFor}
 use Rattle.voice.specs.declared.call.Call.{Call}
 use Rattle.voice.specs.Call.{sendingEnd, receivingEnd, noCall, standing, written}
 use Rattle.voice.specs.Frame.{ofSlot, protect}

@@ -9,9 +9,10 @@ use Rattle.octets.specs.Tests.{pick}
 use Rattle.octets.specs.Bits.{bit}
 use Rattle.answers.specs.declared.Answer.{Answer}
 use Rattle.answers.specs.Numbers.{numberOf}
-use Rattle.ciphers.specs.Numbers.{sessionSlots}
+use Rattle.sizes.specs.Ciphers.{sessionSlots}
 use Rattle.voice.specs.declared.call.Call.{Call}
-use Rattle.voice.specs.Frame.{speechBits, has, ofSlot, protect}
+use Rattle.sizes.specs.Frame.{speechBits}
+use Rattle.voice.specs.Frame.{inMask, ofSlot, protect}
 use Rattle.voice.specs.Call.{noCall}
 use Rattle.voice.specs.Opening.{openOf}
 use Rattle.voice.specs.Slot.{lostOf, voiceOf}
@@ -23,7 +24,7 @@ use Rattle.demands.specs.Demand3.{MeetsTalk}
 
 -- two frames have the same speech, spare bits and other words aside
 abbrev pub SameSpeech : ℕ → List ℕ → List ℕ → Type 0
-SameSpeech mask f g = (w j : ℕ) → w < 4 → j < 49 → has mask w ≡ true → bit f (56 * w + j) ≡ bit g (56 * w + j)
+SameSpeech mask f g = (w j : ℕ) → w < 4 → j < 49 → inMask mask w ≡ true → bit f (56 * w + j) ≡ bit g (56 * w + j)
 
 -- ---- a slot operation that, at a call and a mask, answers 0 wherever ours does, and whose speech is that of `out` of what came
 
@@ -124,7 +125,7 @@ restarting ks p mask frame = protect (ofSlot ks 0) mask frame
 -- version two: keystream is spent only on the words that are sent. How many words before word w are
 abbrev pub spent : ℕ → ℕ → ℕ
 spent mask zero = 0
-spent mask (suc w) = pick (has mask w) 1 0 + spent mask w
+spent mask (suc w) = pick (inMask mask w) 1 0 + spent mask w
 
 abbrev pub saving : Sending
 saving ks p mask frame = protect (λ n. ofSlot ks p (speechBits * spent mask (n / speechBits) + n % speechBits)) mask frame

@@ -6,9 +6,9 @@ use Prim.Native.Nat.{ℕ, _≤_, _<_}
 use lib.ListN.{length}
 use Rattle.octets.specs.Lists.{Each}
 use Rattle.generator.specs.Generator.{nextVector}
-use Rattle.session.specs.Session.{sessionVector}
+use Rattle.openings.specs.Ladder.{sessionVector}
 use Rattle.voice.specs.declared.call.Call.{Call}
-use Rattle.voice.specs.Frame.{IsFrame, word, has}
+use Rattle.voice.specs.Frame.{IsFrame, word, inMask}
 use Rattle.voice.specs.Call.{noCall}
 use Rattle.voice.specs.Opening.{startOf}
 use Rattle.voice.specs.Slot.{voiceOf}
@@ -65,4 +65,4 @@ Follows c v (x ∷ xs) = (x .vector ≡ sessionVector c v) × Follows c (nextVec
 
 -- a word that the mask doesn't have goes out as it was spoken
 abbrev pub OthersAsSpoken : Slot → Type 0
-OthersAsSpoken x = (w : ℕ) → w < 4 → has (x .mask) w ≡ false → word w (x .sent) ≡ word w (x .spoken)
+OthersAsSpoken x = (w : ℕ) → w < 4 → inMask (x .mask) w ≡ false → word w (x .sent) ≡ word w (x .spoken)

@@ -6,14 +6,13 @@ use Prim.Native.Nat.{ℕ, suc, _+_, _-_, _*_, _≤_, _<_}
 use lib.ListN.{length, replicate}
 use Rattle.octets.specs.Bits.{bit, flip}
 use Rattle.octets.specs.Lists.{allZero, Each}
-use Rattle.ciphers.specs.Numbers.{keyOctets, sessionSlots}
+use Rattle.sizes.specs.Ciphers.{keyOctets, sessionSlots, keyRoom, vectorOctets, scrambles}
 use Rattle.ciphers.specs.Keystream.{stream}
-use Rattle.keyentry.specs.Entry.{keyRoom, isReady}
+use Rattle.keyentry.specs.Entry.{isReady}
 use Rattle.keybook.specs.Book.{goodBook}
 use Rattle.keybook.specs.Operations as book
-use Rattle.voice.specs.Frame.{IsFrame, has}
-use Rattle.session.specs.Session.{vectorOctets, scrambles}
-use Rattle.session.specs.Ladder.{keyFor}
+use Rattle.voice.specs.Frame.{IsFrame, inMask}
+use Rattle.openings.specs.Ladder.{keyFor}
 
 -- a slot: its mask, the frame of four words that the sender spoke, the frame that it put on the air, and whether that arrived
 pub record Slot : Type 0 where
@@ -44,10 +43,10 @@ pub data WayIn : Type 0 where
 -- what goes on the air in slot p of a session with keystream ks. Nothing is asked of a word that the mask doesn't have: it gave way to signalling
 pub record OnAir (ks : ℕ → ℕ) (p : ℕ) (x : Slot) : Type 0 where
   -- bit j of word w, where it is speech: the spoken bit xor stream bit 196 p + 49 w + j
-  pub speech : (w j : ℕ) → w < 4 → j < 49 → has (x .mask) w ≡ true
+  pub speech : (w j : ℕ) → w < 4 → j < 49 → inMask (x .mask) w ≡ true
       → bit (x .sent) (56 * w + j) ≡ flip (bit (x .spoken) (56 * w + j)) (ks (196 * p + 49 * w + j))
   -- the last seven bits of the word, as spoken
-  pub spare : (w j : ℕ) → w < 4 → 49 ≤ j → j < 56 → has (x .mask) w ≡ true → bit (x .sent) (56 * w + j) ≡ bit (x .spoken) (56 * w + j)
+  pub spare : (w j : ℕ) → w < 4 → 49 ≤ j → j < 56 → inMask (x .mask) w ≡ true → bit (x .sent) (56 * w + j) ≡ bit (x .spoken) (56 * w + j)
 
 pub record SlotKept (ks : ℕ → ℕ) (p : ℕ) (x : Slot) : Type 0 where
   pub mask : x .mask ≤ 15
@@ -88,6 +87,6 @@ pub record Kept (t : Talk) : Type 0 where
 -- a good book whose ready entry for a cipher and a key ID holds this key, with zeros behind it
 pub record HasKey (b : List ℕ) (c i : ℕ) (key : List ℕ) : Type 0 where
   pub good : goodBook b ≡ true
-  pub there : book.has b c i ≡ true
+  pub there : book.hasEntry b c i ≡ true
   pub ready : isReady (book.entryFor b c i) ≡ true
   pub same : keyFor b c i ≡ key ++ replicate (keyRoom - keyOctets c) 0

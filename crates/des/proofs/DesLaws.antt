@@ -1,5 +1,4 @@
 -- What other crates cite: DES gives eight octets, and round keys set out before the first round are the round keys; and where the boxes look.
--- Assumes nothing.
 use mathlib.Core.Path.{_≡_}
 use mathlib.Core.List.{List}
 use Prim.Native.Nat.{ℕ}

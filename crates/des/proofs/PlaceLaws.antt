@@ -1,5 +1,4 @@
 -- Tables whose entries are places: each is one computed test.
--- Assumes nothing.
 use mathlib.Core.Path.{_≡_, refl}
 use mathlib.Core.Bool.{Bool, true, _&&_}
 use mathlib.Core.List.{List}

@@ -1,5 +1,4 @@
 -- The rounds: bits stay bits, only the keys of rounds that were done count, and what the code has after each round.
--- Assumes nothing.
 use mathlib.Core.Path.{_≡_, refl, sym, ap, ap₂, _∙_}
 use mathlib.Core.List.{List, _++_}
 use Prim.Native.Nat.{ℕ, zero, suc, _+_, _<_}

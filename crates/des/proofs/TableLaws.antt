@@ -1,5 +1,4 @@
 -- The tables of a block: each stands where the code looks for it, and where it is put.
--- Assumes nothing.
 use mathlib.Core.Path.{_≡_, refl, sym, _∙_}
 use mathlib.Core.List.{List}
 use Prim.Native.Nat.{ℕ, _+_, _≤_}

@@ -1,5 +1,5 @@
 -- What FIPS 46-3's tables keep to, said otherwise than by writing them out: each rule is one computed test over the whole table, so that a slip which is made in
--- specs/ and in src/ alike is refused where it breaks one. IP, its inverse, E and permuted choice 1 are settled by theirs. Assumes nothing.
+-- specs/ and in src/ alike is refused where it breaks one. IP, its inverse, E and permuted choice 1 are settled by theirs.
 use mathlib.Core.Path.{_≡_, refl, sym, ap, _∙_}
 use mathlib.Core.Bool.{Bool, true, _&&_}
 use mathlib.Core.List.{List, [], _∷_, _++_}

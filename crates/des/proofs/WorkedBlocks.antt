@@ -1,5 +1,5 @@
 -- Worked blocks, which compute: a textbook's, and rows of SP 500-20's and SP 800-17's known answers, so chosen that together they look at each of the 512
--- selection entries. Assumes nothing.
+-- selection entries.
 use mathlib.Core.Path.{_≡_, refl}
 use mathlib.Core.List.{List, [], _∷_}
 use Prim.Native.Nat.{ℕ, _-_, _/_, _%_, _^_}

@@ -1,10 +1,10 @@
--- 7.2.3 of the standard: the first rows of its table. Assumes nothing.
+-- 7.2.3 of the standard: the first rows of its table.
 use mathlib.Core.Path.{_≡_, refl}
 use mathlib.Core.List.{List, [], _∷_, _++_}
 use Prim.Native.Nat.{ℕ}
 use Rattle.octets.specs.Lists.{iterate}
 use Rattle.octets.specs.Bits.{octet, octetsFrom}
-use Rattle.generator.specs.Generator.{loaded, announced, shifted, nextVector, aesVector}
+use Rattle.generator.specs.Generator.{filled, announced, shifted, nextVector, aesVector}
 
 -- ABCDEF12 34567890
 abbrev pub seed : List ℕ
@@ -19,13 +19,13 @@ abbrev pub third : List ℕ
 third = 0xC8 ∷ 0x3A ∷ 0xB2 ∷ 0x07 ∷ 0x3A ∷ 0x8D ∷ 0x80 ∷ 0xE8 ∷ []
 
 pub example-second : nextVector seed ≡ second
-unfolding nextVector announced iterate shifted loaded octetsFrom octet
+unfolding nextVector announced iterate shifted filled octetsFrom octet
 example-second = refl
 
 pub example-third : nextVector second ≡ third
-unfolding nextVector announced iterate shifted loaded octetsFrom octet
+unfolding nextVector announced iterate shifted filled octetsFrom octet
 example-third = refl
 
 pub example-aes : aesVector seed ≡ seed ++ second
-unfolding aesVector nextVector announced iterate shifted loaded octetsFrom octet
+unfolding aesVector nextVector announced iterate shifted filled octetsFrom octet
 example-aes = refl

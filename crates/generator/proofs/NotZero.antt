@@ -1,4 +1,4 @@
--- No vector but zeros is followed by zeros: the shift loses nothing, since b63 always feeds back. Assumes nothing.
+-- No vector but zeros is followed by zeros: the shift loses nothing, since b63 always feeds back.
 use mathlib.Core.Path.{_≡_, refl, sym, ap, _∙_}
 use mathlib.Core.Bool.{Bool, true, false}
 use mathlib.Core.List.{List}
@@ -11,8 +11,8 @@ use Rattle.octets.specs.Bits.{bit, octetsFrom, Bits, Octets}
 use Rattle.octets.proofs.BitLaws.{bit-octetsFrom, length-octetsFrom, octets-ext}
 use Rattle.octets.proofs.ListLaws.{zeros-are}
 use Rattle.octets.proofs.Zeros.{zeros-all, zeros-octets, zeros-bit}
-use Rattle.generator.specs.Generator.{loaded, announced, shifted, nextVector}
-use Rattle.generator.proofs.VectorLaws.{bits-loaded, bits-iterate}
+use Rattle.generator.specs.Generator.{filled, announced, shifted, nextVector}
+use Rattle.generator.proofs.VectorLaws.{bits-filled, bits-iterate}
 
 abbrev pub NoStage : (ℕ → ℕ) → Type 0
 NoStage b = (i : ℕ) → i < 64 → b i ≡ 0
@@ -43,9 +43,9 @@ announced-zero b h z i l =
     ∙ ap (λ (xs : List ℕ). bit xs (63 - i)) (zeros-are (octetsFrom 8 (λ k. b (63 - k))) 8 (length-octetsFrom 8 (λ k. b (63 - k))) z)
     ∙ zeros-bit 8 (63 - i))
 
-pub loaded-zero : (s : List ℕ) → length s ≡ 8 → Octets s → NoStage (loaded s) → s ≡ replicate 8 0
-unfolding loaded
-loaded-zero s l o z =
+pub filled-zero : (s : List ℕ) → length s ≡ 8 → Octets s → NoStage (filled s) → s ≡ replicate 8 0
+unfolding filled
+filled-zero s l o z =
     octets-ext s (replicate 8 0) o (zeros-octets 8) l
     (λ k h.
     let e : 63 - (63 - k) ≡ k = omega arith in
@@ -58,6 +58,6 @@ next-not-zero s l o n = go (allZero (nextVector s)) refl
     go : (t : Bool) → allZero (nextVector s) ≡ t → t ≡ false
     go false e = refl
     go true e =
-        let register = announced-zero (iterate shifted 64 (loaded s)) (bits-iterate 64 (loaded s) (bits-loaded s)) e in
-        let zeros = loaded-zero s l o (shifts-back 64 (loaded s) (bits-loaded s) register) in
+        let register = announced-zero (iterate shifted 64 (filled s)) (bits-iterate 64 (filled s) (bits-filled s)) e in
+        let zeros = filled-zero s l o (shifts-back 64 (filled s) (bits-filled s) register) in
         sym (ap allZero zeros ∙ zeros-all 8) ∙ n

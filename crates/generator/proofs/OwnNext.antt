@@ -1,4 +1,4 @@
--- No vector but zeros is its own next: L(v) is v only for zeros. The taps of the generator besides the one that drops out are five, an odd number. Assumes nothing.
+-- No vector but zeros is its own next: L(v) is v only for zeros. The taps of the generator besides the one that drops out are five, an odd number.
 use mathlib.Core.Path.{_≡_, refl, sym, ap, ap₂, _∙_}
 use mathlib.Core.List.{List, [], _∷_, map}
 use Prim.Native.Nat.{ℕ, zero, suc, _+_, _-_, _*_, _%_, _<_}
@@ -9,9 +9,9 @@ use lib.ListN.{length, replicate}
 use Rattle.octets.specs.Lists.{iterate}
 use Rattle.octets.specs.Bits.{bit, Octets}
 use Rattle.octets.proofs.BitLaws.{bit-octetsFrom}
-use Rattle.generator.specs.Generator.{loaded, announced, shifted, nextVector}
-use Rattle.generator.proofs.VectorLaws.{bits-loaded, bits-iterate}
-use Rattle.generator.proofs.NotZero.{NoStage, loaded-zero}
+use Rattle.generator.specs.Generator.{filled, announced, shifted, nextVector}
+use Rattle.generator.proofs.VectorLaws.{bits-filled, bits-iterate}
+use Rattle.generator.proofs.NotZero.{NoStage, filled-zero}
 
 -- ---- sums over places, of a sequence
 
@@ -142,12 +142,12 @@ module _ (b : ℕ → ℕ) where
     none-in i l = let e : 63 - (63 - i) ≡ i = omega arith in rw e at (sym (first (63 - i) (omega arith)) ∙ none-out (63 - i))
 
 pub own-next-zero : (v : List ℕ) → length v ≡ 8 → Octets v → nextVector v ≡ v → v ≡ replicate 8 0
-unfolding nextVector announced loaded
-own-next-zero v l o e = loaded-zero v l o (none-in (loaded v) own)
+unfolding nextVector announced filled
+own-next-zero v l o e = filled-zero v l o (none-in (filled v) own)
   where
-    own : (i : ℕ) → i < 64 → iterate shifted 64 (loaded v) i ≡ loaded v i
+    own : (i : ℕ) → i < 64 → iterate shifted 64 (filled v) i ≡ filled v i
     own i h =
         let q : 63 - (63 - i) ≡ i = omega arith in
         rw q at
-        (sym (bit-octetsFrom 8 (λ k. iterate shifted 64 (loaded v) (63 - k)) (λ k. bits-iterate 64 (loaded v) (bits-loaded v) (63 - k)) (63 - i) (omega arith))
+        (sym (bit-octetsFrom 8 (λ k. iterate shifted 64 (filled v) (63 - k)) (λ k. bits-iterate 64 (filled v) (bits-filled v) (63 - k)) (63 - i) (omega arith))
         ∙ ap (λ (xs : List ℕ). bit xs (63 - i)) e)

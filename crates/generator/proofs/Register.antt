@@ -1,4 +1,4 @@
--- The register in a number: what loading, shifting and storing do to its stages. Assumes nothing.
+-- The register in a number: what loading, shifting and storing do to its stages.
 use mathlib.Core.Path.{_≡_, sym, ap, _∙_}
 use mathlib.Core.List.{List}
 use Prim.Native.Nat.{ℕ, zero, suc, _+_, _-_, _*_, _/_, _%_, _^_, _<_}
@@ -11,7 +11,7 @@ use lib.Pow.{shl-shr, shr-shr, high, low, mod-pow-add}
 use Rattle.octets.specs.Lists.{iterate}
 use Rattle.octets.specs.Bits.{bit}
 use Rattle.octets.proofs.BitLaws.{bit-at, bit-low, bit-octetsFrom, octet-ext, octetsFrom-same}
-use Rattle.generator.specs.Generator.{loaded, announced, shifted, nextVector}
+use Rattle.generator.specs.Generator.{filled, announced, shifted, nextVector}
 use Rattle.generator.specs.Held.{stages, Holds}
 use Rattle.generator.proofs.VectorLaws.{octets-announced}
 
@@ -49,13 +49,13 @@ unfoldable pub HoldsFirst : List ℕ → ℕ → ℕ → Type 0
 HoldsFirst octets n r = (j : ℕ) → j < 8 * n → stages r j ≡ bit octets (8 * n - 1 - j)
 
 module _ (octets : List ℕ) where
-  pub load-start : HoldsFirst octets 0 0
+  pub fill-start : HoldsFirst octets 0 0
   unfolding HoldsFirst
-  load-start j h = absurd (omega arith)
+  fill-start j h = absurd (omega arith)
 
-  pub load-more : (n r : ℕ) → n < 8 → getD octets n 0 < 256 → HoldsFirst octets n r → HoldsFirst octets (n + 1) (pushed r (getD octets n 0) 56 8)
+  pub fill-more : (n r : ℕ) → n < 8 → getD octets n 0 < 256 → HoldsFirst octets n r → HoldsFirst octets (n + 1) (pushed r (getD octets n 0) 56 8)
   unfolding HoldsFirst
-  load-more n r l small h j k = go (decLt j 8)
+  fill-more n r l small h j k = go (decLt j 8)
     where
       x : ℕ
       x = getD octets n 0
@@ -76,9 +76,9 @@ module _ (octets : List ℕ) where
           ∙ h (j - 8) (omega arith)
           ∙ ap (bit octets) f
 
-  pub load-done : (n r : ℕ) → n ≡ 8 → HoldsFirst octets n r → Holds r (loaded octets)
-  unfolding HoldsFirst Holds loaded
-  load-done n r e h i l =
+  pub fill-done : (n r : ℕ) → n ≡ 8 → HoldsFirst octets n r → Holds r (filled octets)
+  unfolding HoldsFirst Holds filled
+  fill-done n r e h i l =
       let f : 8 * n - 1 - i ≡ 63 - i = omega arith in
       h i (omega arith) ∙ ap (bit octets) f
 
@@ -113,11 +113,11 @@ module _ (b : ℕ → ℕ) where
   shift-more n r next h k i l = rw add-one (k i l ∙ shifted-agrees (stages r) (iterate shifted n b) h i l)
 
 -- what announces the number announces L(S)
-pub shift-done : (s : List ℕ) (n r : ℕ) → n ≡ 64 → Holds r (iterate shifted n (loaded s)) → announced (stages r) ≡ nextVector s
+pub shift-done : (s : List ℕ) (n r : ℕ) → n ≡ 64 → Holds r (iterate shifted n (filled s)) → announced (stages r) ≡ nextVector s
 unfolding Holds announced nextVector
 shift-done s n r e h =
-    octetsFrom-same 8 (λ k. stages r (63 - k)) (λ k. iterate shifted 64 (loaded s) (63 - k))
-    (λ k. h (63 - k) (omega arith) ∙ ap (λ (m : ℕ). iterate shifted m (loaded s) (63 - k)) e)
+    octetsFrom-same 8 (λ k. stages r (63 - k)) (λ k. iterate shifted 64 (filled s) (63 - k))
+    (λ k. h (63 - k) (omega arith) ∙ ap (λ (m : ℕ). iterate shifted m (filled s) (63 - k)) e)
 
 -- ---- storing
 

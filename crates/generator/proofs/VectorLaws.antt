@@ -1,4 +1,4 @@
--- The vectors are octets: eight for a session, sixteen for AES. Assumes nothing.
+-- The vectors are octets: eight for a session, sixteen for AES.
 use mathlib.Core.Path.{_≡_, _∙_}
 use mathlib.Core.List.{List}
 use Prim.Native.Nat.{ℕ, zero, suc, _-_}
@@ -7,11 +7,11 @@ use lib.ListN.{length, length-append}
 use Rattle.octets.specs.Lists.{iterate}
 use Rattle.octets.specs.Bits.{Bits, Octets}
 use Rattle.octets.proofs.BitLaws.{bit-lt, length-octetsFrom, octets-octetsFrom, octets-append}
-use Rattle.generator.specs.Generator.{loaded, announced, shifted, nextVector, aesVector}
+use Rattle.generator.specs.Generator.{filled, announced, shifted, nextVector, aesVector}
 
-pub bits-loaded : (s : List ℕ) → Bits (loaded s)
-unfolding loaded
-bits-loaded s i = bit-lt s (63 - i)
+pub bits-filled : (s : List ℕ) → Bits (filled s)
+unfolding filled
+bits-filled s i = bit-lt s (63 - i)
 
 pub bits-iterate : (n : ℕ) (b : ℕ → ℕ) → Bits b → Bits (iterate shifted n b)
 unfolding iterate shifted
@@ -30,11 +30,11 @@ octets-announced b h = octets-octetsFrom 8 (λ k. b (63 - k)) (λ k. h (63 - k))
 module _ (s : List ℕ) where
   pub length-nextVector : length (nextVector s) ≡ 8
   unfolding nextVector
-  length-nextVector = length-announced (iterate shifted 64 (loaded s))
+  length-nextVector = length-announced (iterate shifted 64 (filled s))
 
   pub octets-nextVector : Octets (nextVector s)
   unfolding nextVector
-  octets-nextVector = octets-announced (iterate shifted 64 (loaded s)) (bits-iterate 64 (loaded s) (bits-loaded s))
+  octets-nextVector = octets-announced (iterate shifted 64 (filled s)) (bits-iterate 64 (filled s) (bits-filled s))
 
   pub length-aesVector : length s ≡ 8 → length (aesVector s) ≡ 16
   unfolding aesVector

@@ -6,8 +6,8 @@ use Rattle.octets.specs.Lists.{iterate}
 use Rattle.octets.specs.Bits.{bit, octetsFrom}
 
 -- the register that holds announced octets: b63 comes first
-unfoldable pub loaded : List ℕ → ℕ → ℕ
-loaded octets i = bit octets (63 - i)
+unfoldable pub filled : List ℕ → ℕ → ℕ
+filled octets i = bit octets (63 - i)
 
 -- the octets that announce a register
 unfoldable pub announced : (ℕ → ℕ) → List ℕ
@@ -20,7 +20,7 @@ shifted b (suc i) = b i
 
 -- L(S), the next session's vector: the register after 64 shifts from S
 unfoldable pub nextVector : List ℕ → List ℕ
-nextVector s = announced (iterate shifted 64 (loaded s))
+nextVector s = announced (iterate shifted 64 (filled s))
 
 -- the AES input vector: S, then L(S)
 unfoldable pub aesVector : List ℕ → List ℕ

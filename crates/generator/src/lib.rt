@@ -3,13 +3,13 @@
 ghost use mathlib.Core.Path.{_≡_};
 ghost use Prim.Native.Nat.{_<_};
 ghost use lib.ListN.{length};
-ghost use Rattle.generator.specs.Generator.{loaded, announced, shifted, nextVector, aesVector};
+ghost use Rattle.generator.specs.Generator.{filled, announced, shifted, nextVector, aesVector};
 ghost use Rattle.generator.specs.Held.{stages, Holds};
 
 // The register that holds announced octets.
-fn load(vector: &[u8]) -> u64
+fn fill(vector: &[u8]) -> u64
     requires { ⌜ length (now vector) ≡ 8 ⌝ }
-    ensures { λ r. ⌜ Holds r (loaded (now (vector .entry))) ⌝ }
+    ensures { λ r. ⌜ Holds r (filled (now (vector .entry))) ⌝ }
 {
     let mut register: u64 = 0;
     let mut i = 0;
@@ -52,7 +52,7 @@ pub fn next_vector(vector: &[u8]) -> [u8; 8]
     requires { ⌜ length (now vector) ≡ 8 ⌝ }
     ensures { λ r. ⌜ r ≡ nextVector (now (vector .entry)) ⌝ }
 {
-    let mut register = load(vector);
+    let mut register = fill(vector);
     let mut i: usize = 0;
     while i < 64 {
         register = shift(register);

@@ -1,4 +1,4 @@
--- The cases of a book's rules and of finding an entry, each as a way through the code meets it. Assumes nothing.
+-- The cases of a book's rules and of finding an entry, each as a way through the code meets it.
 use Prim.Native.Nat.{ℕ, _+_, _*_, _-_, _≤_, _<_}
 use native.Mathlib.Nat.{add-sub-cancel-left}
 use native.Mathlib.Omega.{arith}
@@ -15,7 +15,7 @@ use Rattle.octets.proofs.Parts.{put-replaced}
 use Rattle.octets.specs.Tests.{allBelow}
 use Rattle.octets.proofs.TestLaws.{all-fails, and-false-r, all-reached}
 use Rattle.answers.specs.declared.Answer.the-variants.{WrongLength, OutOfRange, Bad}
-use Rattle.keyentry.specs.Entry.{entryOctets, cipherIn, idIn, named, entryRight}
+use Rattle.keyentry.specs.Entry.{entryOctets, cipherIn, idIn, inRange, entryRight}
 use Rattle.keybook.specs.Book.{entries, bookOctets, entryOf, withEntry, apart, goodBook, findEntry, bookRefusals, lookup}
 use Rattle.keybook.specs.declared.book.Found.the-variants.{At, Missing, Refused}
 
@@ -94,11 +94,11 @@ module _ (b : List ℕ) (c i : ℕ) where
   look-length h = rw (ne-eqb _ _ h)
 
   module _ (h : length b ≡ bookOctets) where
-    pub look-name : named c i ≡ false → Refused OutOfRange ≡ lookup b c i
+    pub look-name : inRange c i ≡ false → Refused OutOfRange ≡ lookup b c i
     unfolding lookup bookRefusals
     look-name n = rw (eq-eqb _ _ h, n)
 
-    module _ (n : named c i ≡ true) where
+    module _ (n : inRange c i ≡ true) where
       pub look-bad : goodBook b ≡ false → Refused Bad ≡ lookup b c i
       unfolding lookup bookRefusals
       look-bad g = rw (eq-eqb _ _ h, n, g)

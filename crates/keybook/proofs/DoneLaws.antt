@@ -1,5 +1,4 @@
 -- What each operation makes of the book where nothing refuses it: one entry is replaced, and the book is good.
--- Assumes nothing.
 use Prim.Native.Nat.{ℕ, _≤_, _<_}
 use native.Mathlib.Omega.{arith}
 use mathlib.Core.Path.{_≡_, refl, sym, ap, _∙_}
@@ -13,14 +12,14 @@ use Rattle.answers.specs.Numbers.{isDone}
 use Rattle.answers.specs.Outcomes.{Refusals}
 use Rattle.answers.proofs.OutcomeLaws.{NoneHolds, neverDone, none-left, none-right, done-none, none-settles}
 use Rattle.ciphers.specs.Keys.{keyAllowed}
-use Rattle.keyentry.specs.Entry.{entryOctets, cipherIn, idIn, keyIn, isReady, lacks, blank, newEntry, loadRefusals, loaded, completeRefusals, completed}
-use Rattle.keyentry.proofs.RightLaws.{Used, used-of, of-used, for-name, not-for}
-use Rattle.keyentry.proofs.WriteLaws.{named-used, blank-length, blank-cipher, blank-right, new-length, new-cipher, new-id, new-right, load-length, load-cipher, load-id, load-used, complete-length, complete-cipher, complete-id, complete-used}
+use Rattle.keyentry.specs.Entry.{entryOctets, cipherIn, idIn, keyIn, isReady, lacks, blank, newEntry, extendRefusals, extended, completeRefusals, completed}
+use Rattle.keyentry.proofs.RightLaws.{Used, used-of, of-used, for-parts, not-for}
+use Rattle.keyentry.proofs.WriteLaws.{in-range-used, blank-length, blank-cipher, blank-right, new-length, new-cipher, new-id, new-right, extend-length, extend-cipher, extend-id, extend-used, complete-length, complete-cipher, complete-id, complete-used}
 use Rattle.keybook.specs.Book.{entries, entryOf, withEntry, goodBook, findEntry, freeEntry, bookRefusals}
-use Rattle.keybook.specs.Operations.{has, placeRefusals, entryFor, withFor, beginRefusals, beginAfter, addRefusals, finishRefusals, eraseRefusals, noKey, notReady, readyRefusals, readyKeyOf}
+use Rattle.keybook.specs.Operations.{hasEntry, placeRefusals, entryFor, withFor, beginRefusals, beginAfter, addRefusals, finishRefusals, eraseRefusals, noKey, notReady, readyRefusals, readyKeyOf}
 use Rattle.keybook.proofs.BookLaws.{entry-length}
 use Rattle.keybook.proofs.GoodLaws.{none-for, found-for, good-sized, good-entry, good-apart, good-with}
-use Rattle.keybook.proofs.OperationLaws.{sized-by, named-by, good-by}
+use Rattle.keybook.proofs.OperationLaws.{sized-by, in-range-by, good-by}
 
 -- entry k of the book is now e
 pub record Changed (b after : List ℕ) (k : ℕ) (e : List ℕ) : Type 0 where
@@ -41,13 +40,13 @@ pub record There (b : List ℕ) (c i : ℕ) : Type 0 where
   pub used : cipherIn (entryFor b c i) ≡ 0 → ⊥
   pub right : Used (entryFor b c i)
 
-pub there : (b : List ℕ) (c i : ℕ) (rest : Refusals) → NoneHolds (bookRefusals b c i ++ ((not (has b c i), NoEntry) ∷ rest)) → There b c i
+pub there : (b : List ℕ) (c i : ℕ) (rest : Refusals) → NoneHolds (bookRefusals b c i ++ ((not (hasEntry b c i), NoEntry) ∷ rest)) → There b c i
 there b c i rest n =
     let m = none-left (bookRefusals b c i) _ n in
     let g = good-by b c i m in
     let l : findEntry b c i < entries = ltb-true _ _ (not-false _ (none-right (bookRefusals b c i) _ n .0)) in
-    let f = for-name (entryFor b c i) c i (found-for b c i l) in
-    let u : cipherIn (entryFor b c i) ≡ 0 → ⊥ = λ z. named-used c i (named-by b c i m) (sym (f .0) ∙ z) in
+    let f = for-parts (entryFor b c i) c i (found-for b c i l) in
+    let u : cipherIn (entryFor b c i) ≡ 0 → ⊥ = λ z. in-range-used c i (in-range-by b c i m) (sym (f .0) ∙ z) in
     record {
       was-good = g;
       below = l;
@@ -83,7 +82,7 @@ module _ (b : List ℕ) (c i : ℕ) where
   begin-never-done = refl
 
   pub add-never-done : (xs : List ℕ) → neverDone (addRefusals b c i xs) ≡ true
-  unfolding addRefusals bookRefusals loadRefusals
+  unfolding addRefusals bookRefusals extendRefusals
   add-never-done xs = refl
 
   pub finish-never-done : neverDone (finishRefusals b c i) ≡ true
@@ -111,38 +110,38 @@ module _ (b : List ℕ) (c i : ℕ) where
         below = l;
         long = new-length c i;
         good =
-            good-with b (freeEntry b) (newEntry c i) (sized-by b c i m) l (new-length c i) (good-by b c i m) (new-right c i (named-by b c i m))
+            good-with b (freeEntry b) (newEntry c i) (sized-by b c i m) l (new-length c i) (good-by b c i m) (new-right c i (in-range-by b c i m))
             (λ j lj d u. rw (new-cipher c i, new-id c i) (none j lj));
       }
 
   pub begin-used : NoneHolds (beginRefusals b c i) → c ≡ 0 → ⊥
   unfolding beginRefusals
-  begin-used n = named-used c i (named-by b c i (none-left (bookRefusals b c i) _ n))
+  begin-used n = in-range-used c i (in-range-by b c i (none-left (bookRefusals b c i) _ n))
 
   module _ (xs : List ℕ) (n : NoneHolds (addRefusals b c i xs)) where
     pub add-there : There b c i
     unfolding addRefusals
-    add-there = there b c i (loadRefusals (entryFor b c i) xs) (n .1)
+    add-there = there b c i (extendRefusals (entryFor b c i) xs) (n .1)
 
-    none-load : NoneHolds (loadRefusals (entryFor b c i) xs)
+    none-load : NoneHolds (extendRefusals (entryFor b c i) xs)
     unfolding addRefusals
-    none-load = none-right (bookRefusals b c i) ((not (has b c i), NoEntry) ∷ loadRefusals (entryFor b c i) xs) (n .1) .1
+    none-load = none-right (bookRefusals b c i) ((not (hasEntry b c i), NoEntry) ∷ extendRefusals (entryFor b c i) xs) (n .1) .1
 
     pub add-not-ready : isReady (entryFor b c i) ≡ false
-    unfolding loadRefusals
+    unfolding extendRefusals
     add-not-ready = none-load .0
 
     pub add-fits : length xs ≤ lacks (entryFor b c i)
-    unfolding loadRefusals
+    unfolding extendRefusals
     add-fits = ltb-false _ _ (none-load .1 .0)
 
-    pub add-changed : Changed b (withFor b c i (loaded (entryFor b c i) xs)) (findEntry b c i) (loaded (entryFor b c i) xs)
+    pub add-changed : Changed b (withFor b c i (extended (entryFor b c i) xs)) (findEntry b c i) (extended (entryFor b c i) xs)
     add-changed =
         let t = add-there in
         let e = entryFor b c i in
-        same-name b c i (loaded e xs) t (load-length e xs (t .long) (t .right) add-fits)
-        (load-used e xs (t .long) (t .right) add-fits add-not-ready)
-        (load-cipher e xs (t .long) (t .right) add-fits) (load-id e xs (t .long) (t .right) add-fits)
+        same-name b c i (extended e xs) t (extend-length e xs (t .long) (t .right) add-fits)
+        (extend-used e xs (t .long) (t .right) add-fits add-not-ready)
+        (extend-cipher e xs (t .long) (t .right) add-fits) (extend-id e xs (t .long) (t .right) add-fits)
 
   module _ (n : NoneHolds (finishRefusals b c i)) where
     pub finish-there : There b c i
@@ -151,7 +150,7 @@ module _ (b : List ℕ) (c i : ℕ) where
 
     none-complete : NoneHolds (completeRefusals (entryFor b c i))
     unfolding finishRefusals
-    none-complete = none-right (bookRefusals b c i) ((not (has b c i), NoEntry) ∷ completeRefusals (entryFor b c i)) n .1
+    none-complete = none-right (bookRefusals b c i) ((not (hasEntry b c i), NoEntry) ∷ completeRefusals (entryFor b c i)) n .1
 
     pub finish-not-ready : isReady (entryFor b c i) ≡ false
     unfolding completeRefusals
@@ -203,6 +202,6 @@ handed b c i k q =
     let n = done-none (readyRefusals b c i) noKey (keyIn (entryFor b c i)) (ready-never-done b c i) (ap (λ (o : Answer × List ℕ). isDone (o .0)) q) in
     record {
       from = there b c i rest n;
-      ready = not-false _ (none-right (bookRefusals b c i) ((not (has b c i), NoEntry) ∷ rest) n .1 .0);
+      ready = not-false _ (none-right (bookRefusals b c i) ((not (hasEntry b c i), NoEntry) ∷ rest) n .1 .0);
       is = ap (λ (o : Answer × List ℕ). o .1) (sym q ∙ none-settles (readyRefusals b c i) noKey (Done, keyIn (entryFor b c i)) n);
     }

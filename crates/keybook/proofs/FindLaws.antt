@@ -1,4 +1,4 @@
--- Which entry is for a cipher and key ID once one entry was replaced. Assumes nothing.
+-- Which entry is for a cipher and key ID once one entry was replaced.
 use Prim.Native.Nat.{ℕ, _*_, _≤_, _<_}
 use native.Mathlib.Decide.{ℕ-discrete, decLt}
 use native.Mathlib.Omega.{arith}

@@ -1,4 +1,4 @@
--- A good book: its rules as facts, and what keeps it good when one entry is replaced. Assumes nothing.
+-- A good book: its rules as facts, and what keeps it good when one entry is replaced.
 use Prim.Native.Nat.{ℕ, _+_, _*_, _≤_, _<_}
 use native.Mathlib.Decide.{ℕ-discrete, decLt}
 use native.Mathlib.Omega.{arith}
@@ -14,7 +14,7 @@ use Rattle.octets.specs.Tests.{firstBelow}
 use Rattle.octets.proofs.TestLaws.{all-at, all-intro, and-left, and-right, first-is, first-all, first-holds}
 use Rattle.keyentry.specs.Entry.{entryOctets, cipherIn, idIn, entryRight, isFor}
 use Rattle.keybook.specs.Book.{entries, bookOctets, entryOf, withEntry, apart, goodBook, findEntry}
-use Rattle.keyentry.proofs.RightLaws.{for-name, name-for, not-for}
+use Rattle.keyentry.proofs.RightLaws.{for-parts, name-for, not-for}
 use Rattle.keybook.proofs.BookLaws.{entry-length, rightAt}
 
 -- ---- the entries of a book
@@ -43,7 +43,7 @@ module _ (b : List ℕ) (g : goodBook b ≡ true) where
   -- the entry for a cipher and key ID is found where it stands
   pub find-is : (c i k : ℕ) → k < entries → (c ≡ 0 → ⊥) → isFor c i (entryOf b k) ≡ true → findEntry b c i ≡ k
   find-is c i k l n f =
-      let p = for-name (entryOf b k) c i f in
+      let p = for-parts (entryOf b k) c i f in
       rw (p .0, p .1) at (own-place k l (λ z. n (sym (p .0) ∙ z)))
 
   pub good-apart : Apart b

@@ -1,5 +1,5 @@
 -- Over every list of key operations on an all-zero book, the key that is handed out for a cipher type and key ID is the
--- one that their history tells of. Assumes nothing.
+-- one that their history tells of.
 use Prim.Native.Nat.{ℕ, _-_, _<_}
 use native.Mathlib.Omega.{arith}
 use mathlib.Core.Path.{_≡_, sym, ap, ap₂, _∙_}
@@ -9,16 +9,16 @@ use lib.ListN.{length}
 use lib.Dec.{eqb}
 use borrow.Author.Tests.{lt-ltb, eq-eqb}
 use Rattle.ciphers.proofs.KeyLaws.{padded-allowed}
-use Rattle.ciphers.proofs.NumberLaws.{key-at-most}
-use Rattle.ciphers.specs.Numbers.{keyOctets}
+use Rattle.sizes.proofs.SizeLaws.{key-at-most}
+use Rattle.sizes.specs.Ciphers.{keyOctets, keyRoom}
 use Rattle.ciphers.specs.Keys.{keyAllowed}
 use Rattle.answers.specs.declared.Answer.the-variants.{Done}
 use Rattle.answers.proofs.OutcomeLaws.{NoneHolds, none-settles}
-use Rattle.keyentry.specs.Entry.{cipherIn, keyRoom, keyIn, named}
-use Rattle.keyentry.proofs.RightLaws.{used-of, for-name}
+use Rattle.keyentry.specs.Entry.{cipherIn, keyIn, inRange}
+use Rattle.keyentry.proofs.RightLaws.{used-of, for-parts}
 use Rattle.keyentry.proofs.WriteLaws.{keyLoaded, loaded-count, ready-whole}
 use Rattle.keybook.specs.Book.{entries, bookOctets, findEntry, bookRefusals}
-use Rattle.keybook.specs.Operations.{has, entryFor, noKey, notReady, readyRefusals, readyKeyOf}
+use Rattle.keybook.specs.Operations.{hasEntry, entryFor, noKey, notReady, readyRefusals, readyKeyOf}
 use Rattle.keybook.specs.History.{Operation, History, finished, telling, bookAfter, history, padded, Told}
 use Rattle.keybook.proofs.GoodLaws.{good-sized, good-entry, found-for}
 use Rattle.keybook.proofs.DoneLaws.{handed}
@@ -57,16 +57,16 @@ module _ (os : List Operation) (c i : ℕ) (xs : List ℕ) (f : telling (history
   is-there : findEntry b c i < entries
   is-there = used-found b c i (good-sized b (always-good os)) (has-finished .used)
 
-  in-range : named c i ≡ true
+  in-range : inRange c i ≡ true
   in-range =
-      let m = for-name (entryFor b c i) c i (found-for b c i is-there) in
-      ap₂ named (sym (m .0)) (sym (m .1)) ∙ used-of (entryFor b c i) (has-finished .used) (good-entry b (always-good os) (findEntry b c i) is-there) .name
+      let m = for-parts (entryFor b c i) c i (found-for b c i is-there) in
+      ap₂ inRange (sym (m .0)) (sym (m .1)) ∙ used-of (entryFor b c i) (has-finished .used) (good-entry b (always-good os) (findEntry b c i) is-there) .range
 
   none-refuses : NoneHolds (readyRefusals b c i)
   unfolding readyRefusals bookRefusals notReady
   none-refuses =
       let sized : not (eqb (length b) bookOctets) ≡ false = rw (eq-eqb _ _ (good-sized b (always-good os))) in
-      let has-it : not (has b c i) ≡ false = rw (lt-ltb _ _ is-there) in
+      let has-it : not (hasEntry b c i) ≡ false = rw (lt-ltb _ _ is-there) in
       (sized, (rw in-range, (rw (always-good os), (has-it, (ap not (has-finished .ready), tt)))))
 
   given : readyKeyOf b c i ≡ (Done, keyIn (entryFor b c i))

@@ -1,5 +1,5 @@
 -- After every list of key operations on an all-zero book, it is good, and holds for each cipher type and key ID what
--- their history tells. Assumes nothing.
+-- their history tells.
 use Prim.Native.Nat.{ℕ, _+_, _*_, _-_, _≤_, _<_}
 use native.Mathlib.Decide.{ℕ-discrete}
 use native.Mathlib.Omega.{arith}
@@ -11,7 +11,7 @@ use lib.Dec.{eqb}
 use borrow.Author.Tests.{eq-eqb, ne-eqb, eqb-true}
 use Rattle.octets.specs.Lists.{allZero}
 use Rattle.octets.proofs.ListLaws.{padded-at, zeros-are}
-use Rattle.ciphers.proofs.NumberLaws.{key-at-most}
+use Rattle.sizes.proofs.SizeLaws.{key-at-most}
 use Rattle.octets.specs.Tests.{pick, allBelow}
 use Rattle.octets.proofs.TestLaws.{and-left, and-right, first-holds}
 use Rattle.answers.specs.declared.Answer.{Answer}
@@ -19,12 +19,13 @@ use Rattle.answers.specs.declared.Answer.the-variants.{Done}
 use Rattle.answers.specs.Numbers.{isDone}
 use Rattle.answers.specs.Outcomes.{Refusals, outcome}
 use Rattle.answers.proofs.OutcomeLaws.{NoneHolds, neverDone, among-not-done, by-refusals}
-use Rattle.keyentry.specs.Entry.{entryOctets, cipherIn, idIn, countIn, isReady, keyRoom, keyIn, keyRest, entryRight, isFor, blank, newEntry, loaded, completed}
-use Rattle.keyentry.proofs.RightLaws.{Used, for-name, name-for, not-for}
-use Rattle.keyentry.proofs.WriteLaws.{keyLoaded, key-length, loaded-count, blank-cipher, new-cipher, new-id, new-octets, new-not-ready, load-cipher, load-id, load-octets, load-not-ready, complete-cipher, complete-id, complete-octets, complete-ready}
+use Rattle.keyentry.specs.Entry.{entryOctets, cipherIn, idIn, countIn, isReady, keyIn, keyRest, entryRight, isFor, blank, newEntry, extended, completed}
+use Rattle.sizes.specs.Ciphers.{keyRoom}
+use Rattle.keyentry.proofs.RightLaws.{Used, for-parts, name-for, not-for}
+use Rattle.keyentry.proofs.WriteLaws.{keyLoaded, key-length, loaded-count, blank-cipher, new-cipher, new-id, new-octets, new-not-ready, extend-cipher, extend-id, extend-octets, extend-not-ready, complete-cipher, complete-id, complete-octets, complete-ready}
 use Rattle.keybook.specs.Book.{entries, bookOctets, entryOf, withEntry, apart, goodBook, findEntry, freeEntry}
 use Rattle.keybook.specs.Operations.{entryFor, withFor, beginRefusals, beginAfter, beginOf, addRefusals, addOf, finishRefusals, finishOf, eraseRefusals, eraseOf}
-use Rattle.keybook.specs.History.{Operation, Begin, Add, Finish, Erase, Progress, nothing, loading, finished, tells, names, telling, step, bookAfter, history, padded}
+use Rattle.keybook.specs.History.{Operation, Begin, Add, Finish, Erase, Progress, nothing, loading, finished, tells, concerns, telling, step, bookAfter, history, padded}
 use Rattle.keybook.proofs.GoodLaws.{good-sized, found-for, entry-octet}
 use Rattle.keybook.proofs.DoneLaws.{Changed, There, begin-never-done, add-never-done, finish-never-done, erase-never-done, begin-changed, begin-used, add-there, add-not-ready, add-fits, add-changed, finish-there, finish-not-ready, finish-changed, erase-there, erase-changed}
 use Rattle.keybook.proofs.FindLaws.{none-there, used-found, its, not-its, gone}
@@ -95,18 +96,18 @@ none-held b i w = go (ℕ-discrete (cipherIn (entryFor b 0 i)) 0)
   where
     go : Dec (cipherIn (entryFor b 0 i) ≡ 0) → held (entryFor b 0 i) ≡ nothing
     go (yes z) = held-nothing (entryFor b 0 i) z
-    go (no u) = absurd (u (for-name (entryFor b 0 i) 0 i (found-for b 0 i (used-found b 0 i w u)) .0))
+    go (no u) = absurd (u (for-parts (entryFor b 0 i) 0 i (found-for b 0 i (used-found b 0 i w u)) .0))
 
 module _ (b : List ℕ) (c i : ℕ) where
   -- after an operation with its answer
   abbrev Then : Operation → Answer × List ℕ → Type 0
-  Then o r = held (entryFor (r .1) c i) ≡ pick (isDone (r .0) && names c i o) (tells o (held (entryFor b c i))) (held (entryFor b c i))
+  Then o r = held (entryFor (r .1) c i) ≡ pick (isDone (r .0) && concerns c i o) (tells o (held (entryFor b c i))) (held (entryFor b c i))
 
   by-outcome : (o : Operation) (rs : Refusals) (after : List ℕ) → neverDone rs ≡ true → (NoneHolds rs → Then o (Done, after)) → Then o (outcome b rs after)
   by-outcome o rs after d h = by-refusals (Then o) b rs (Done, after) (λ a m. rw (among-not-done a rs d m)) h
 
   -- an operation that names d and j replaced entry k by e: what it says of its own name, and that no other had entry k or has e
-  renewed : (o : Operation) (d j k : ℕ) (e : List ℕ) {after : List ℕ} → names c i o ≡ (eqb d c && eqb j i) → Changed b after k e
+  renewed : (o : Operation) (d j k : ℕ) (e : List ℕ) {after : List ℕ} → concerns c i o ≡ (eqb d c && eqb j i) → Changed b after k e
       → held (entryFor (withEntry b k e) d j) ≡ tells o (held (entryFor b d j))
       → ((c ≡ 0 → ⊥) → (eqb d c && eqb j i) ≡ false → (isFor c i e ≡ false) × (isFor c i (entryOf b k) ≡ false)) → Then o (Done, after)
   renewed o d j k e m ch own other = rw (m, ch .is) (go (eqb d c && eqb j i) refl)
@@ -120,7 +121,7 @@ module _ (b : List ℕ) (c i : ℕ) where
           by-cipher (no n) = ap held (not-its b k e ch c i n (other n q .0) (other n q .1))
 
   -- it replaced the entry of its own name by one that has it too
-  went-on : (o : Operation) (d j : ℕ) (e : List ℕ) → names c i o ≡ (eqb d c && eqb j i) → There b d j → Changed b (withFor b d j e) (findEntry b d j) e
+  went-on : (o : Operation) (d j : ℕ) (e : List ℕ) → concerns c i o ≡ (eqb d c && eqb j i) → There b d j → Changed b (withFor b d j e) (findEntry b d j) e
       → cipherIn e ≡ cipherIn (entryFor b d j) → idIn e ≡ idIn (entryFor b d j) → held e ≡ tells o (held (entryFor b d j)) → Then o (Done, withFor b d j e)
   went-on o d j e m s ch p q t =
       renewed o d j (findEntry b d j) e m ch
@@ -145,15 +146,15 @@ module _ (b : List ℕ) (c i : ℕ) where
       ∙ held-loading e (λ z. n (sym (new-cipher d j) ∙ z)) (new-not-ready d j) ∙ ap loading (new-octets d j))
       (λ u h. (name-test e c i (new-cipher d j) (new-id d j) ∙ h, free-not-for u (ch .below))))
   step-tells (Add d j ys) =
-      by-outcome (Add d j ys) (addRefusals b d j ys) (withFor b d j (loaded (entryFor b d j) ys)) (add-never-done b d j ys) (λ m.
+      by-outcome (Add d j ys) (addRefusals b d j ys) (withFor b d j (extended (entryFor b d j) ys)) (add-never-done b d j ys) (λ m.
       let s = add-there b d j ys m in
       let e = entryFor b d j in
       let l = add-fits b d j ys m in
       let r = add-not-ready b d j ys m in
-      let p = load-cipher e ys (s .long) (s .right) l in
-      went-on (Add d j ys) d j (loaded e ys) refl s (add-changed b d j ys m) p (load-id e ys (s .long) (s .right) l)
-      (held-loading (loaded e ys) (λ z. s .used (sym p ∙ z)) (load-not-ready e ys (s .long) (s .right) l r)
-      ∙ ap loading (load-octets e ys (s .long) (s .right) l) ∙ ap (tells (Add d j ys)) (sym (held-loading e (s .used) r))))
+      let p = extend-cipher e ys (s .long) (s .right) l in
+      went-on (Add d j ys) d j (extended e ys) refl s (add-changed b d j ys m) p (extend-id e ys (s .long) (s .right) l)
+      (held-loading (extended e ys) (λ z. s .used (sym p ∙ z)) (extend-not-ready e ys (s .long) (s .right) l r)
+      ∙ ap loading (extend-octets e ys (s .long) (s .right) l) ∙ ap (tells (Add d j ys)) (sym (held-loading e (s .used) r))))
   step-tells (Finish d j) =
       by-outcome (Finish d j) (finishRefusals b d j) (withFor b d j (completed (entryFor b d j))) (finish-never-done b d j) (λ m.
       let s = finish-there b d j m in
@@ -182,7 +183,7 @@ holds-what-was-told [] c i =
     held-nothing (entryFor b c i) (entry-octet b k 0 (omega arith) ∙ padded-at [] bookOctets (k * entryOctets + 0))
 holds-what-was-told (o ∷ os) c i =
     let b = bookAfter os in
-    step-tells b c i o ∙ ap (λ (t : Progress). pick (isDone (step o b .0) && names c i o) (tells o t) t) (holds-what-was-told os c i)
+    step-tells b c i o ∙ ap (λ (t : Progress). pick (isDone (step o b .0) && concerns c i o) (tells o t) t) (holds-what-was-told os c i)
 
 -- ---- the key of a ready entry
 

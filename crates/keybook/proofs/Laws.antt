@@ -1,4 +1,4 @@
--- The laws of the key book, operation by operation. Assumes nothing.
+-- The laws of the key book, operation by operation.
 use Prim.Native.Nat.{ℕ, _<_}
 use native.Mathlib.Decide.{decLt}
 use native.Mathlib.Omega.{arith}
@@ -16,17 +16,17 @@ use Rattle.answers.specs.declared.Answer.the-variants.{Done, NoEntry}
 use Rattle.answers.specs.Numbers.{isDone}
 use Rattle.answers.specs.Outcomes.{Refusals, outcome}
 use Rattle.answers.proofs.OutcomeLaws.{NoneHolds, none-left, done-none, none-settles, by-refusals, refusal-keeps, one-outcome}
-use Rattle.ciphers.specs.Numbers.{keyOctets}
+use Rattle.sizes.specs.Ciphers.{keyOctets, keyRoom}
 use Rattle.ciphers.specs.Keys.{keyAllowed}
-use Rattle.keyentry.specs.Entry.{cipherIn, countIn, keyRoom, keyIn, named, blank, newEntry, loaded, completed}
+use Rattle.keyentry.specs.Entry.{cipherIn, countIn, keyIn, inRange, blank, newEntry, extended, completed}
 use Rattle.keyentry.proofs.RightLaws.{not-for}
-use Rattle.keyentry.proofs.WriteLaws.{named-used, key-length, ready-whole, blank-length, blank-cipher}
+use Rattle.keyentry.proofs.WriteLaws.{in-range-used, key-length, ready-whole, blank-length, blank-cipher}
 use Rattle.keybook.specs.Book.{entries, entryOf, withEntry, goodBook, findEntry, freeEntry, bookRefusals}
-use Rattle.keybook.specs.Operations.{has, entryFor, withFor, beginRefusals, beginAfter, beginOf, addRefusals, addOf, finishRefusals, finishOf, eraseRefusals, eraseOf, noKey, readyRefusals, readyKeyOf}
+use Rattle.keybook.specs.Operations.{hasEntry, entryFor, withFor, beginRefusals, beginAfter, beginOf, addRefusals, addOf, finishRefusals, finishOf, eraseRefusals, eraseOf, noKey, readyRefusals, readyKeyOf}
 use Rattle.keybook.specs.declared.Ready.{Ready}
 use Rattle.keybook.proofs.GoodLaws.{good-sized, found-for, entry-same}
 use Rattle.keybook.proofs.FindLaws.{gone}
-use Rattle.keybook.proofs.OperationLaws.{named-by}
+use Rattle.keybook.proofs.OperationLaws.{in-range-by}
 use Rattle.keybook.proofs.DoneLaws.{Changed, handed, begin-never-done, erase-never-done, erase-there, begin-changed, add-changed, finish-changed, erase-changed}
 
 -- ---- a refusal leaves the book as it was, and hands out no key
@@ -42,7 +42,7 @@ module _ (b : List ℕ) (c i : ℕ) where
 
   pub refused-add-keeps : (xs : List ℕ) → Refuses (addOf b c i xs) → addOf b c i xs .1 ≡ b
   unfolding addOf
-  refused-add-keeps xs = refusal-keeps b (addRefusals b c i xs) (Done, withFor b c i (loaded (entryFor b c i) xs))
+  refused-add-keeps xs = refusal-keeps b (addRefusals b c i xs) (Done, withFor b c i (extended (entryFor b c i) xs))
 
   pub refused-finish-keeps : Refuses (finishOf b c i) → finishOf b c i .1 ≡ b
   unfolding finishOf
@@ -71,7 +71,7 @@ module _ (b : List ℕ) (g : goodBook b ≡ true) (c i : ℕ) where
 
   pub add-stays-good : (xs : List ℕ) → goodBook (addOf b c i xs .1) ≡ true
   unfolding addOf
-  add-stays-good xs = stays-good b (addRefusals b c i xs) (withFor b c i (loaded (entryFor b c i) xs)) g (add-changed b c i xs)
+  add-stays-good xs = stays-good b (addRefusals b c i xs) (withFor b c i (extended (entryFor b c i) xs)) g (add-changed b c i xs)
 
   pub finish-stays-good : goodBook (finishOf b c i .1) ≡ true
   unfolding finishOf
@@ -123,7 +123,7 @@ module _ (b : List ℕ) (c i : ℕ) where
       (first-free b (ch .below), ap (λ (o : Answer × List ℕ). o .1) (none-settles (beginRefusals b c i) b (Done, beginAfter b c i) n) ∙ ch .is)
 
   -- and it is, where the book is good and has a free entry and none for the cipher and key ID
-  pub begin-done-at-first-free : goodBook b ≡ true → named c i ≡ true → has b c i ≡ false → (k : ℕ) → FirstFree b k
+  pub begin-done-at-first-free : goodBook b ≡ true → inRange c i ≡ true → hasEntry b c i ≡ false → (k : ℕ) → FirstFree b k
       → beginOf b c i ≡ (Done, withEntry b k (newEntry c i))
   unfolding beginOf beginRefusals beginAfter bookRefusals
   begin-done-at-first-free g n h k f =
@@ -157,24 +157,24 @@ module _ (b : List ℕ) (c i : ℕ) (d : eraseOf b c i .0 ≡ Done) where
       ∙ entry-same b (findEntry b c i) blank (good-sized b (changed .was-good)) (changed .below) blank-length
 
   -- a begin for another cipher and key ID takes it where it is the first free one
-  pub begin-uses-erased : FirstFree erased (findEntry b c i) → (c' i' : ℕ) → named c' i' ≡ true → has erased c' i' ≡ false
+  pub begin-uses-erased : FirstFree erased (findEntry b c i) → (c' i' : ℕ) → inRange c' i' ≡ true → hasEntry erased c' i' ≡ false
       → beginOf erased c' i' ≡ (Done, withEntry erased (findEntry b c i) (newEntry c' i'))
   begin-uses-erased f c' i' n h = begin-done-at-first-free erased c' i' erased-good n h (findEntry b c i) f
 
-  erase-named : named c i ≡ true
+  erase-in-range : inRange c i ≡ true
   unfolding eraseRefusals
-  erase-named = named-by b c i (none-left (bookRefusals b c i) ((not (has b c i), NoEntry) ∷ []) none-erases)
+  erase-in-range = in-range-by b c i (none-left (bookRefusals b c i) ((not (hasEntry b c i), NoEntry) ∷ []) none-erases)
 
   -- and a begin for the same is done
   pub begin-after-erase : beginOf erased c i .0 ≡ Done
   begin-after-erase =
       let t = erase-there b c i none-erases in
-      let n = erase-named in
-      let u = named-used c i n in
+      let n = erase-in-range in
+      let u = in-range-used c i n in
       let z : findEntry erased c i ≡ entries =
       ap (λ (x : List ℕ). findEntry x c i) erased-is
       ∙ gone b (findEntry b c i) blank changed c i u (not-for blank c i (λ p q. u (sym p ∙ blank-cipher))) (found-for b c i (t .below)) in
-      let h : has erased c i ≡ false = le-ltb (findEntry erased c i) entries (omega arith) in
+      let h : hasEntry erased c i ≡ false = le-ltb (findEntry erased c i) entries (omega arith) in
       let f = some-free erased (findEntry b c i) (t .below) (ap cipherIn erase-frees-entry ∙ blank-cipher) in
       ap (λ (o : Answer × List ℕ). o .0) (begin-done-at-first-free erased c i erased-good n h (freeEntry erased) (first-free erased f))
 

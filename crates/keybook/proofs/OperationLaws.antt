@@ -1,4 +1,4 @@
--- The cases of the operations, each as a way through the code meets it. Assumes nothing.
+-- The cases of the operations, each as a way through the code meets it.
 use Prim.Native.Nat.{ℕ, _≤_, _<_}
 use native.Mathlib.Omega.{arith}
 use mathlib.Core.Path.{_≡_, refl, sym, ap, ap₂, subst, _∙_}
@@ -15,9 +15,10 @@ use Rattle.answers.specs.declared.Answer.the-variants.{Done, WrongLength, NoEnt
 use Rattle.answers.specs.Numbers.{isDone}
 use Rattle.answers.specs.Outcomes.{Refusals, settled, outcome}
 use Rattle.answers.proofs.OutcomeLaws.{NoneHolds, neverDone, done-none, none-settles, none-first, first-refuses, around}
-use Rattle.keyentry.specs.Entry.{countIn, readyIn, keyRoom, keyIn, named, blank, newEntry, loadRefusals, loaded, completeRefusals, completed}
+use Rattle.keyentry.specs.Entry.{countIn, readyIn, keyIn, inRange, blank, newEntry, extendRefusals, extended, completeRefusals, completed}
+use Rattle.sizes.specs.Ciphers.{keyRoom}
 use Rattle.keybook.specs.Book.{entries, bookOctets, entryOf, withEntry, goodBook, findEntry, freeEntry, bookRefusals, found, lookup}
-use Rattle.keybook.specs.Operations.{has, placeRefusals, beginRefusals, beginAfter, beginOf, addRefusals, addOf, finishRefusals, finishOf, eraseRefusals, eraseOf, noKey, notReady, readyRefusals, readyKeyOf}
+use Rattle.keybook.specs.Operations.{hasEntry, placeRefusals, beginRefusals, beginAfter, beginOf, addRefusals, addOf, finishRefusals, finishOf, eraseRefusals, eraseOf, noKey, notReady, readyRefusals, readyKeyOf}
 use Rattle.keybook.specs.declared.book.Found.the-variants.{At, Missing, Refused}
 use Rattle.keyentry.proofs.RightLaws.{count-fits}
 use Rattle.keybook.proofs.GoodLaws.{good-entry}
@@ -58,7 +59,7 @@ module _ (o : Answer × ℕ) where
 -- what an entry that was found says of the book
 pub record Located (b : List ℕ) (c i k : ℕ) : Type 0 where
   pub sized : length b ≡ bookOctets
-  pub is-named : named c i ≡ true
+  pub in-range : inRange c i ≡ true
   pub good : goodBook b ≡ true
   pub here : k ≡ findEntry b c i
   pub below : k < entries
@@ -79,9 +80,9 @@ module _ (b : List ℕ) (c i : ℕ) where
   unfolding bookRefusals
   sized-by n = eqb-true _ _ (not-false _ (n .0))
 
-  pub named-by : NoneHolds (bookRefusals b c i) → named c i ≡ true
+  pub in-range-by : NoneHolds (bookRefusals b c i) → inRange c i ≡ true
   unfolding bookRefusals
-  named-by n = not-false _ (n .1 .0)
+  in-range-by n = not-false _ (n .1 .0)
 
   pub good-by : NoneHolds (bookRefusals b c i) → goodBook b ≡ true
   unfolding bookRefusals
@@ -96,7 +97,7 @@ module _ (b : List ℕ) (c i : ℕ) where
     pub missing-sized : length b ≡ bookOctets
     missing-sized = sized-by missing-none
 
-    missing-has : has b c i ≡ false
+    missing-has : hasEntry b c i ≡ false
     unfolding lookup
     missing-has =
         le-ltb (findEntry b c i) entries
@@ -114,13 +115,13 @@ module _ (b : List ℕ) (c i : ℕ) where
 
     pub located : Located b c i k
     unfolding lookup
-    located = record { sized = sized-by at-none; is-named = named-by at-none; good = good-by at-none; here = at-here; below = found-at (asked b c i) k q .2 }
+    located = record { sized = sized-by at-none; in-range = in-range-by at-none; good = good-by at-none; here = at-here; below = found-at (asked b c i) k q .2 }
 
     -- so the entry has room for what may be loaded
     pub lent-count : countIn (lent b k) ≤ keyRoom
     lent-count = rw (entry-lent b k) (count-fits (entryOf b k) (good-entry b (located .good) k (located .below)))
 
-    at-has : has b c i ≡ true
+    at-has : hasEntry b c i ≡ true
     at-has = lt-ltb (findEntry b c i) entries (rw at-here at (located .below))
 
 -- ---- the ways through an operation on the entry that was found
@@ -139,7 +140,7 @@ module _ {S : Type 0} (b : List ℕ) (c i : ℕ) (before : S) where
 
   module _ (rs : ℕ → Refusals) (last : ℕ → Answer × S) where
     abbrev rest : Refusals
-    rest = (not (has b c i), NoEntry) ∷ rs (findEntry b c i)
+    rest = (not (hasEntry b c i), NoEntry) ∷ rs (findEntry b c i)
 
     ways : Ways (λ k. settled before (rs k) (last k)) (settled before (bookRefusals b c i ++ rest) (last (findEntry b c i)))
     ways =
@@ -197,11 +198,11 @@ module _ (b : List ℕ) (c i : ℕ) where
     unfolding addOf addRefusals
     add-length h = rw (lt-ltb _ _ h)
 
-    pub add-ways : length xs ≤ keyRoom → Ways b c i b (λ k. outcome b (loadRefusals (entryOf b k) xs) (withEntry b k (loaded (entryOf b k) xs))) (addOf b c i xs)
+    pub add-ways : length xs ≤ keyRoom → Ways b c i b (λ k. outcome b (extendRefusals (entryOf b k) xs) (withEntry b k (extended (entryOf b k) xs))) (addOf b c i xs)
     unfolding addOf addRefusals
     add-ways h =
         rw (le-ltb _ _ h)
-        (ways b c i b (λ k. loadRefusals (entryOf b k) xs) (λ k. (Done, withEntry b k (loaded (entryOf b k) xs))))
+        (ways b c i b (λ k. extendRefusals (entryOf b k) xs) (λ k. (Done, withEntry b k (extended (entryOf b k) xs))))
 
 -- an entry replaced by itself
 pub with-same : (b : List ℕ) (k : ℕ) → withEntry b k (entryOf b k) ≡ b

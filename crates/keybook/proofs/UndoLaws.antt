@@ -1,4 +1,4 @@
--- A key whose loading is given up leaves the book as it was before its begin. Assumes nothing.
+-- A key whose loading is given up leaves the book as it was before its begin.
 use Prim.Native.Nat.{ℕ, _+_, _*_, _<_}
 use native.Mathlib.Omega.{arith}
 use mathlib.Core.Path.{_≡_, sym, ap, _∙_}
@@ -12,14 +12,14 @@ use Rattle.answers.specs.declared.Answer.{Answer}
 use Rattle.answers.specs.declared.Answer.the-variants.{Done}
 use Rattle.answers.specs.Numbers.{isDone}
 use Rattle.answers.proofs.OutcomeLaws.{NoneHolds, none-left, done-none, none-settles}
-use Rattle.keyentry.specs.Entry.{entryOctets, cipherIn, isReady, named, isFor, blank, newEntry, loaded, completed}
+use Rattle.keyentry.specs.Entry.{entryOctets, cipherIn, isReady, inRange, isFor, blank, newEntry, extended, completed}
 use Rattle.keyentry.proofs.RightLaws.{free-zero, name-for}
-use Rattle.keyentry.proofs.WriteLaws.{named-used, blank-length, blank-cipher, blank-right, new-cipher, new-id, load-cipher, load-id, complete-cipher, complete-id, complete-ready}
+use Rattle.keyentry.proofs.WriteLaws.{in-range-used, blank-length, blank-cipher, blank-right, new-cipher, new-id, extend-cipher, extend-id, complete-cipher, complete-id, complete-ready}
 use Rattle.keybook.specs.Book.{entries, bookOctets, entryOf, withEntry, goodBook, findEntry, freeEntry, bookRefusals}
 use Rattle.keybook.specs.Operations.{entryFor, withFor, placeRefusals, beginRefusals, beginAfter, beginOf, addRefusals, addOf, finishRefusals, finishOf, eraseRefusals, eraseOf}
 use Rattle.keybook.proofs.BookLaws.{entry-length}
 use Rattle.keybook.proofs.GoodLaws.{good-sized, good-entry, find-is, entry-same, entry-other}
-use Rattle.keybook.proofs.OperationLaws.{named-by, with-same}
+use Rattle.keybook.proofs.OperationLaws.{in-range-by, with-same}
 use Rattle.keybook.proofs.DoneLaws.{Changed, begin-never-done, add-never-done, finish-never-done, begin-changed, add-there, add-fits, add-changed, finish-there, finish-changed}
 use Rattle.keybook.proofs.Laws.{begin-takes-first-free}
 
@@ -46,7 +46,7 @@ pub record Begun (b : List ℕ) (c i k : ℕ) (e after : List ℕ) : Type 0 wher
   pub changed : Changed b after k e
   pub free : cipherIn (entryOf b k) ≡ 0
   pub its : isFor c i e ≡ true
-  pub is-named : named c i ≡ true
+  pub in-range : inRange c i ≡ true
 
 -- it is found, and erasing it gives b back
 module _ {b : List ℕ} {c i k : ℕ} {e after : List ℕ} (m : Begun b c i k e after) where
@@ -63,7 +63,7 @@ module _ {b : List ℕ} {c i k : ℕ} {e after : List ℕ} (m : Begun b c i k e 
   begun-other j l n = ap (λ (x : List ℕ). entryOf x j) (m .changed .is) ∙ entry-other b k e sized (m .changed .below) (m .changed .long) j l n
 
   pub begun-found : findEntry after c i ≡ k
-  begun-found = find-is after begun-good c i k (m .changed .below) (named-used c i (m .is-named)) (ap (isFor c i) begun-entry ∙ m .its)
+  begun-found = find-is after begun-good c i k (m .changed .below) (in-range-used c i (m .in-range)) (ap (isFor c i) begun-entry ∙ m .its)
 
   undone : withEntry after k blank ≡ b
   undone =
@@ -72,7 +72,7 @@ module _ {b : List ℕ} {c i k : ℕ} {e after : List ℕ} (m : Begun b c i k e 
 
   pub begun-erased : eraseOf after c i ≡ (Done, b)
   unfolding eraseOf eraseRefusals bookRefusals
-  begun-erased = rw (eq-eqb _ _ (good-sized after begun-good), m .is-named, begun-good, begun-found, lt-ltb _ _ (m .changed .below), undone)
+  begun-erased = rw (eq-eqb _ _ (good-sized after begun-good), m .in-range, begun-good, begun-found, lt-ltb _ _ (m .changed .below), undone)
 
   -- with another entry for the same in its place
   begun-again : (f now : List ℕ) → Changed after now (findEntry after c i) f → isFor c i f ≡ true → Begun b c i k f now
@@ -90,19 +90,19 @@ module _ {b : List ℕ} {c i k : ℕ} {e after : List ℕ} (m : Begun b c i k e 
         };
         free = m .free;
         its = its;
-        is-named = m .is-named;
+        in-range = m .in-range;
       }
 
-  pub begun-add : (xs : List ℕ) → isDone (addOf after c i xs .0) ≡ true → Begun b c i k (loaded (entryFor after c i) xs) (addOf after c i xs .1)
+  pub begun-add : (xs : List ℕ) → isDone (addOf after c i xs .0) ≡ true → Begun b c i k (extended (entryFor after c i) xs) (addOf after c i xs .1)
   unfolding addOf
   begun-add xs d =
       let x = entryFor after c i in
-      let n = done-none (addRefusals after c i xs) after (withFor after c i (loaded x xs)) (add-never-done after c i xs) d in
+      let n = done-none (addRefusals after c i xs) after (withFor after c i (extended x xs)) (add-never-done after c i xs) d in
       let t = add-there after c i xs n in
       let l = add-fits after c i xs n in
-      rw (none-settles (addRefusals after c i xs) after (Done, withFor after c i (loaded x xs)) n)
-      (begun-again (loaded x xs) (withFor after c i (loaded x xs)) (add-changed after c i xs n)
-      (name-for (loaded x xs) c i (load-cipher x xs (t .long) (t .right) l ∙ t .cipher) (load-id x xs (t .long) (t .right) l ∙ t .id)))
+      rw (none-settles (addRefusals after c i xs) after (Done, withFor after c i (extended x xs)) n)
+      (begun-again (extended x xs) (withFor after c i (extended x xs)) (add-changed after c i xs n)
+      (name-for (extended x xs) c i (extend-cipher x xs (t .long) (t .right) l ∙ t .cipher) (extend-id x xs (t .long) (t .right) l ∙ t .id)))
 
   module _ (d : isDone (finishOf after c i .0) ≡ true) where
     none-finishes : NoneHolds (finishRefusals after c i)
@@ -132,5 +132,5 @@ begun-begin b c i d =
       changed = ch;
       free = begin-takes-first-free b c i at .0 .free;
       its = name-for (newEntry c i) c i (new-cipher c i) (new-id c i);
-      is-named = named-by b c i (none-left (bookRefusals b c i) (placeRefusals b c i) n);
+      in-range = in-range-by b c i (none-left (bookRefusals b c i) (placeRefusals b c i) n);
     })

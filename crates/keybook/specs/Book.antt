@@ -10,7 +10,7 @@ use Rattle.answers.specs.declared.Answer.{Answer}
 use Rattle.answers.specs.declared.Answer.the-variants.{WrongLength, OutOfRange, Bad}
 use Rattle.answers.specs.Numbers.{isDone}
 use Rattle.answers.specs.Outcomes.{Refusals, outcome}
-use Rattle.keyentry.specs.Entry.{entryOctets, cipherIn, idIn, named, entryRight, isFor}
+use Rattle.keyentry.specs.Entry.{entryOctets, cipherIn, idIn, inRange, entryRight, isFor}
 use Rattle.keybook.specs.declared.book.Found.{Found}
 use Rattle.keybook.specs.declared.book.Found.the-variants.{At, Missing, Refused}
 
@@ -52,7 +52,7 @@ goodBook b = eqb (length b) bookOctets && allBelow (λ k. entryRight (entryOf b 
 -- 2, 3, 4
 unfoldable pub bookRefusals : List ℕ → ℕ → ℕ → Refusals
 bookRefusals b c i =
-    (not (eqb (length b) bookOctets), WrongLength) ∷ (not (named c i), OutOfRange) ∷ (not (goodBook b), Bad) ∷ []
+    (not (eqb (length b) bookOctets), WrongLength) ∷ (not (inRange c i), OutOfRange) ∷ (not (goodBook b), Bad) ∷ []
 
 -- where the entry is, or the refusal
 abbrev pub found : Answer × ℕ → Found

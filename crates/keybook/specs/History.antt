@@ -7,11 +7,10 @@ use mathlib.Core.List.{List, [], _∷_, _++_}
 use lib.ListN.{length, replicate}
 use lib.Dec.{eqb}
 use Rattle.octets.specs.Tests.{pick}
-use Rattle.ciphers.specs.Numbers.{keyOctets}
+use Rattle.sizes.specs.Ciphers.{keyOctets, keyRoom}
 use Rattle.ciphers.specs.Keys.{keyAllowed}
 use Rattle.answers.specs.declared.Answer.{Answer}
 use Rattle.answers.specs.Numbers.{isDone}
-use Rattle.keyentry.specs.Entry.{keyRoom}
 use Rattle.keybook.specs.Book.{bookOctets}
 use Rattle.keybook.specs.Operations.{beginOf, addOf, finishOf, eraseOf}
 
@@ -27,11 +26,11 @@ History = List (Operation × Answer)
 -- ---- what a history tells of a cipher type and key ID
 
 -- the operation names them
-abbrev pub names : ℕ → ℕ → Operation → Bool
-names c i (Begin d j) = eqb d c && eqb j i
-names c i (Finish d j) = eqb d c && eqb j i
-names c i (Erase d j) = eqb d c && eqb j i
-names c i (Add d j xs) = eqb d c && eqb j i
+abbrev pub concerns : ℕ → ℕ → Operation → Bool
+concerns c i (Begin d j) = eqb d c && eqb j i
+concerns c i (Finish d j) = eqb d c && eqb j i
+concerns c i (Erase d j) = eqb d c && eqb j i
+concerns c i (Add d j xs) = eqb d c && eqb j i
 
 -- no key, the octets of one that is being loaded, or those of one that was finished
 pub data Progress : Type 0 where
@@ -52,7 +51,7 @@ tells (Erase d j) t = nothing
 -- what is told by the operations that were done and name them
 unfoldable pub telling : History → ℕ → ℕ → Progress
 telling [] c i = nothing
-telling (h ∷ hs) c i = pick (isDone (h .1) && names c i (h .0)) (tells (h .0) (telling hs c i)) (telling hs c i)
+telling (h ∷ hs) c i = pick (isDone (h .1) && concerns c i (h .0)) (tells (h .0) (telling hs c i)) (telling hs c i)
 
 -- octets, followed by zeros to 32
 abbrev pub padded : List ℕ → List ℕ

@@ -8,12 +8,13 @@ use lib.Dec.{ltb}
 use Rattle.answers.specs.declared.Answer.{Answer}
 use Rattle.answers.specs.declared.Answer.the-variants.{WrongLength, NoEntry, NotReady, Already, Full}
 use Rattle.answers.specs.Outcomes.{Refusals, outcome}
-use Rattle.keyentry.specs.Entry.{keyRoom, keyIn, isReady, blank, newEntry, loadRefusals, loaded, completeRefusals, completed}
+use Rattle.sizes.specs.Ciphers.{keyRoom}
+use Rattle.keyentry.specs.Entry.{keyIn, isReady, blank, newEntry, extendRefusals, extended, completeRefusals, completed}
 use Rattle.keybook.specs.Book.{entries, entryOf, withEntry, findEntry, freeEntry, bookRefusals}
 
 -- the book has an entry for this cipher and key ID
-abbrev pub has : List ℕ → ℕ → ℕ → Bool
-has b c i = ltb (findEntry b c i) entries
+abbrev pub hasEntry : List ℕ → ℕ → ℕ → Bool
+hasEntry b c i = ltb (findEntry b c i) entries
 
 -- that entry; where there is none, no octets
 abbrev pub entryFor : List ℕ → ℕ → ℕ → List ℕ
@@ -25,7 +26,7 @@ withFor b c i e = withEntry b (findEntry b c i) e
 
 -- what begin asks of the book's places: no entry for these yet, and a free one
 abbrev pub placeRefusals : List ℕ → ℕ → ℕ → Refusals
-placeRefusals b c i = (has b c i, Already) ∷ (not (ltb (freeEntry b) entries), Full) ∷ []
+placeRefusals b c i = (hasEntry b c i, Already) ∷ (not (ltb (freeEntry b) entries), Full) ∷ []
 
 -- begin takes the free entry nearest the start; refused by 2, 3, 4 of the book, 11, 12
 unfoldable pub beginRefusals : List ℕ → ℕ → ℕ → Refusals
@@ -40,21 +41,21 @@ beginOf b c i = outcome b (beginRefusals b c i) (beginAfter b c i)
 -- add appends 0 to 32 octets; refused by 2 of the octets, 2, 3, 4 of the book, 5, 11, 13
 unfoldable pub addRefusals : List ℕ → ℕ → ℕ → List ℕ → Refusals
 addRefusals b c i xs =
-    (ltb keyRoom (length xs), WrongLength) ∷ (bookRefusals b c i ++ ((not (has b c i), NoEntry) ∷ loadRefusals (entryFor b c i) xs))
+    (ltb keyRoom (length xs), WrongLength) ∷ (bookRefusals b c i ++ ((not (hasEntry b c i), NoEntry) ∷ extendRefusals (entryFor b c i) xs))
 
 unfoldable pub addOf : List ℕ → ℕ → ℕ → List ℕ → Answer × List ℕ
-addOf b c i xs = outcome b (addRefusals b c i xs) (withFor b c i (loaded (entryFor b c i) xs))
+addOf b c i xs = outcome b (addRefusals b c i xs) (withFor b c i (extended (entryFor b c i) xs))
 
 -- finish marks ready; refused by 2, 3, 4 of the book, 5, 11, 6, 7
 unfoldable pub finishRefusals : List ℕ → ℕ → ℕ → Refusals
-finishRefusals b c i = bookRefusals b c i ++ ((not (has b c i), NoEntry) ∷ completeRefusals (entryFor b c i))
+finishRefusals b c i = bookRefusals b c i ++ ((not (hasEntry b c i), NoEntry) ∷ completeRefusals (entryFor b c i))
 
 unfoldable pub finishOf : List ℕ → ℕ → ℕ → Answer × List ℕ
 finishOf b c i = outcome b (finishRefusals b c i) (withFor b c i (completed (entryFor b c i)))
 
 -- erase zeroes an entry, ready or not; refused by 2, 3, 4 of the book, 5
 unfoldable pub eraseRefusals : List ℕ → ℕ → ℕ → Refusals
-eraseRefusals b c i = bookRefusals b c i ++ ((not (has b c i), NoEntry) ∷ [])
+eraseRefusals b c i = bookRefusals b c i ++ ((not (hasEntry b c i), NoEntry) ∷ [])
 
 unfoldable pub eraseOf : List ℕ → ℕ → ℕ → Answer × List ℕ
 eraseOf b c i = outcome b (eraseRefusals b c i) (withFor b c i blank)
@@ -67,7 +68,7 @@ unfoldable pub notReady : List ℕ → Refusals
 notReady e = (not (isReady e), NotReady) ∷ []
 
 unfoldable pub readyRefusals : List ℕ → ℕ → ℕ → Refusals
-readyRefusals b c i = bookRefusals b c i ++ ((not (has b c i), NoEntry) ∷ notReady (entryFor b c i))
+readyRefusals b c i = bookRefusals b c i ++ ((not (hasEntry b c i), NoEntry) ∷ notReady (entryFor b c i))
 
 unfoldable pub readyKeyOf : List ℕ → ℕ → ℕ → Answer × List ℕ
 readyKeyOf b c i = outcome noKey (readyRefusals b c i) (keyIn (entryFor b c i))

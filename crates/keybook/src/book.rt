@@ -10,8 +10,8 @@ use keyentry::CIPHER;
 use keyentry::ENTRY_OCTETS;
 use keyentry::ID;
 use keyentry::entry_right;
+use keyentry::in_range;
 use keyentry::is_for;
-use keyentry::is_named;
 
 pub const ENTRIES: usize = 16;
 
@@ -104,7 +104,7 @@ pub fn look(book: &[u8], cipher: u8, id: u8) -> Found
     if book.len() != BOOK_OCTETS {
         return Found::Refused(Answer::WrongLength);
     }
-    if !is_named(cipher, id) {
+    if !in_range(cipher, id) {
         return Found::Refused(Answer::OutOfRange);
     }
     if !good_book(book) {

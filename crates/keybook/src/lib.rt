@@ -12,14 +12,14 @@ use crate::book::free;
 use crate::book::look;
 use answers::Answer;
 use keyentry::ENTRY_OCTETS;
-use keyentry::KEY_ROOM;
 use keyentry::READY;
 use keyentry::clear;
 use keyentry::complete;
+use keyentry::extend;
 use keyentry::key;
-use keyentry::load;
 use keyentry::write_new;
 use octets::copy;
+use sizes::cipher::KEY_ROOM;
 
 mod book;
 
@@ -56,7 +56,7 @@ pub fn add(book: &mut [u8], cipher: u8, id: u8, xs: &[u8]) -> Answer
         Found::Missing => Answer::NoEntry,
         Found::At(k) => {
             let a = k * ENTRY_OCTETS;
-            load(&mut book[a..a + ENTRY_OCTETS], xs)
+            extend(&mut book[a..a + ENTRY_OCTETS], xs)
         }
     }
 }

@@ -1,4 +1,4 @@
--- The cases of an entry's rules, each as a way through the code meets it. Assumes nothing.
+-- The cases of an entry's rules, each as a way through the code meets it.
 use Prim.Native.Nat.{ℕ, _+_, _-_, _≤_, _<_}
 use native.Mathlib.Nat.{le-refl}
 use mathlib.Core.Path.{_≡_, ap, _∙_}
@@ -10,12 +10,12 @@ use borrow.Author.Tests.{lt-ltb, le-ltb, le-leb, lt-leb, eq-eqb, ne-eqb}
 use borrow.Rule.Slice.PartMut.{putMid}
 use Rattle.octets.specs.Lists.{allZero}
 use Rattle.octets.proofs.Parts.{put-replaced}
-use Rattle.ciphers.specs.Numbers.{keyOctets}
+use Rattle.sizes.specs.Ciphers.{keyOctets}
 use Rattle.ciphers.specs.Keys.{keyAllowed}
 use Rattle.answers.specs.declared.Answer.{Answer}
 use Rattle.answers.specs.declared.Answer.the-variants.{Done, NotReady, NotAllowed, Already, TooMany}
 use Rattle.answers.specs.Outcomes.{outcome}
-use Rattle.keyentry.specs.Entry.{cipherIn, idIn, countIn, countPlace, readyPlace, readyIn, keyPlace, keyIn, keyRest, named, lacks, readyRight, usedRight, blank, newEntry, loadRefusals, loaded, completeRefusals, completed}
+use Rattle.keyentry.specs.Entry.{cipherIn, idIn, countIn, countPlace, readyPlace, readyIn, keyPlace, keyIn, keyRest, inRange, lacks, readyRight, usedRight, blank, newEntry, extendRefusals, extended, completeRefusals, completed}
 
 module _ (e : List ℕ) where
   pub ready-none : readyIn e ≡ 0 → true ≡ readyRight e
@@ -38,11 +38,11 @@ module _ (e : List ℕ) where
   pub rest-lent : {n : ℕ} {k : List ℕ} → n ≡ countIn e → k ≡ keyIn e → take (length k - n) (drop n k) ≡ keyRest e
   rest-lent {n} {k} p q = take-all (length k - n) (drop n k) (simp length-drop (le-refl (length k - n))) ∙ rw (p, q)
 
-  pub used-name : named (cipherIn e) (idIn e) ≡ false → false ≡ usedRight e
+  pub used-name : inRange (cipherIn e) (idIn e) ≡ false → false ≡ usedRight e
   unfolding usedRight
   used-name h = rw h
 
-  module _ (h : named (cipherIn e) (idIn e) ≡ true) where
+  module _ (h : inRange (cipherIn e) (idIn e) ≡ true) where
     pub used-count : keyOctets (cipherIn e) < countIn e → false ≡ usedRight e
     unfolding usedRight
     used-count n = rw (h, lt-leb _ _ n)
@@ -60,26 +60,26 @@ unfolding blank newEntry
 new-written {e} c i q = rw q
 
 pub appended : {p : List ℕ} (e xs : List ℕ) {n : ℕ} → n ≡ countIn e → p ≡ xs
-    → set (putMid (keyPlace + n) (keyPlace + n + length xs - (keyPlace + n)) e p) countPlace (n + length xs) ≡ loaded e xs
-unfolding loaded
+    → set (putMid (keyPlace + n) (keyPlace + n + length xs - (keyPlace + n)) e p) countPlace (n + length xs) ≡ extended e xs
+unfolding extended
 appended {p} e xs {n} q r =
     ap (λ (l : List ℕ). set l countPlace (n + length xs)) (put-replaced e p (keyPlace + n) (length xs)) ∙ rw (q, r)
 
 module _ (e xs : List ℕ) where
   abbrev pub loading : Answer × List ℕ
-  loading = outcome e (loadRefusals e xs) (loaded e xs)
+  loading = outcome e (extendRefusals e xs) (extended e xs)
 
-  pub load-already : readyIn e ≡ 1 → (Already, e) ≡ loading
-  unfolding loadRefusals
-  load-already h = rw (eq-eqb _ _ h)
+  pub extend-already : readyIn e ≡ 1 → (Already, e) ≡ loading
+  unfolding extendRefusals
+  extend-already h = rw (eq-eqb _ _ h)
 
-  pub load-past : (readyIn e ≡ 1 → ⊥) → lacks e < length xs → (TooMany, e) ≡ loading
-  unfolding loadRefusals
-  load-past n h = rw (ne-eqb _ _ n, lt-ltb _ _ h)
+  pub extend-past : (readyIn e ≡ 1 → ⊥) → lacks e < length xs → (TooMany, e) ≡ loading
+  unfolding extendRefusals
+  extend-past n h = rw (ne-eqb _ _ n, lt-ltb _ _ h)
 
-  pub load-done : {f : List ℕ} → (readyIn e ≡ 1 → ⊥) → length xs ≤ lacks e → f ≡ loaded e xs → (Done, f) ≡ loading
-  unfolding loadRefusals
-  load-done n h q = rw (ne-eqb _ _ n, le-ltb _ _ h, q)
+  pub extend-done : {f : List ℕ} → (readyIn e ≡ 1 → ⊥) → length xs ≤ lacks e → f ≡ extended e xs → (Done, f) ≡ loading
+  unfolding extendRefusals
+  extend-done n h q = rw (ne-eqb _ _ n, le-ltb _ _ h, q)
 
 module _ (e : List ℕ) where
   abbrev pub completing : Answer × List ℕ

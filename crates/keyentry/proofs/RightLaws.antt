@@ -1,4 +1,4 @@
--- An entry's rules as facts. Assumes nothing.
+-- An entry's rules as facts.
 use Prim.Native.Nat.{ℕ, _≤_, _<_}
 use native.Mathlib.Decide.{ℕ-discrete, decLt}
 use native.Mathlib.Omega.{arith}
@@ -9,10 +9,10 @@ use lib.ListN.{length, getD, List·getD-eq-default}
 use lib.Dec.{leb, eqb}
 use borrow.Author.Tests.{le-leb, leb-true, eq-eqb, ne-eqb, eqb-true}
 use Rattle.octets.specs.Lists.{allZero}
-use Rattle.ciphers.proofs.NumberLaws.{key-at-most}
+use Rattle.sizes.proofs.SizeLaws.{key-at-most}
 use Rattle.octets.proofs.TestLaws.{all-at, and-left, and-right}
-use Rattle.ciphers.specs.Numbers.{keyOctets}
-use Rattle.keyentry.specs.Entry.{cipherIn, idIn, countIn, countPlace, keyRoom, keyRest, named, readyRight, usedRight, entryRight, isFor}
+use Rattle.sizes.specs.Ciphers.{keyOctets, keyRoom}
+use Rattle.keyentry.specs.Entry.{cipherIn, idIn, countIn, countPlace, keyRest, inRange, readyRight, usedRight, entryRight, isFor}
 
 pub zero-at : (xs : List ℕ) → allZero xs ≡ true → (j : ℕ) → getD xs j 0 ≡ 0
 unfolding allZero
@@ -23,7 +23,7 @@ zero-at xs z j = go (decLt j (length xs))
     go (no n) = List·getD-eq-default xs 0 (omega arith)
 
 pub record Used (e : List ℕ) : Type 0 where
-  pub name : named (cipherIn e) (idIn e) ≡ true
+  pub range : inRange (cipherIn e) (idIn e) ≡ true
   pub count : countIn e ≤ keyOctets (cipherIn e)
   pub rest : allZero (keyRest e) ≡ true
   pub ready : readyRight e ≡ true
@@ -33,10 +33,10 @@ module _ (e : List ℕ) where
   unfolding entryRight usedRight
   used-of n r =
       let u : usedRight e ≡ true = rw (ne-eqb (cipherIn e) 0 n) at r in
-      let v = and-right (named (cipherIn e) (idIn e)) _ u in
+      let v = and-right (inRange (cipherIn e) (idIn e)) _ u in
       let w = and-right (leb (countIn e) (keyOctets (cipherIn e))) _ v in
       record {
-        name = and-left (named (cipherIn e) (idIn e)) _ u;
+        range = and-left (inRange (cipherIn e) (idIn e)) _ u;
         count = leb-true _ _ (and-left (leb (countIn e) (keyOctets (cipherIn e))) _ v);
         rest = and-left (allZero (keyRest e)) _ w;
         ready = and-right (allZero (keyRest e)) _ w;
@@ -44,7 +44,7 @@ module _ (e : List ℕ) where
 
   pub of-used : (cipherIn e ≡ 0 → ⊥) → Used e → entryRight e ≡ true
   unfolding entryRight usedRight
-  of-used n u = rw (ne-eqb (cipherIn e) 0 n, u .name, le-leb _ _ (u .count), u .rest, u .ready)
+  of-used n u = rw (ne-eqb (cipherIn e) 0 n, u .range, le-leb _ _ (u .count), u .rest, u .ready)
 
   pub free-zero : cipherIn e ≡ 0 → entryRight e ≡ true → (j : ℕ) → getD e j 0 ≡ 0
   unfolding entryRight
@@ -58,9 +58,9 @@ module _ (e : List ℕ) where
       go (no n) = omega (arith, used-of n r .count, key-at-most (cipherIn e))
 
   module _ (c i : ℕ) where
-    pub for-name : isFor c i e ≡ true → (cipherIn e ≡ c) × (idIn e ≡ i)
+    pub for-parts : isFor c i e ≡ true → (cipherIn e ≡ c) × (idIn e ≡ i)
     unfolding isFor
-    for-name h = (eqb-true _ _ (and-left (eqb (cipherIn e) c) _ h), eqb-true _ _ (and-right (eqb (cipherIn e) c) _ h))
+    for-parts h = (eqb-true _ _ (and-left (eqb (cipherIn e) c) _ h), eqb-true _ _ (and-right (eqb (cipherIn e) c) _ h))
 
     pub name-for : cipherIn e ≡ c → idIn e ≡ i → isFor c i e ≡ true
     unfolding isFor
@@ -70,5 +70,5 @@ module _ (e : List ℕ) where
     not-for h = go (isFor c i e) refl
       where
         go : (t : Bool) → isFor c i e ≡ t → t ≡ false
-        go true q = let n = for-name q in absurd (h (n .0) (n .1))
+        go true q = let n = for-parts q in absurd (h (n .0) (n .1))
         go false q = refl

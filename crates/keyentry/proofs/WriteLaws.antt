@@ -1,4 +1,4 @@
--- What the operations write keeps an entry's rules, and which octets it then holds. Assumes nothing.
+-- What the operations write keeps an entry's rules, and which octets it then holds.
 use Prim.Native.Nat.{ℕ, _+_, _-_, _≤_, _<_}
 use native.Mathlib.Decide.{ℕ-discrete, decLt}
 use native.Mathlib.Omega.{arith}
@@ -11,12 +11,12 @@ use lib.Dec.{leb, eqb, leb·zero}
 use borrow.Author.Tests.{leb-true, eq-eqb, ne-eqb, eqb-true, eqb-false}
 use Rattle.octets.specs.Lists.{allZero, replaced}
 use Rattle.octets.proofs.Parts.{replaced-length, replaced-before, replaced-in, replaced-after}
-use Rattle.ciphers.proofs.NumberLaws.{key-at-most}
+use Rattle.sizes.proofs.SizeLaws.{key-at-most}
 use Rattle.octets.specs.Tests.{allBelow}
 use Rattle.octets.proofs.TestLaws.{all-intro, and-left, and-right}
-use Rattle.ciphers.specs.Numbers.{keyOctets}
+use Rattle.sizes.specs.Ciphers.{keyOctets, keyRoom}
 use Rattle.ciphers.specs.Keys.{keyAllowed}
-use Rattle.keyentry.specs.Entry.{entryOctets, cipherIn, idIn, countPlace, countIn, readyPlace, readyIn, isReady, keyPlace, keyRoom, keyIn, keyRest, named, lacks, readyRight, usedRight, entryRight, blank, newEntry, loaded, completed}
+use Rattle.keyentry.specs.Entry.{entryOctets, cipherIn, idIn, countPlace, countIn, readyPlace, readyIn, isReady, keyPlace, keyIn, keyRest, inRange, lacks, readyRight, usedRight, entryRight, blank, newEntry, extended, completed}
 use Rattle.keyentry.proofs.RightLaws.{zero-at, Used}
 
 -- the octets of the key that are loaded
@@ -37,9 +37,9 @@ pub blank-right : entryRight blank ≡ true
 unfolding blank entryRight allZero allBelow
 blank-right = refl
 
-pub named-used : (c i : ℕ) → named c i ≡ true → c ≡ 0 → ⊥
-unfolding named
-named-used c i n z = let l : 1 ≤ c = leb-true _ _ (and-left (leb 1 c) _ n) in omega arith
+pub in-range-used : (c i : ℕ) → inRange c i ≡ true → c ≡ 0 → ⊥
+unfolding inRange
+in-range-used c i n z = let l : 1 ≤ c = leb-true _ _ (and-left (leb 1 c) _ n) in omega arith
 
 module _ (c i : ℕ) where
   pub new-length : length (newEntry c i) ≡ entryOctets
@@ -62,9 +62,9 @@ module _ (c i : ℕ) where
   unfolding newEntry
   new-not-ready = refl
 
-  pub new-right : named c i ≡ true → entryRight (newEntry c i) ≡ true
+  pub new-right : inRange c i ≡ true → entryRight (newEntry c i) ≡ true
   unfolding newEntry entryRight usedRight readyRight allZero allBelow
-  new-right n = rw (ne-eqb c 0 (named-used c i n), n, leb·zero)
+  new-right n = rw (ne-eqb c 0 (in-range-used c i n), n, leb·zero)
 
 -- ---- octets of the key
 
@@ -113,12 +113,12 @@ module _ (e : List ℕ) (u : Used e) where
 
 module _ (e xs : List ℕ) (w : length e ≡ entryOctets) (u : Used e) (m : length xs ≤ lacks e) where
   -- the octets end within the key
-  pub load-fits : countIn e + length xs ≤ keyOctets (cipherIn e)
+  pub extend-fits : countIn e + length xs ≤ keyOctets (cipherIn e)
   unfolding lacks
-  load-fits = omega (arith, u .count)
+  extend-fits = omega (arith, u .count)
 
   in-room : countIn e + length xs ≤ keyRoom
-  in-room = omega (arith, load-fits, key-at-most (cipherIn e))
+  in-room = omega (arith, extend-fits, key-at-most (cipherIn e))
 
   abbrev at : ℕ
   at = keyPlace + countIn e
@@ -126,67 +126,67 @@ module _ (e xs : List ℕ) (w : length e ≡ entryOctets) (u : Used e) (m : leng
   fits : at + length xs ≤ length e
   fits = omega (arith, in-room)
 
-  pub load-length : length (loaded e xs) ≡ entryOctets
-  unfolding loaded
-  load-length = length-set (replaced e at (length xs) xs) countPlace (countIn e + length xs) ∙ replaced-length e xs at (length xs) refl fits ∙ w
+  pub extend-length : length (extended e xs) ≡ entryOctets
+  unfolding extended
+  extend-length = length-set (replaced e at (length xs) xs) countPlace (countIn e + length xs) ∙ replaced-length e xs at (length xs) refl fits ∙ w
 
-  pub load-count : countIn (loaded e xs) ≡ countIn e + length xs
-  unfolding loaded
-  load-count =
+  pub extend-count : countIn (extended e xs) ≡ countIn e + length xs
+  unfolding extended
+  extend-count =
       getD-set-same (replaced e at (length xs) xs) countPlace (countIn e + length xs) 0
       (rw (replaced-length e xs at (length xs) refl fits, w) (omega arith))
 
-  other : (j : ℕ) → (j ≡ countPlace → ⊥) → getD (loaded e xs) j 0 ≡ getD (replaced e at (length xs) xs) j 0
-  unfolding loaded
+  other : (j : ℕ) → (j ≡ countPlace → ⊥) → getD (extended e xs) j 0 ≡ getD (replaced e at (length xs) xs) j 0
+  unfolding extended
   other j n = getD-set-other (replaced e at (length xs) xs) countPlace j (countIn e + length xs) 0 n
 
-  before : (j : ℕ) → (j ≡ countPlace → ⊥) → j < at → getD (loaded e xs) j 0 ≡ getD e j 0
+  before : (j : ℕ) → (j ≡ countPlace → ⊥) → j < at → getD (extended e xs) j 0 ≡ getD e j 0
   before j n l = other j n ∙ replaced-before e xs at (length xs) refl fits j l
 
-  pub load-cipher : cipherIn (loaded e xs) ≡ cipherIn e
-  load-cipher = before 0 (λ z. omega arith) (omega arith)
+  pub extend-cipher : cipherIn (extended e xs) ≡ cipherIn e
+  extend-cipher = before 0 (λ z. omega arith) (omega arith)
 
-  pub load-id : idIn (loaded e xs) ≡ idIn e
-  load-id = before 1 (λ z. omega arith) (omega arith)
+  pub extend-id : idIn (extended e xs) ≡ idIn e
+  extend-id = before 1 (λ z. omega arith) (omega arith)
 
-  load-ready : readyIn (loaded e xs) ≡ readyIn e
-  load-ready = before readyPlace (λ z. omega arith) (omega arith)
+  extend-ready : readyIn (extended e xs) ≡ readyIn e
+  extend-ready = before readyPlace (λ z. omega arith) (omega arith)
 
-  load-rest : (j : ℕ) → getD (keyRest (loaded e xs)) j 0 ≡ 0
-  load-rest j = getD-drop (countIn (loaded e xs)) (keyIn (loaded e xs)) j 0 ∙ rw load-count (go (decLt (countIn e + length xs + j) keyRoom))
+  extend-rest : (j : ℕ) → getD (keyRest (extended e xs)) j 0 ≡ 0
+  extend-rest j = getD-drop (countIn (extended e xs)) (keyIn (extended e xs)) j 0 ∙ rw extend-count (go (decLt (countIn e + length xs + j) keyRoom))
     where
       n : ℕ
       n = countIn e + length xs + j
 
-      go : Dec (n < keyRoom) → getD (keyIn (loaded e xs)) n 0 ≡ 0
+      go : Dec (n < keyRoom) → getD (keyIn (extended e xs)) n 0 ≡ 0
       go (yes l) =
           let z : countIn e + (length xs + j) ≡ n = omega arith in
-          key-octet (loaded e xs) load-length n l
+          key-octet (extended e xs) extend-length n l
           ∙ other (keyPlace + n) (λ q. omega arith)
           ∙ replaced-after e xs at (length xs) refl fits (keyPlace + n) (omega arith)
           ∙ sym (key-octet e w n l)
           ∙ ap (λ (x : ℕ). getD (keyIn e) x 0) (sym z)
           ∙ sym (getD-drop (countIn e) (keyIn e) (length xs + j) 0)
           ∙ zero-at (keyRest e) (u .rest) (length xs + j)
-      go (no a) = List·getD-eq-default (keyIn (loaded e xs)) 0 (rw (key-length (loaded e xs) load-length) (omega arith))
+      go (no a) = List·getD-eq-default (keyIn (extended e xs)) 0 (rw (key-length (extended e xs) extend-length) (omega arith))
 
   -- the octets that are there, and then these
-  pub load-octets : keyLoaded (loaded e xs) ≡ keyLoaded e ++ xs
-  load-octets =
-      ext-getD 0 (keyLoaded (loaded e xs)) (keyLoaded e ++ xs)
+  pub extend-octets : keyLoaded (extended e xs) ≡ keyLoaded e ++ xs
+  extend-octets =
+      ext-getD 0 (keyLoaded (extended e xs)) (keyLoaded e ++ xs)
       (long ∙ sym (length-append (keyLoaded e) xs ∙ ap (λ (x : ℕ). x + length xs) short))
       (λ t q. let q' : t < countIn e + length xs = rw long at q in old t q' ∙ go t q' (decLt t (countIn e)))
     where
-      long : length (keyLoaded (loaded e xs)) ≡ countIn e + length xs
-      long = loaded-count (loaded e xs) load-length (rw load-count in-room) ∙ load-count
+      long : length (keyLoaded (extended e xs)) ≡ countIn e + length xs
+      long = loaded-count (extended e xs) extend-length (rw extend-count in-room) ∙ extend-count
 
       short : length (keyLoaded e) ≡ countIn e
       short = loaded-count e w (omega (arith, in-room))
 
-      old : (t : ℕ) → t < countIn e + length xs → getD (keyLoaded (loaded e xs)) t 0 ≡ getD (replaced e at (length xs) xs) (keyPlace + t) 0
+      old : (t : ℕ) → t < countIn e + length xs → getD (keyLoaded (extended e xs)) t 0 ≡ getD (replaced e at (length xs) xs) (keyPlace + t) 0
       old t q =
-          getD-take (countIn (loaded e xs)) (keyIn (loaded e xs)) t 0 (rw load-count q)
-          ∙ key-octet (loaded e xs) load-length t (omega (arith, in-room))
+          getD-take (countIn (extended e xs)) (keyIn (extended e xs)) t 0 (rw extend-count q)
+          ∙ key-octet (extended e xs) extend-length t (omega (arith, in-room))
           ∙ other (keyPlace + t) (λ z. omega arith)
 
       go : (t : ℕ) → t < countIn e + length xs → Dec (t < countIn e)
@@ -203,19 +203,19 @@ module _ (e xs : List ℕ) (w : length e ≡ entryOctets) (u : Used e) (m : leng
           ∙ getD-append-add (keyLoaded e) xs (t - countIn e) 0)
 
   module _ (n : isReady e ≡ false) where
-    pub load-not-ready : isReady (loaded e xs) ≡ false
-    load-not-ready = rw load-ready n
+    pub extend-not-ready : isReady (extended e xs) ≡ false
+    extend-not-ready = rw extend-ready n
 
-    still : readyRight (loaded e xs) ≡ true
+    still : readyRight (extended e xs) ≡ true
     unfolding readyRight
-    still = rw (load-ready, eq-eqb _ _ (not-ready e u n))
+    still = rw (extend-ready, eq-eqb _ _ (not-ready e u n))
 
-    pub load-used : Used (loaded e xs)
-    load-used =
+    pub extend-used : Used (extended e xs)
+    extend-used =
         record {
-          name = rw (load-cipher, load-id) (u .name);
-          count = rw (load-count, load-cipher) load-fits;
-          rest = zeros (keyRest (loaded e xs)) load-rest;
+          range = rw (extend-cipher, extend-id) (u .range);
+          count = rw (extend-count, extend-cipher) extend-fits;
+          rest = zeros (keyRest (extended e xs)) extend-rest;
           ready = still;
         }
 
@@ -255,7 +255,7 @@ module _ (e : List ℕ) (w : length e ≡ entryOctets) where
   complete-used u z a =
       let one : readyIn (completed e) ≡ 1 = eqb-true _ _ complete-ready in
       record {
-        name = rw (complete-cipher, complete-id) (u .name);
+        range = rw (complete-cipher, complete-id) (u .range);
         count = rw (complete-count, complete-cipher) (u .count);
         rest = rw (complete-count, complete-key) (u .rest);
         ready = rw (one, complete-cipher, complete-count, z, complete-key, a);

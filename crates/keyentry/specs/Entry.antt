@@ -6,7 +6,7 @@ use lib.ListN.{length, getD, set, take, drop, replicate}
 use lib.Dec.{ltb, leb, eqb}
 use Rattle.octets.specs.Lists.{replaced, allZero}
 use Rattle.octets.specs.Tests.{pick}
-use Rattle.ciphers.specs.Numbers.{keyOctets}
+use Rattle.sizes.specs.Ciphers.{keyOctets, keyRoom}
 use Rattle.ciphers.specs.Keys.{keyAllowed}
 use Rattle.answers.specs.declared.Answer.the-variants.{NotReady, NotAllowed, Already, TooMany}
 use Rattle.answers.specs.Outcomes.{Refusals}
@@ -45,9 +45,6 @@ isReady e = eqb (readyIn e) 1
 abbrev pub keyPlace : ℕ
 keyPlace = 4
 
-abbrev pub keyRoom : ℕ
-keyRoom = 32
-
 abbrev pub keyIn : List ℕ → List ℕ
 keyIn e = take keyRoom (drop keyPlace e)
 
@@ -61,8 +58,8 @@ abbrev pub mostId : ℕ
 mostId = 63
 
 -- the cipher is 1 to 3, the ID at most 63
-unfoldable pub named : ℕ → ℕ → Bool
-named c i = leb 1 c && (leb c 3 && leb i mostId)
+unfoldable pub inRange : ℕ → ℕ → Bool
+inRange c i = leb 1 c && (leb c 3 && leb i mostId)
 
 -- how many octets the key still lacks
 unfoldable pub lacks : List ℕ → ℕ
@@ -76,7 +73,7 @@ readyRight e = eqb (readyIn e) 0 || (leb (readyIn e) 1 && (eqb (lacks e) 0 && ke
 unfoldable pub usedRight : List ℕ → Bool
 usedRight e =
     -- the cipher is 1 to 3, the ID at most 63,
-    named (cipherIn e) (idIn e)
+    inRange (cipherIn e) (idIn e)
     -- the count is at most the key's length,
     && (leb (countIn e) (keyOctets (cipherIn e))
     -- key octets past the count are zero,
@@ -103,11 +100,11 @@ unfoldable pub newEntry : ℕ → ℕ → List ℕ
 newEntry c i = c ∷ i ∷ replicate (entryOctets - 2) 0
 
 -- add puts key octets after those that are there, and counts them; refused by 11, 13
-unfoldable pub loadRefusals : List ℕ → List ℕ → Refusals
-loadRefusals e xs = (isReady e, Already) ∷ (ltb (lacks e) (length xs), TooMany) ∷ []
+unfoldable pub extendRefusals : List ℕ → List ℕ → Refusals
+extendRefusals e xs = (isReady e, Already) ∷ (ltb (lacks e) (length xs), TooMany) ∷ []
 
-unfoldable pub loaded : List ℕ → List ℕ → List ℕ
-loaded e xs = set (replaced e (keyPlace + countIn e) (length xs) xs) countPlace (countIn e + length xs)
+unfoldable pub extended : List ℕ → List ℕ → List ℕ
+extended e xs = set (replaced e (keyPlace + countIn e) (length xs) xs) countPlace (countIn e + length xs)
 
 -- finish marks ready; refused by 11, 6, 7
 unfoldable pub completeRefusals : List ℕ → Refusals

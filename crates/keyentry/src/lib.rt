@@ -4,15 +4,17 @@ ghost use Prim.Native.Nat.{_≤_};
 ghost use lib.ListN.{length};
 ghost use Rattle.answers.specs.Outcomes.{outcome};
 ghost use Rattle.octets.specs.Lists.{allZero};
-ghost use Rattle.keyentry.specs.Entry.{entryOctets, countIn, keyRoom, keyIn, keyRest, named, lacks, readyRight, usedRight, entryRight, isFor, blank, newEntry, loadRefusals, loaded, completeRefusals, completed};
+ghost use Rattle.keyentry.specs.Entry.{entryOctets, countIn, keyIn, keyRest, inRange, lacks, readyRight, usedRight, entryRight, isFor, blank, newEntry, extendRefusals, extended, completeRefusals, completed};
+ghost use Rattle.sizes.specs.Ciphers.{keyRoom};
 use answers::Answer;
-use ciphers::cipher::Aes;
-use ciphers::cipher::Scramble;
-use ciphers::cipher::key_octets;
 use ciphers::key::key_allowed;
 use octets::all_zero;
 use octets::copy;
 use octets::wide;
+use sizes::cipher::Aes;
+use sizes::cipher::KEY_ROOM;
+use sizes::cipher::Scramble;
+use sizes::cipher::key_octets;
 
 // A later request puts a name after the key: an entry then has more octets, and the key keeps its place.
 pub const ENTRY_OCTETS: usize = 36;
@@ -26,8 +28,6 @@ pub const COUNT: usize = 2;
 pub const READY: usize = 3;
 
 pub const KEY: usize = 4;
-
-pub const KEY_ROOM: usize = 32;
 
 pub const KEY_END: usize = KEY + KEY_ROOM;
 
@@ -54,8 +54,8 @@ fn rest_zero(e: &[u8]) -> bool
 }
 
 // Whether a cipher type and a key ID are in range.
-pub fn is_named(cipher: u8, id: u8) -> bool
-    ensures { λ r. ⌜ r ≡ named cipher id ⌝ }
+pub fn in_range(cipher: u8, id: u8) -> bool
+    ensures { λ r. ⌜ r ≡ inRange cipher id ⌝ }
 {
     if cipher < Scramble::TYPE {
         return false;
@@ -99,7 +99,7 @@ fn used_right(e: &[u8]) -> bool
     requires { ⌜ length (now e) ≡ entryOctets ⌝ }
     ensures { λ r. ⌜ r ≡ usedRight (now (e .entry)) ⌝ }
 {
-    if !is_named(e[CIPHER], e[ID]) {
+    if !in_range(e[CIPHER], e[ID]) {
         return false;
     }
     if wide(e[COUNT]) > key_octets(e[CIPHER]) {
@@ -156,7 +156,7 @@ pub fn write_new(e: &mut [u8], cipher: u8, id: u8)
 // Puts key octets after those that are there, and counts them.
 fn append(e: &mut [u8], xs: &[u8])
     requires { ⌜ (length (now e) ≡ entryOctets) × (countIn (now e) ≤ keyRoom) × (length (now xs) ≤ lacks (now e)) ⌝ }
-    ensures { λ _. ⌜ now (e .exit) ≡ loaded (now (e .entry)) (now (xs .entry)) ⌝ }
+    ensures { λ _. ⌜ now (e .exit) ≡ extended (now (e .entry)) (now (xs .entry)) ⌝ }
 {
     let n = wide(e[COUNT]);
     let at = KEY + n;
@@ -166,9 +166,9 @@ fn append(e: &mut [u8], xs: &[u8])
 }
 
 // Add, of the entry.
-pub fn load(e: &mut [u8], xs: &[u8]) -> Answer
+pub fn extend(e: &mut [u8], xs: &[u8]) -> Answer
     requires { ⌜ (length (now e) ≡ entryOctets) × (countIn (now e) ≤ keyRoom) ⌝ }
-    ensures { λ r. ⌜ (r, now (e .exit)) ≡ outcome (now (e .entry)) (loadRefusals (now (e .entry)) (now (xs .entry))) (loaded (now (e .entry)) (now (xs .entry))) ⌝ }
+    ensures { λ r. ⌜ (r, now (e .exit)) ≡ outcome (now (e .entry)) (extendRefusals (now (e .entry)) (now (xs .entry))) (extended (now (e .entry)) (now (xs .entry))) ⌝ }
 {
     if e[READY] == 1 {
         return Answer::Already;

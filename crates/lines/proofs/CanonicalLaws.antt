@@ -1,4 +1,4 @@
--- A line that stands for a record is the record's line, and the record is fine. Assumes nothing.
+-- A line that stands for a record is the record's line, and the record is fine.
 use mathlib.Core.Path.{_≡_, refl, sym, ap, subst, _∙_}
 use mathlib.Core.Bool.{Bool, true, false, _&&_}
 use mathlib.Core.List.{List, [], _∷_}
@@ -16,9 +16,8 @@ use Rattle.text.specs.Hex.{isHex, hexText}
 use Rattle.text.proofs.PartedLaws.{joined, joined-parted}
 use Rattle.text.proofs.DecimalLaws.{decimal-back, decimal-most}
 use Rattle.text.proofs.HexLaws.{hex-size, hex-back, octets-hexOctets, length-hexOctets}
-use Rattle.keyentry.specs.Entry.{keyRoom}
-use Rattle.session.specs.Session.{vectorOctets}
-use Rattle.voice.specs.Frame.{frameOctets}
+use Rattle.sizes.specs.Ciphers.{keyRoom, vectorOctets}
+use Rattle.sizes.specs.Frame.{frameOctets}
 use Rattle.lines.specs.Record.{Record, Load, Open, Join, Voice, Announce, Lost, End, Malformed, lineOctets, fieldAt, areFields, isName, isNumber, isKey, octetsIn, load, opened, join, voice, announce, alone, byLetter, ofParts, lineOf, printed, Fine}
 
 -- r is fine, and its line is l

@@ -1,4 +1,4 @@
--- The lines of document 01, "The receiver program", others, and lines that stand for nothing, read by the definitions. Assumes nothing.
+-- The lines of document 01, "The receiver program", others, and lines that stand for nothing, read by the definitions.
 use mathlib.Core.Path.{_≡_, refl}
 use mathlib.Core.List.{[], _∷_}
 use lib.ListN.{replicate}

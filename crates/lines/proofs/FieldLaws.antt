@@ -1,4 +1,4 @@
--- The fields of a line, walked by a cursor. Assumes nothing.
+-- The fields of a line, walked by a cursor.
 use mathlib.Core.Path.{_≡_, refl, sym, ap, _∙_}
 use mathlib.Core.Bool.{Bool, true, false, _&&_, true≢false}
 use mathlib.Core.List.{List, [], _∷_}

@@ -1,4 +1,4 @@
--- A line by its letter. Assumes nothing.
+-- A line by its letter.
 use mathlib.Core.Path.{_≡_, sym, ap, _∙_}
 use mathlib.Core.Bool.{true}
 use mathlib.Core.List.{List}

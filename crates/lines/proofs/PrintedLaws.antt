@@ -1,4 +1,4 @@
--- A record's line stands for the record. Assumes nothing.
+-- A record's line stands for the record.
 use mathlib.Core.Path.{_≡_, refl, ap, _∙_}
 use mathlib.Core.Bool.{true, false}
 use mathlib.Core.List.{List, [], _∷_, _++_}
@@ -14,9 +14,8 @@ use Rattle.text.specs.Hex.{isHex, hexOctets, hexText}
 use Rattle.text.proofs.PartedLaws.{Lacks, AllLack, joined, parted-joined}
 use Rattle.text.proofs.DecimalLaws.{decimal-is, decimal-round, decimal-size, decimal-lacks}
 use Rattle.text.proofs.HexLaws.{length-hexText, hexText-hex, hex-round, hex-lacks}
-use Rattle.keyentry.specs.Entry.{keyRoom}
-use Rattle.session.specs.Session.{vectorOctets}
-use Rattle.voice.specs.Frame.{frameOctets}
+use Rattle.sizes.specs.Ciphers.{keyRoom, vectorOctets}
+use Rattle.sizes.specs.Frame.{frameOctets}
 use Rattle.lines.specs.Record.{Record, Load, Open, Join, Voice, Announce, Lost, End, Malformed, lineOctets, fieldAt, isName, isKey, octetsIn, ofParts, lineOf, printed, Fine}
 
 -- ---- the parts of a printed line lack a tab

@@ -1,4 +1,4 @@
--- What a line's fields make of each kind of record. Assumes nothing.
+-- What a line's fields make of each kind of record.
 use mathlib.Core.Path.{_≡_, refl, sym, ap, subst, _∙_}
 use mathlib.Core.Bool.{Bool, true, false, _&&_, and-true, false≢true}
 use mathlib.Core.List.{List, [], _∷_, _++_}
@@ -16,9 +16,8 @@ use Rattle.text.specs.Decimal.{isDecimal, decimalValue, numberIn}
 use Rattle.text.specs.Hex.{isHex, mostOctets, hexOctets}
 use Rattle.text.proofs.DecimalLaws.{number-of, number-not}
 use Rattle.text.proofs.HexLaws.{hex-size, length-hexOctets}
-use Rattle.keyentry.specs.Entry.{keyRoom}
-use Rattle.session.specs.Session.{vectorOctets}
-use Rattle.voice.specs.Frame.{frameOctets}
+use Rattle.sizes.specs.Ciphers.{keyRoom, vectorOctets}
+use Rattle.sizes.specs.Frame.{frameOctets}
 use Rattle.lines.specs.declared.field.Cursor.{Cursor}
 use Rattle.lines.specs.declared.field.Named.{Named}
 use Rattle.lines.specs.declared.field.Named.the-variants as named

@@ -10,9 +10,8 @@ use Rattle.octets.specs.Bits.{Octets}
 use Rattle.text.specs.Parted.{tabOctet, parted}
 use Rattle.text.specs.Decimal.{mostNumber, isDecimal, decimalValue, decimal}
 use Rattle.text.specs.Hex.{isHex, hexOctets, hexText}
-use Rattle.keyentry.specs.Entry.{keyRoom}
-use Rattle.session.specs.Session.{vectorOctets}
-use Rattle.voice.specs.Frame.{frameOctets}
+use Rattle.sizes.specs.Ciphers.{keyRoom, vectorOctets}
+use Rattle.sizes.specs.Frame.{frameOctets}
 use Rattle.lines.specs.declared.record.Parsed.{Parsed}
 use Rattle.lines.specs.declared.record.Parsed.the-variants as code
 

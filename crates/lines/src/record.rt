@@ -12,10 +12,10 @@ use crate::field::last_hex;
 use crate::field::name;
 use crate::field::next_field;
 use crate::field::next_number;
-use keyentry::KEY_ROOM;
-use session::VECTOR_OCTETS;
+use sizes::cipher::KEY_ROOM;
+use sizes::cipher::VECTOR_OCTETS;
+use sizes::frame::FRAME_OCTETS;
 use text::decimal::Number;
-use voice::frame::FRAME_OCTETS;
 
 pub const LINE_OCTETS: usize = 96;
 

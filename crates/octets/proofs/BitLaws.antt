@@ -1,4 +1,4 @@
--- Laws of bits and octets. Assumes nothing.
+-- Laws of bits and octets.
 use mathlib.Core.Path.{_≡_, refl, sym, ap, ap₂, _∙_}
 use mathlib.Core.Bool.{Bool, true, false, _&&_}
 use mathlib.Core.List.{List, [], _∷_, _++_}

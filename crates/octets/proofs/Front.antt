@@ -1,5 +1,4 @@
 -- A loop that rewrites a list in place from the front, towards a list l: what starts it, what a store does, what its end gives.
--- Assumes nothing.
 use mathlib.Core.Path.{_≡_, refl, sym, ap, _∙_, subst}
 use mathlib.Core.List.{List, _++_}
 use Prim.Native.Nat.{ℕ, _+_, _-_, _≤_, _<_}

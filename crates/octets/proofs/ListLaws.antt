@@ -1,4 +1,4 @@
--- Laws of lists given by a function of the place, and of repeated steps. Assumes nothing.
+-- Laws of lists given by a function of the place, and of repeated steps.
 use mathlib.Core.Path.{_≡_, refl, sym, ap, ap₂, _∙_}
 use mathlib.Core.Bool.{true}
 use mathlib.Core.List.{List, [], _∷_, _++_}

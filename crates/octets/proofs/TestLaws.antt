@@ -1,5 +1,4 @@
 -- Laws of the tests over a run of numbers. A rule of every octet, or of every entry of a table, is one such test that antt computes.
--- Assumes nothing.
 use Prim.Native.Nat.{ℕ, zero, suc, _+_, _≤_, _<_, zero-le, suc-le-suc}
 use native.Mathlib.Nat.{eq-or-lt-of-le, le-of-suc-le-suc, not-suc-le-zero}
 use native.Mathlib.Numerals.{add-one}

@@ -1,4 +1,4 @@
--- Turning, octet by octet. Assumes nothing.
+-- Turning, octet by octet.
 use mathlib.Core.Path.{_≡_, sym, ap, ap₂, _∙_}
 use mathlib.Core.List.{List}
 use Prim.Native.Nat.{ℕ, _+_, _-_, _*_, _/_, _%_, _^_, _≤_, _<_}

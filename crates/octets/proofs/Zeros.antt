@@ -1,4 +1,4 @@
--- Octets given by a test, and zeros. Assumes nothing.
+-- Octets given by a test, and zeros.
 use mathlib.Core.Path.{_≡_, refl}
 use mathlib.Core.Bool.{true}
 use mathlib.Core.List.{List}

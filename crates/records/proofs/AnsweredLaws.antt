@@ -1,4 +1,4 @@
--- A line of text and its output line over lent octets. Assumes nothing.
+-- A line of text and its output line over lent octets.
 use mathlib.Core.Path.{_≡_, ap, _∙_}
 use mathlib.Core.List.{List}
 use Prim.Native.Nat.{ℕ, _≤_, _<_}

@@ -1,4 +1,4 @@
--- Through any lines from an all-zero book and no call, each gets an answer of its record: 2, 4 and 14 are never printed, nor 6 for an O or a J. Assumes nothing.
+-- Through any lines from an all-zero book and no call, each gets an answer of its record: 2, 4 and 14 are never printed, nor 6 for an O or a J.
 use mathlib.Core.Path.{_≡_, refl, sym, ap, _∙_}
 use mathlib.Core.Bool.{Bool, true, false, true≢false, false≢true}
 use mathlib.Core.List.{List, [], _∷_, _++_}

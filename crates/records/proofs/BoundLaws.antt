@@ -1,4 +1,4 @@
--- What a caller that lends slices needs of take and finish: how much they used and wrote. Assumes nothing.
+-- What a caller that lends slices needs of take and finish: how much they used and wrote.
 use mathlib.Core.Path.{_≡_, ap}
 use mathlib.Core.List.{List, [], _∷_}
 use Prim.Native.Nat.{ℕ, _≤_}

@@ -1,4 +1,4 @@
--- What is carried from piece to piece: a line's octets, kept as far as they show that it is too long. Assumes nothing.
+-- What is carried from piece to piece: a line's octets, kept as far as they show that it is too long.
 use mathlib.Core.Path.{_≡_, sym, ap, _∙_}
 use mathlib.Core.List.{List, _++_, append-assoc}
 use Prim.Native.Nat.{ℕ, zero, suc, _+_, _-_, _≤_, _<_, min}

@@ -1,4 +1,4 @@
--- The ways through a K record, and that a refused one leaves the book as it was. Assumes nothing.
+-- The ways through a K record, and that a refused one leaves the book as it was.
 use mathlib.Core.Path.{_≡_, refl, sym, ap, subst, _∙_}
 use mathlib.Core.Bool.{Bool, true, false, true≢false}
 use mathlib.Core.List.{List}

@@ -1,4 +1,4 @@
--- An output line, written part after part over lent octets. Assumes nothing.
+-- An output line, written part after part over lent octets.
 use mathlib.Core.Path.{_≡_, refl, sym, ap, _∙_}
 use mathlib.Core.List.{List, [], _∷_, _++_, append-assoc, append-nil}
 use Prim.Native.Nat.{ℕ, _+_, _-_, _*_, _≤_}
@@ -14,7 +14,7 @@ use Rattle.answers.specs.Numbers.{numberOf}
 use Rattle.voice.specs.declared.call.Call.{Call}
 use borrow.Author.Tests.{eq-eqb, ne-eqb}
 use Rattle.voice.specs.Call.{closedEnd}
-use Rattle.voice.specs.Frame.{frameOctets}
+use Rattle.sizes.specs.Frame.{frameOctets}
 use Rattle.text.specs.Parted.{tabOctet, lineEnd}
 use Rattle.text.specs.Decimal.{decimal}
 use Rattle.text.specs.Hex.{hexText}

@@ -1,4 +1,4 @@
--- The answers that a record can get where book and call are good, no key is half loaded and no call is a sender's. Assumes nothing.
+-- The answers that a record can get where book and call are good, no key is half loaded and no call is a sender's.
 use mathlib.Core.Path.{_≡_, refl, sym, ap, _∙_}
 use mathlib.Core.Bool.{Bool, true, false, not, true≢false}
 use mathlib.Core.List.{List}
@@ -12,18 +12,18 @@ use Rattle.answers.specs.declared.Answer.the-variants.{Done}
 use Rattle.answers.specs.Numbers.{numberOf, isOneOf}
 use Rattle.answers.proofs.OutcomeLaws.{gives}
 use Rattle.ciphers.specs.Keystream.{stream}
-use Rattle.keyentry.specs.Entry.{cipherIn, isReady, keyRoom, named, loadRefusals, completeRefusals}
-use Rattle.keyentry.proofs.RightLaws.{for-name}
-use Rattle.keyentry.proofs.WriteLaws.{named-used}
+use Rattle.keyentry.specs.Entry.{cipherIn, isReady, inRange, extendRefusals, completeRefusals}
+use Rattle.sizes.specs.Ciphers.{keyRoom, vectorOctets}
+use Rattle.keyentry.proofs.RightLaws.{for-parts}
+use Rattle.keyentry.proofs.WriteLaws.{in-range-used}
 use Rattle.keybook.specs.Book.{entries, bookOctets, goodBook, findEntry, bookRefusals}
-use Rattle.keybook.specs.Operations.{has, entryFor, beginRefusals, beginAfter, beginOf, addRefusals, addOf, finishRefusals, finishOf}
+use Rattle.keybook.specs.Operations.{hasEntry, entryFor, beginRefusals, beginAfter, beginOf, addRefusals, addOf, finishRefusals, finishOf}
 use Rattle.keybook.proofs.GoodLaws.{good-sized, found-for}
-use Rattle.session.specs.Session.{vectorOctets}
-use Rattle.session.specs.Ladder.{keyRefusals, vectorRefusals}
+use Rattle.openings.specs.Ladder.{keyRefusals, vectorRefusals}
 use Rattle.voice.specs.declared.call.Call.{Call}
 use Rattle.voice.specs.Call.{standing, isBad, endRefusals, endOf}
 use Rattle.voice.specs.Opening.{joinRefusals, openRefusals, begun, openOf, joinOf}
-use Rattle.voice.specs.Frame.{frameOctets}
+use Rattle.sizes.specs.Frame.{frameOctets}
 use Rattle.voice.specs.Slot.{lostRefusals, lostOf, zeroNext, voiceRefusals, voiceAfter, voiceBy, voiceOf}
 use Rattle.voice.specs.Vector.{announceRefusals, announceOf}
 use Rattle.voice.proofs.CallLaws.{not-bad, unless-sender}
@@ -65,9 +65,9 @@ module _ (b : List ℕ) (g : goodBook b ≡ true) where
         gives (Can (Load c i key)) b (beginRefusals b c i) (Done, beginAfter b c i)
         (book-sized, λ _. (λ h. refl, λ _. (never-not g, λ _. (λ h. refl, λ _. (λ h. refl, λ _. tt))))) refl
 
-    module _ (there : has b c i ≡ true) where
+    module _ (there : hasEntry b c i ≡ true) where
       add-can : length key ≤ keyRoom → Can (Load c i key) (addOf b c i key .0)
-      unfolding addOf addRefusals bookRefusals loadRefusals
+      unfolding addOf addRefusals bookRefusals extendRefusals
       add-can l =
           gives (Can (Load c i key)) b (addRefusals b c i key) _
           (never (le-ltb keyRoom (length key) l), λ _. (book-sized, λ _. (λ h. refl, λ _. (never-not g, λ _. (never-not there, λ _. (λ h. refl, λ _. (λ h. refl, λ _. tt))))))) refl
@@ -78,7 +78,7 @@ module _ (b : List ℕ) (g : goodBook b ≡ true) where
           gives (Can (Load c i key)) b (finishRefusals b c i) _
           (book-sized, λ _. (λ h. refl, λ _. (never-not g, λ _. (never-not there, λ _. (λ h. refl, λ _. (λ h. refl, λ _. (λ h. refl, λ _. tt))))))) refl
 
-begun-has : {b : List ℕ} {c i k : ℕ} {e after : List ℕ} → Begun b c i k e after → has after c i ≡ true
+begun-has : {b : List ℕ} {c i k : ℕ} {e after : List ℕ} → Begun b c i k e after → hasEntry after c i ≡ true
 begun-has {c = c} {i = i} {after = after} m = lt-ltb (findEntry after c i) entries (rw (begun-found m) (m .changed .below))
 
 load-can : (b : List ℕ) (c i : ℕ) (key : List ℕ) → goodBook b ≡ true → length key ≤ keyRoom → Can (Load c i key) (loadOf b c i key .0)
@@ -89,11 +89,11 @@ load-can b c i key g l =
 
 module _ (book : List ℕ) (call : Call) (s : Sound book call) where
   -- an entry that is there is ready
-  ready-there : (c i : ℕ) → not (named c i) ≡ false → not (has book c i) ≡ false → isReady (entryFor book c i) ≡ true
+  ready-there : (c i : ℕ) → not (inRange c i) ≡ false → not (hasEntry book c i) ≡ false → isReady (entryFor book c i) ≡ true
   ready-there c i n h =
       let l : findEntry book c i < entries = ltb-true _ _ (not-false _ h) in
-      let q : cipherIn (entryFor book c i) ≡ c = for-name (entryFor book c i) c i (found-for book c i l) .0 in
-      s .all-ready (findEntry book c i) l (λ z. named-used c i (not-false _ n) (sym q ∙ z))
+      let q : cipherIn (entryFor book c i) ≡ c = for-parts (entryFor book c i) c i (found-for book c i l) .0 in
+      s .all-ready (findEntry book c i) l (λ z. in-range-used c i (not-false _ n) (sym q ∙ z))
 
   good-stays : {A : Type 0} → isBad (standing call) ≡ true → A
   good-stays = never (not-bad call (s .call-good))

@@ -1,4 +1,4 @@
--- Feeding an input, in two parts or whole, and then its end comes to what its lines come to. Assumes nothing.
+-- Feeding an input, in two parts or whole, and then its end comes to what its lines come to.
 use mathlib.Core.Path.{_≡_, refl, sym, ap, _∙_}
 use mathlib.Core.Bool.{Bool, true, false}
 use mathlib.Core.List.{List, [], _∷_, _++_, append-assoc, append-nil}

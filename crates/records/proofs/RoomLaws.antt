@@ -1,4 +1,4 @@
--- A piece taken line by line, as far as there is room. Assumes nothing.
+-- A piece taken line by line, as far as there is room.
 use mathlib.Core.Path.{_≡_, refl, ap, _∙_}
 use mathlib.Core.Bool.{Bool, true, false}
 use mathlib.Core.List.{List, [], _∷_, _++_, append-nil}

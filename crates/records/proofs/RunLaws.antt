@@ -1,5 +1,4 @@
 -- However an input is cut into pieces, and whatever room for output each is given, taking them and finishing writes what its lines come to.
--- Assumes nothing.
 use mathlib.Core.Path.{_≡_, refl, sym, ap, _∙_}
 use mathlib.Core.List.{List, [], _++_}
 use Prim.Native.Nat.{ℕ, _+_, _-_, _≤_}

@@ -1,5 +1,5 @@
 -- Each operation's statement settles its outcome: any two outcomes that meet it are equal. And a refusal, any answer but 0 and 1, changes
--- nothing. Assumes nothing.
+-- nothing.
 use mathlib.Core.Path.{_≡_, refl, sym, ap, _∙_}
 use mathlib.Core.List.{List, []}
 use Prim.Native.Nat.{ℕ}

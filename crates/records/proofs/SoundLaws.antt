@@ -1,4 +1,4 @@
--- From an all-zero book and no call, book and call stay good through any lines: no half key is left in the book, and there is no sender. Assumes nothing.
+-- From an all-zero book and no call, book and call stay good through any lines: no half key is left in the book, and there is no sender.
 use mathlib.Core.Path.{_≡_, _∙_}
 use mathlib.Core.Bool.{Bool, true, false, not}
 use mathlib.Core.List.{List, [], _∷_}
@@ -14,14 +14,13 @@ use Rattle.answers.specs.declared.Answer.the-variants.{Done}
 use Rattle.answers.specs.Outcomes.{Refusals, settled}
 use Rattle.answers.proofs.OutcomeLaws.{by-refusals}
 use Rattle.ciphers.specs.Keystream.{stream}
-use Rattle.ciphers.specs.Numbers.{sessionSlots}
+use Rattle.sizes.specs.Ciphers.{sessionSlots, scrambles, noVector}
 use Rattle.keyentry.specs.Entry.{entryOctets, cipherIn, isReady}
 use Rattle.keybook.specs.Book.{entries, bookOctets, entryOf, goodBook}
 use Rattle.keybook.specs.History.{bookAfter}
 use Rattle.keybook.proofs.GoodLaws.{entry-octet}
 use Rattle.keybook.proofs.HoldLaws.{always-good}
-use Rattle.session.specs.Session.{scrambles, noVector}
-use Rattle.session.specs.Ladder.{keyFor}
+use Rattle.openings.specs.Ladder.{keyFor}
 use Rattle.voice.specs.declared.call.Call.{Call}
 use Rattle.voice.specs.Call.{sendingEnd, receivingEnd, goodCall, noCall, Standing, closed, receiving, standing, written, stands, endRefusals, endOf}
 use Rattle.voice.specs.Opening.{superframeSlots, joinRefusals, openRefusals, begun, openOf, joined, joinOf}

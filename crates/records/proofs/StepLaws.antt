@@ -1,4 +1,4 @@
--- The ways through a record, and the session's octets that are kept from record to record. Assumes nothing.
+-- The ways through a record, and the session's octets that are kept from record to record.
 use mathlib.Core.Path.{_≡_, refl, sym, ap, _∙_}
 use mathlib.Core.Bool.{Bool, true, false, false≢true}
 use mathlib.Core.List.{List, [], _++_}
@@ -12,10 +12,10 @@ use Rattle.answers.specs.declared.Answer.{Answer}
 use Rattle.answers.specs.declared.Answer.the-variants as answer
 use Rattle.answers.specs.Numbers.{isDone}
 use Rattle.answers.proofs.OutcomeLaws.{Refusal}
-use Rattle.session.specs.Session.{vectorOctets, scrambles}
+use Rattle.sizes.specs.Ciphers.{vectorOctets, scrambles}
 use Rattle.voice.specs.declared.call.Call.{Call}
 use Rattle.voice.specs.Call.{goodCall, standing, endOf}
-use Rattle.voice.specs.Frame.{frameOctets, sessionOctets}
+use Rattle.sizes.specs.Frame.{frameOctets, sessionOctets}
 use Rattle.voice.specs.Opening.{openOf, joinOf}
 use Rattle.voice.specs.Slot.{lostOf, voiceBy, voiceOf, voiceByOctets, withoutFrame, knows, sessionStreamOf}
 use Rattle.voice.specs.Vector.{announceOf}

@@ -1,4 +1,4 @@
--- A piece taken line by line comes to what its octets come to, as far as there is room. Assumes nothing.
+-- A piece taken line by line comes to what its octets come to, as far as there is room.
 use mathlib.Core.Path.{_≡_, refl, sym, ap, _∙_}
 use mathlib.Core.List.{List, [], _∷_, _++_, append-assoc, append-nil}
 use Prim.Native.Nat.{ℕ, suc, _+_, _-_, _≤_, _<_, min}

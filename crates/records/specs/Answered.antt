@@ -10,7 +10,7 @@ use Rattle.answers.specs.declared.Answer.{Answer}
 use Rattle.answers.specs.Numbers.{numberOf}
 use Rattle.voice.specs.declared.call.Call.{Call}
 use Rattle.voice.specs.Call.{closedEnd}
-use Rattle.voice.specs.Frame.{frameOctets}
+use Rattle.sizes.specs.Frame.{frameOctets}
 use Rattle.text.specs.Parted.{tabOctet, lineEnd}
 use Rattle.text.specs.Decimal.{decimal}
 use Rattle.text.specs.Hex.{hexText}

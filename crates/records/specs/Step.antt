@@ -11,7 +11,7 @@ use Rattle.answers.specs.declared.Answer.the-variants as answer
 use Rattle.voice.specs.declared.call.Call.{Call}
 use Rattle.voice.specs.Call.{endOf}
 use Rattle.voice.specs.Opening.{openOf, joinOf}
-use Rattle.voice.specs.Frame.{sessionOctets}
+use Rattle.sizes.specs.Frame.{sessionOctets}
 use Rattle.voice.specs.Slot.{lostOf, voiceOf, IsSession}
 use Rattle.voice.specs.Vector.{announceOf}
 use Rattle.lines.specs.Record.{Record, Load, Open, Join, Voice, Announce, Lost, End, Malformed}

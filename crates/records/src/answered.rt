@@ -2,9 +2,9 @@
 ghost use mathlib.Core.Path.{_≡_};
 ghost use Rattle.records.specs.Answered.{lineIn};
 use crate::respond::respond;
+use sizes::frame::FRAME_OCTETS;
+use sizes::frame::SESSION_OCTETS;
 use voice::call::Call;
-use voice::frame::FRAME_OCTETS;
-use voice::frame::SESSION_OCTETS;
 
 const NUMBER_ROOM: usize = 3;
 

@@ -3,7 +3,7 @@ ghost use Prim.Native.Nat.{_+_, _*_, _≤_};
 ghost use lib.ListN.{length};
 ghost use Rattle.text.specs.Decimal.{decimal};
 ghost use Rattle.text.specs.Hex.{hexText};
-ghost use Rattle.voice.specs.Frame.{frameOctets};
+ghost use Rattle.sizes.specs.Frame.{frameOctets};
 ghost use Rattle.records.specs.Answered.{place, shown, answerLine, numberRoom, answerRoom, Laid};
 use answers::Answer;
 use octets::copy;

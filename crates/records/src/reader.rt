@@ -11,11 +11,11 @@ use crate::respond::Response;
 use crate::respond::respond;
 use lines::record::LINE_OCTETS;
 use octets::copy;
+use sizes::frame::SESSION_OCTETS;
 use text::part::LINE_END;
 use text::part::part_end;
 use voice::call::Call;
 use voice::call::no_call;
-use voice::frame::SESSION_OCTETS;
 
 // The most octets of a line that are kept: one more than a line may have, which shows that it is too long.
 pub const KEPT_OCTETS: usize = LINE_OCTETS + 1;

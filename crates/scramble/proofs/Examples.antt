@@ -1,4 +1,4 @@
--- The marked example (001, 7.2.2.1): what the data test vector was turned over by. Assumes nothing.
+-- The marked example (001, 7.2.2.1): what the data test vector was turned over by.
 use mathlib.Core.Path.{_≡_, refl}
 use mathlib.Core.List.{[], _∷_}
 use Rattle.octets.specs.Lists.{iterate}

@@ -1,4 +1,4 @@
--- The fifteen bits held from a place on, and from a later one. Assumes nothing.
+-- The fifteen bits held from a place on, and from a later one.
 use mathlib.Core.Path.{_≡_, sym, ap, ap₂, _∙_}
 use mathlib.Core.List.{List}
 use Prim.Native.Nat.{ℕ, _+_, _-_, _*_, _/_, _%_, _^_, _≤_, _<_}

@@ -1,4 +1,4 @@
--- P 0 to P 14 are the key's bits, the least significant first. Assumes nothing.
+-- P 0 to P 14 are the key's bits, the least significant first.
 use mathlib.Core.Path.{_≡_, sym, ap, _∙_}
 use mathlib.Core.List.{List}
 use Prim.Native.Nat.{ℕ, _+_, _-_, _*_, _/_, _%_, _^_, _<_}

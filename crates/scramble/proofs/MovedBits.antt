@@ -1,4 +1,4 @@
--- Fifteen bits moved on. Every number of fifteen bits is held by some key at place 0, so what the code makes of the bits of a key it makes of all. Assumes nothing.
+-- Fifteen bits moved on. Every number of fifteen bits is held by some key at place 0, so what the code makes of the bits of a key it makes of all.
 use mathlib.Core.Path.{_≡_, sym, ap, _∙_}
 use mathlib.Core.List.{List, [], _∷_}
 use Prim.Native.Nat.{ℕ, zero, suc, _+_, _-_, _*_, _/_, _%_, _^_, _≤_, _<_}

@@ -1,4 +1,4 @@
--- No period is shorter than 32,767, unless the key is zero. Assumes nothing.
+-- No period is shorter than 32,767, unless the key is zero.
 --
 -- 32,767 is 7 * 31 * 151. A period d that the prime p does not divide makes 32,767 / p a period too, as d has an inverse modulo p. But of
 -- each of these three an odd number of multiples is at hand whose powers of X have the sum 0: the bits there have the sum 0, and are all

@@ -1,4 +1,4 @@
--- The sequence comes again after 32,767 places. Assumes nothing.
+-- The sequence comes again after 32,767 places.
 --
 -- Twice over, a relation t (n + a) = t (n + b) xor t (n + c) gives the relation at 2a, 2b, 2c. From t (n + 4) = t (n + 1) xor t n come so
 -- t (n + 16) = t (n + 1) and the period 15. From t (n + 16) = t (n + 2) xor t (n + 1) come so the relations at 16 q, 2 q, q for each

@@ -1,5 +1,5 @@
 -- Sums of a sequence's bits, as polynomials: digit i of c says whether the bit i places on is in the sum. A polynomial may be taken modulo
--- X ^ 15 + X + 1 where the sequence has that recurrence. Assumes nothing.
+-- X ^ 15 + X + 1 where the sequence has that recurrence.
 use mathlib.Core.Path.{_≡_, refl, sym, ap, ap₂, _∙_}
 use mathlib.Core.List.{List, [], _∷_}
 use Prim.Native.Nat.{ℕ, zero, suc, _+_, _*_, _/_, _%_, _^_, _<_, min}

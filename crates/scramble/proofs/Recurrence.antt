@@ -1,4 +1,4 @@
--- P (n + 15) = P (n + 1) xor P n. Assumes nothing.
+-- P (n + 15) = P (n + 1) xor P n.
 use mathlib.Core.Path.{_≡_, sym, ap, _∙_}
 use mathlib.Core.List.{List}
 use Prim.Native.Nat.{ℕ, _+_, _*_, _/_, _%_, _^_, _<_}

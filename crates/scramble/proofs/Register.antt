@@ -1,4 +1,4 @@
--- The register: its bits come out lowest first. Assumes nothing.
+-- The register: its bits come out lowest first.
 use mathlib.Core.Path.{_≡_, sym, ap, _∙_}
 use mathlib.Core.List.{List}
 use Prim.Native.Nat.{ℕ, zero, suc, _+_, _*_, _/_, _%_, _^_, _<_}

@@ -1,4 +1,4 @@
--- Laws of a run of bits held as a number. Assumes nothing.
+-- Laws of a run of bits held as a number.
 use mathlib.Core.Path.{_≡_, refl, sym, ap, ap₂, _∙_}
 use Prim.Native.Nat.{ℕ, zero, suc, _+_, _*_, _/_, _%_, _^_, _<_}
 use native.Mathlib.Nat.{add-comm, mod-eq-of-lt, pow-suc, mul-assoc, add-assoc, add-zero, add-suc}

@@ -1,4 +1,4 @@
--- Decimal numbers: read digit by digit, written, and that reading takes back what writing made. Assumes nothing.
+-- Decimal numbers: read digit by digit, written, and that reading takes back what writing made.
 use mathlib.Core.Path.{_≡_, refl, sym, _∙_}
 use mathlib.Core.Bool.{Bool, true, false, _||_, or-true, not, true≢false}
 use mathlib.Core.List.{List, [], _∷_}

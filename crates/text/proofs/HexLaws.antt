@@ -1,4 +1,4 @@
--- Octets in hex: what a digit is worth, hex read and written in a loop, and that reading takes back what writing made. Assumes nothing.
+-- Octets in hex: what a digit is worth, hex read and written in a loop, and that reading takes back what writing made.
 use mathlib.Core.Path.{_≡_, refl, sym, ap, ap₂, _∙_}
 use mathlib.Core.Bool.{Bool, true, false, _||_, true≢false, false≢true}
 use mathlib.Core.List.{List}

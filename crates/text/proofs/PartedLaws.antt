@@ -1,4 +1,4 @@
--- Text parted by one octet: where a part ends, and what parts come of a text. Assumes nothing.
+-- Text parted by one octet: where a part ends, and what parts come of a text.
 use mathlib.Core.Path.{_≡_, refl, sym, ap, _∙_}
 use mathlib.Core.Bool.{Bool, true, false, not}
 use mathlib.Core.List.{List, [], _∷_, _++_}

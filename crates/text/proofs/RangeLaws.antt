@@ -1,4 +1,4 @@
--- The test of a range holds inside it and fails outside. Assumes nothing.
+-- The test of a range holds inside it and fails outside.
 use mathlib.Core.Path.{_≡_}
 use mathlib.Core.Bool.{true, false, _&&_}
 use Prim.Native.Nat.{ℕ, _≤_, _<_}

@@ -1,4 +1,4 @@
--- A row's fields as the code walks along them, and a field that is read as hex. Assumes nothing.
+-- A row's fields as the code walks along them, and a field that is read as hex.
 use mathlib.Core.Path.{_≡_, sym, ap, _∙_}
 use mathlib.Core.Bool.{Bool, true, false, false≢true}
 use mathlib.Core.List.{List, []}

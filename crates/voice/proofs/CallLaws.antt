@@ -1,4 +1,4 @@
--- What a call stands for, as the code tests it. Assumes nothing.
+-- What a call stands for, as the code tests it.
 use mathlib.Core.Path.{_≡_, refl, sym, ap, _∙_}
 use mathlib.Core.Bool.{Bool, true, false, _||_, not, true≢false}
 use mathlib.Core.List.{List}
@@ -8,11 +8,11 @@ use borrow.Author.Tests.{eq-eqb, ne-eqb, eqb-true, leb-true, ltb-true}
 use Rattle.octets.specs.Tests.{pick}
 use Rattle.octets.specs.Lists.{allZero}
 use Rattle.octets.proofs.TestLaws.{or-right, or-left, not-so, every-at}
-use Rattle.ciphers.specs.Numbers.{sessionSlots}
+use Rattle.sizes.specs.Ciphers.{sessionSlots}
 use Rattle.answers.specs.declared.Answer.the-variants.{Done}
 use Rattle.answers.proofs.OutcomeLaws.{NoneHolds, none-settles, Refuses, answerAt, refused-at}
 use Rattle.voice.specs.declared.call.Call.{Call}
-use Rattle.session.specs.Session.{keyRight}
+use Rattle.ciphers.specs.Keys.{keyRight}
 use Rattle.voice.specs.Call.{closedEnd, sendingEnd, receivingEnd, vectorRight, closedTests, openTests, isClosed, isOpen, goodCall, Standing, closed, bad, sending, receiving, standing, written, isBad, stands, receives, endRefusals, endOf}
 
 -- ---- what a struct stands for

@@ -1,5 +1,5 @@
 -- When a slot is done or held, and when an announcement is taken, by the struct's own fields: in both directions. And nothing opens a call that
--- stands. Assumes nothing.
+-- stands.
 use mathlib.Core.Path.{_≡_, refl, sym, ap, _∙_}
 use mathlib.Core.Bool.{Bool, true, false, not, true≢false}
 use mathlib.Core.List.{List}
@@ -16,10 +16,10 @@ use Rattle.answers.specs.declared.Answer.{Answer}
 use Rattle.answers.specs.declared.Answer.the-variants.{Done}
 use Rattle.answers.specs.Numbers.{numberOf}
 use Rattle.answers.proofs.OutcomeLaws.{NoneHolds, Refusal, fromTwo, among-refuses, by-refusals, some-refuses}
-use Rattle.session.specs.Session.{vectorOctets, scrambles}
-use Rattle.session.specs.Ladder.{keyFor, keyRefusals, vectorRefusals}
+use Rattle.sizes.specs.Ciphers.{vectorOctets, scrambles}
+use Rattle.openings.specs.Ladder.{keyFor, keyRefusals, vectorRefusals}
 use Rattle.voice.specs.declared.call.Call.{Call}
-use Rattle.voice.specs.Frame.{frameOctets}
+use Rattle.sizes.specs.Frame.{frameOctets}
 use Rattle.voice.specs.Call.{closedEnd, sendingEnd, receivingEnd, goodCall, standing, written, isBad, stands}
 use Rattle.voice.specs.Opening.{joinRefusals, openRefusals, begun, begunOf, openOf, startOf, joined, joinOf}
 use Rattle.voice.specs.Slot.{topMask, zeroAfter, voiceRefusals, voiceOf}

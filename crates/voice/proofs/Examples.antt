@@ -1,4 +1,4 @@
--- An example past slot 0 and word 0, and bad and good calls of every kind. Assumes nothing.
+-- An example past slot 0 and word 0, and bad and good calls of every kind.
 use mathlib.Core.Path.{_≡_, refl}
 use mathlib.Core.Bool.{Bool, true, false, _&&_, not}
 use mathlib.Core.List.{List, [], _∷_, _++_}
@@ -8,12 +8,13 @@ use Rattle.octets.specs.Tests.{allBelow}
 use Rattle.octets.specs.Lists.{allZero, iterate}
 use Rattle.octets.specs.Bits.{octet, octetsFrom}
 use Rattle.scramble.specs.Sequence.{keyNumber, stepped, P}
-use Rattle.ciphers.specs.Keys.{oddOctet, scrambleKey, desKey, keyAllowed}
+use Rattle.ciphers.specs.Keys.{oddOctet, scrambleKey, desKey, keyAllowed, keyRight}
 use Rattle.ciphers.specs.Keystream.{stream}
-use Rattle.session.specs.Session.{noVector, keyRight}
-use Rattle.session.specs.Samples.{scramble0001, desABCD, seed}
+use Rattle.sizes.specs.Ciphers.{noVector}
+use Rattle.openings.specs.Samples.{scramble0001, desABCD, seed}
 use Rattle.voice.specs.declared.call.Call.{Call}
-use Rattle.voice.specs.Frame.{frameOctets, keyBit, ofSlot, protect}
+use Rattle.sizes.specs.Frame.{frameOctets}
+use Rattle.voice.specs.Frame.{keyBit, ofSlot, protect}
 use Rattle.voice.specs.Call.{vectorRight, closedTests, openTests, isClosed, isOpen, goodCall, noCall, sending, receiving, written}
 
 -- slot 3, words 1 and 3: 00000000000000A043C1888533000000000000000080BD038E092400, by a script of the recurrence P(n+15) = P(n+1) xor P(n)

@@ -1,4 +1,4 @@
--- A protected frame, bit by bit and word by word. Assumes nothing.
+-- A protected frame, bit by bit and word by word.
 use mathlib.Core.Path.{_≡_, refl, sym, ap, _∙_}
 use mathlib.Core.List.{List}
 use mathlib.Core.Bool.{Bool, true, false, _&&_}
@@ -14,7 +14,8 @@ use Rattle.octets.specs.Tests.{pick}
 use Rattle.octets.specs.Bits.{bit, flip, Octets}
 use Rattle.octets.proofs.TestLaws.{and-false-r, and-left}
 use Rattle.octets.proofs.BitLaws.{flip-lt, flip-zero, bit-lt, bit-octetsFrom, length-octetsFrom, octets-octetsFrom, octets-ext}
-use Rattle.voice.specs.Frame.{wordOctets, wordBits, speechBits, frameOctets, slotBits, IsFrame, word, has, keyBit, protect}
+use Rattle.sizes.specs.Frame.{wordOctets, wordBits, speechBits, frameOctets, slotBits}
+use Rattle.voice.specs.Frame.{IsFrame, word, inMask, keyBit, protect}
 
 module _ (slot : ℕ → ℕ) (mask : ℕ) where
   pub protect-bit : (frame : List ℕ) (k : ℕ) → k < 8 * frameOctets → bit (protect slot mask frame) k ≡ flip (bit frame k) (keyBit slot mask k)
@@ -38,7 +39,7 @@ module _ (slot : ℕ → ℕ) (mask : ℕ) where
   unfolding keyBit
   keyBit-spare k h = rw (le-ltb _ _ h)
 
-  pub keyBit-other : (k : ℕ) → has mask (k / wordBits) ≡ false → keyBit slot mask k ≡ 0
+  pub keyBit-other : (k : ℕ) → inMask mask (k / wordBits) ≡ false → keyBit slot mask k ≡ 0
   unfolding keyBit
   keyBit-other k e = rw (e, and-false-r (ltb (k % wordBits) speechBits))
 
@@ -50,9 +51,9 @@ module _ (slot : ℕ → ℕ) (mask : ℕ) where
   pub protect-none : (frame : List ℕ) → IsFrame frame → mask ≡ 0 → protect slot mask frame ≡ frame
   protect-none frame f e =
       frame-ext (protect slot mask frame) frame (protect-frame frame) f
-      (λ k l. protect-stays frame k l (keyBit-other k (ap (λ (m : ℕ). has m (k / wordBits)) e ∙ none-of (k / wordBits))))
+      (λ k l. protect-stays frame k l (keyBit-other k (ap (λ (m : ℕ). inMask m (k / wordBits)) e ∙ none-of (k / wordBits))))
     where
-      none-of : (w : ℕ) → has 0 w ≡ false
+      none-of : (w : ℕ) → inMask 0 w ≡ false
       none-of w = rw zero-div
 
 -- bits of a word are bits of the frame
@@ -86,7 +87,7 @@ word-ext w h f g a b e =
     long = word-long w f h (a .long)
 
 -- a word that the mask does not have stays as it is
-pub word-stays : (slot : ℕ → ℕ) (mask w : ℕ) (frame : List ℕ) → IsFrame frame → w < 4 → has mask w ≡ false → word w (protect slot mask frame) ≡ word w frame
+pub word-stays : (slot : ℕ → ℕ) (mask w : ℕ) (frame : List ℕ) → IsFrame frame → w < 4 → inMask mask w ≡ false → word w (protect slot mask frame) ≡ word w frame
 word-stays slot mask w frame f h e =
     word-ext w h (protect slot mask frame) frame (protect-frame slot mask frame) f
     (λ j l.
@@ -102,8 +103,8 @@ module _ (one two : ℕ → ℕ) (mask : ℕ) (same : (n : ℕ) → n < slotBits
   keyBit-same : (k : ℕ) → k < 8 * frameOctets → keyBit one mask k ≡ keyBit two mask k
   unfolding keyBit
   keyBit-same k h =
-      picked (ltb (k % wordBits) speechBits && has mask (k / wordBits)) _ _
-      (λ e. let l = ltb-true (k % wordBits) speechBits (and-left (ltb (k % wordBits) speechBits) (has mask (k / wordBits)) e) in same _ (omega arith))
+      picked (ltb (k % wordBits) speechBits && inMask mask (k / wordBits)) _ _
+      (λ e. let l = ltb-true (k % wordBits) speechBits (and-left (ltb (k % wordBits) speechBits) (inMask mask (k / wordBits)) e) in same _ (omega arith))
 
   pub protect-same : (frame : List ℕ) → protect one mask frame ≡ protect two mask frame
   protect-same frame =
@@ -111,7 +112,7 @@ module _ (one two : ℕ → ℕ) (mask : ℕ) (same : (n : ℕ) → n < slotBits
       (λ k l. protect-bit one mask frame k l ∙ ap (flip (bit frame k)) (keyBit-same k l) ∙ sym (protect-bit two mask frame k l))
 
 -- a speech bit's own bit of the slot
-pub keyBit-speech : (slot : ℕ → ℕ) (mask w j : ℕ) → j < speechBits → has mask w ≡ true → keyBit slot mask (wordBits * w + j) ≡ slot (speechBits * w + j)
+pub keyBit-speech : (slot : ℕ → ℕ) (mask w j : ℕ) → j < speechBits → inMask mask w ≡ true → keyBit slot mask (wordBits * w + j) ≡ slot (speechBits * w + j)
 unfolding keyBit
 keyBit-speech slot mask w j h e =
     let q : (wordBits * w + j) / wordBits ≡ w = omega arith in

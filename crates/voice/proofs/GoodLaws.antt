@@ -1,4 +1,4 @@
--- What is written is read back, and a good call stays good under every operation. Assumes nothing.
+-- What is written is read back, and a good call stays good under every operation.
 use mathlib.Core.Path.{_≡_, refl, sym, ap, _∙_}
 use mathlib.Core.Bool.{Bool, true, false, _&&_, _||_, not, and-true, or-true, true≢false}
 use mathlib.Core.List.{List}
@@ -12,7 +12,7 @@ use Rattle.octets.specs.Tests.{pick, allBelow}
 use Rattle.octets.specs.Lists.{allZero}
 use Rattle.octets.specs.Bits.{bit}
 use Rattle.octets.proofs.TestLaws.{and-left, every-at}
-use Rattle.ciphers.specs.Numbers.{sessionSlots}
+use Rattle.sizes.specs.Ciphers.{sessionSlots, keyRoom, vectorOctets, noVector, scrambles}
 use Rattle.ciphers.specs.Keystream.{stream}
 use Rattle.generator.specs.Generator.{nextVector}
 use Rattle.answers.specs.declared.Answer.{Answer}
@@ -20,12 +20,11 @@ use Rattle.answers.specs.declared.Answer.the-variants.{Done}
 use Rattle.answers.specs.Outcomes.{Refusals, settled}
 use Rattle.answers.proofs.OutcomeLaws.{NoneHolds, by-refusals}
 use Rattle.voice.specs.declared.call.Call.{Call}
-use Rattle.keyentry.specs.Entry.{keyRoom}
-use Rattle.session.specs.Session.{vectorOctets, noVector, scrambles, keyRight}
+use Rattle.ciphers.specs.Keys.{keyRight}
 use Rattle.voice.specs.Call.{vectorRight, closedTests, openTests, isClosed, isOpen, goodCall, noCall, Standing, closed, bad, sending, receiving, standing, written, isBad, receives, endRefusals, endOf}
 use Rattle.voice.specs.Slot.{goingOn, received, sent, slotOn, lostRefusals, lostOf, zeroAfter, zeroNext, voiceRefusals, voiceAfter, voiceBy, voiceOf, voiceByOctets}
 use Rattle.voice.specs.Vector.{awaits, told, announceRefusals, announceOf}
-use Rattle.session.proofs.SessionLaws.{no-vector-zero}
+use Rattle.sizes.proofs.SizeLaws.{no-vector-zero}
 use Rattle.voice.proofs.CallLaws.{open-place, open-key, open-vector, Stands, none, sender, receiver, good-stands, is-sender, is-receiver}
 use Rattle.voice.proofs.SlotLaws.{voice-moves, by-lent}
 

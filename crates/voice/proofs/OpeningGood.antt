@@ -1,20 +1,20 @@
--- What open, join and start leave is a good call. Assumes nothing.
+-- What open, join and start leave is a good call.
 use mathlib.Core.Path.{_≡_, refl}
 use mathlib.Core.Bool.{Bool, true, false, true≢false}
 use mathlib.Core.List.{List, [], _∷_}
 use Prim.Native.Nat.{ℕ, _≤_, _<_}
 use native.Mathlib.Omega.{arith}
 use lib.Dec.{eqb}
-use Rattle.ciphers.proofs.Cases.{by-range}
+use Rattle.sizes.proofs.Cases.{by-range}
 use Rattle.octets.specs.Tests.{pick}
 use Rattle.octets.specs.Lists.{allZero}
-use Rattle.ciphers.specs.Numbers.{sessionSlots}
+use Rattle.sizes.specs.Ciphers.{sessionSlots, noVector, scrambles}
 use Rattle.answers.specs.declared.Answer.the-variants.{Done, ZeroVector}
 use Rattle.answers.proofs.OutcomeLaws.{NoneHolds, none-left, none-right}
-use Rattle.session.specs.Session.{noVector, scrambles, sessionVector, keyRight}
-use Rattle.session.specs.Ladder.{keyFor, keyRefusals, zeroFor, vectorRefusals}
-use Rattle.session.proofs.SessionLaws.{no-vector-zero}
-use Rattle.session.proofs.ReadyLaws.{none-named, none-key}
+use Rattle.openings.specs.Ladder.{sessionVector, keyFor, keyRefusals, zeroFor, vectorRefusals}
+use Rattle.ciphers.specs.Keys.{keyRight}
+use Rattle.sizes.proofs.SizeLaws.{no-vector-zero}
+use Rattle.openings.proofs.ReadyLaws.{none-named, none-key}
 use Rattle.voice.specs.declared.call.Call.{Call}
 use Rattle.voice.specs.Call.{sendingEnd, receivingEnd, vectorRight, goodCall, receiving, standing, written, isBad, stands}
 use Rattle.voice.specs.Opening.{superframeSlots, joinRefusals, openRefusals, begun, openOf, startOf, joined, joinOf}

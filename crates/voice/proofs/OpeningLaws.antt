@@ -1,4 +1,4 @@
--- How a call begins, as the code goes through it. Assumes nothing.
+-- How a call begins, as the code goes through it.
 use mathlib.Core.Path.{_≡_, refl, ap, _∙_}
 use mathlib.Core.Bool.{Bool, true, false, not}
 use mathlib.Core.List.{List}
@@ -7,8 +7,8 @@ use lib.Dec.{eqb}
 use Rattle.answers.specs.declared.Answer.{Answer}
 use Rattle.answers.specs.declared.Answer.the-variants.{Done}
 use Rattle.answers.specs.Numbers.{isDone}
-use Rattle.session.specs.Ladder.{keyOf, vectorKeyOf}
-use Rattle.session.proofs.BegunLaws.{Alike, both-bad, the-same, key-begun-refused, key-begun, vector-begun-refused, vector-begun}
+use Rattle.openings.specs.Ladder.{keyOf, vectorKeyOf}
+use Rattle.openings.proofs.BegunLaws.{Alike, both-bad, the-same, key-begun-refused, key-begun, vector-begun-refused, vector-begun}
 use Rattle.voice.specs.declared.call.Call.{Call}
 use Rattle.voice.specs.Call.{closedEnd, goodCall, standing, written, isBad, stands}
 use Rattle.voice.specs.Opening.{joinRefusals, openRefusals, begun, begunOf, joined, joinOf}

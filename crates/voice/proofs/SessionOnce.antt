@@ -1,4 +1,4 @@
--- A session's keystream, made once: a slot turned by it is the slot of the session, and it holds from slot to slot. Assumes nothing.
+-- A session's keystream, made once: a slot turned by it is the slot of the session, and it holds from slot to slot.
 use mathlib.Core.Path.{_≡_, refl, sym, ap, _∙_}
 use mathlib.Core.Bool.{Bool, true, false, not, true≢false, false≢true}
 use mathlib.Core.List.{List}
@@ -13,17 +13,17 @@ use Rattle.octets.specs.Lists.{allZero}
 use Rattle.octets.specs.Bits.{bit, octetsFrom}
 use Rattle.octets.proofs.TestLaws.{every-at}
 use Rattle.octets.proofs.BitLaws.{bit-octetsFrom, length-octetsFrom, octetsFrom-same}
-use Rattle.ciphers.specs.Numbers.{sessionSlots}
+use Rattle.sizes.specs.Ciphers.{sessionSlots, noVector, scrambles}
 use Rattle.ciphers.specs.Keystream.{stream}
-use Rattle.ciphers.proofs.NumberLaws.{slots-at-most, slot-ranged}
+use Rattle.sizes.proofs.SizeLaws.{slots-at-most, slot-ranged}
 use Rattle.ciphers.proofs.KeystreamLaws.{bits-stream}
 use Rattle.answers.specs.declared.Answer.the-variants.{Done}
 use Rattle.answers.specs.Numbers.{isDone}
 use Rattle.answers.specs.Outcomes.{settled}
 use Rattle.answers.proofs.OutcomeLaws.{neverDone, among-not-done, by-refusals}
-use Rattle.session.specs.Session.{noVector, scrambles}
 use Rattle.voice.specs.declared.call.Call.{Call}
-use Rattle.voice.specs.Frame.{slotBits, sessionBits, ofSlot}
+use Rattle.sizes.specs.Frame.{slotBits, sessionBits}
+use Rattle.voice.specs.Frame.{ofSlot}
 use Rattle.voice.specs.Call.{closedTests, isClosed, goodCall, Standing, closed, bad, sending, receiving, standing, written, isBad, stands}
 use Rattle.voice.specs.Slot.{goingOn, received, sent, slotOn, lostRefusals, lostOf, zeroNext, voiceRefusals, inSlot, voiceAfter, voiceBy, voiceOf, voiceByOctets, knows, streamInto, sessionStreamOf, IsSession}
 use Rattle.voice.proofs.FrameLaws.{protect-same}

@@ -1,5 +1,5 @@
 -- Each operation's statement settles its outcome: any two outcomes that meet it are equal. And a refusal, any answer but 0 and 1, changes
--- nothing. Assumes nothing.
+-- nothing.
 use mathlib.Core.Path.{_≡_, refl, ap, sym, _∙_}
 use mathlib.Core.Bool.{true}
 use mathlib.Core.List.{List}
@@ -11,8 +11,7 @@ use Rattle.answers.specs.declared.Answer.the-variants.{Done}
 use Rattle.answers.proofs.OutcomeLaws.{Refusal, keeps, one-outcome}
 use Rattle.ciphers.specs.Keystream.{stream}
 use Rattle.voice.specs.declared.call.Call.{Call}
-use Rattle.session.specs.Session.{sessionVector}
-use Rattle.session.specs.Ladder.{keyFor}
+use Rattle.openings.specs.Ladder.{sessionVector, keyFor}
 use Rattle.voice.specs.Call.{closed, sending, receiving, standing, written, endRefusals, endOf}
 use Rattle.voice.specs.Opening.{joinRefusals, openRefusals, openOf, startOf, joined, joinOf}
 use Rattle.voice.specs.Slot.{slotOn, lostRefusals, lostOf, voiceRefusals, voiceAfter, voiceBy, voiceOf, voiceByOctets, sessionStreamOf}

@@ -1,4 +1,4 @@
--- Slots of a call, as the code goes through them. Assumes nothing.
+-- Slots of a call, as the code goes through them.
 use mathlib.Core.Path.{_≡_, refl, sym, ap, _∙_}
 use mathlib.Core.Bool.{Bool, true, false, not, true≢false}
 use mathlib.Core.List.{List}
@@ -8,12 +8,12 @@ use native.Mathlib.Omega.{arith}
 use lib.Dec.{ltb}
 use lib.ListN.{length}
 use borrow.Author.Tests.{eq-eqb, eqb-true, lt-ltb, le-ltb, not-false}
-use Rattle.ciphers.proofs.NumberLaws.{slots-at-most}
+use Rattle.sizes.proofs.SizeLaws.{slots-at-most}
 use Rattle.ciphers.proofs.KeystreamLaws.{bits-stream}
 use Rattle.octets.specs.Tests.{pick}
 use Rattle.octets.specs.Bits.{bit, octetsFrom}
 use Rattle.octets.proofs.BitLaws.{bit-octetsFrom}
-use Rattle.ciphers.specs.Numbers.{sessionSlots}
+use Rattle.sizes.specs.Ciphers.{sessionSlots}
 use Rattle.ciphers.specs.Keystream.{stream}
 use Rattle.answers.specs.declared.Answer.{Answer}
 use Rattle.answers.specs.declared.Answer.the-variants.{Done, Held, WrongLength}
@@ -21,7 +21,8 @@ use Rattle.answers.specs.Numbers.{numberOf}
 use Rattle.answers.specs.Outcomes.{Refusals, settled}
 use Rattle.answers.proofs.OutcomeLaws.{NoneHolds, none-settles, Refuses, answerAt, refused-at, Refusal, fromTwo, among-refuses, by-refusals, around}
 use Rattle.voice.specs.declared.call.Call.{Call}
-use Rattle.voice.specs.Frame.{frameOctets, slotBits, sessionOctets, ofSlot, protect}
+use Rattle.sizes.specs.Frame.{frameOctets, slotBits, sessionOctets}
+use Rattle.voice.specs.Frame.{ofSlot, protect}
 use Rattle.voice.specs.Call.{closedEnd, sendingEnd, receivingEnd, goodCall, Standing, closed, bad, sending, receiving, standing, written, stands}
 use Rattle.voice.specs.Slot.{slotOn, lostRefusals, lostOf, topMask, zeroAfter, zeroNext, voiceRefusals, inSlot, voiceAfter, voiceBy, voiceOf, voiceByOctets, withoutFrame}
 use Rattle.voice.proofs.FrameLaws.{protect-same}

@@ -1,5 +1,4 @@
 -- A voice slot of a call that stands, whole: what it answers and leaves. And at 9600 bps, where every other slot has mask 0.
--- Assumes nothing.
 use mathlib.Core.Path.{_≡_, refl, sym, ap, _∙_}
 use mathlib.Core.Bool.{Bool, true, false, not}
 use mathlib.Core.List.{List, [], _∷_}
@@ -8,18 +7,18 @@ use native.Mathlib.Omega.{arith}
 use lib.Dec.{leb}
 use lib.ListN.{length}
 use borrow.Author.Tests.{eq-eqb, le-ltb, lt-ltb, lt-leb}
-use Rattle.ciphers.proofs.NumberLaws.{slot-ranged}
-use Rattle.ciphers.proofs.Cases.{by-range}
+use Rattle.sizes.proofs.SizeLaws.{slot-ranged}
+use Rattle.sizes.proofs.Cases.{by-range}
 use Rattle.octets.specs.Lists.{allZero}
 use Rattle.octets.proofs.TestLaws.{every-fails}
 use Rattle.generator.specs.Generator.{nextVector}
-use Rattle.ciphers.specs.Numbers.{sessionSlots}
+use Rattle.sizes.specs.Ciphers.{sessionSlots, scrambles}
 use Rattle.ciphers.specs.Keystream.{stream}
 use Rattle.answers.specs.declared.Answer.{Answer}
 use Rattle.answers.specs.declared.Answer.the-variants.{Done, Held}
 use Rattle.voice.specs.declared.call.Call.{Call}
-use Rattle.voice.specs.Frame.{frameOctets, slotBits, IsFrame, ofSlot, protect}
-use Rattle.session.specs.Session.{scrambles}
+use Rattle.sizes.specs.Frame.{frameOctets, slotBits}
+use Rattle.voice.specs.Frame.{IsFrame, ofSlot, protect}
 use Rattle.voice.specs.Call.{closedEnd, sendingEnd, receivingEnd, goodCall, sending, receiving, standing, written}
 use Rattle.voice.specs.Slot.{received, sent, topMask, zeroAfter, voiceRefusals, inSlot, voiceBy, voiceOf}
 use Rattle.voice.proofs.FrameLaws.{protect-same, protect-none}

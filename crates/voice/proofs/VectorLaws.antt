@@ -1,4 +1,4 @@
--- Which calls wait for a vector or have a next one, as the code tests it. Assumes nothing.
+-- Which calls wait for a vector or have a next one, as the code tests it.
 use mathlib.Core.Path.{_≡_, refl, sym, ap, _∙_}
 use mathlib.Core.Bool.{true, false, true≢false}
 use mathlib.Core.List.{List}

@@ -1,4 +1,4 @@
--- Demand 2 for voice: the frame after a slot, bit by bit, at either end. Assumes nothing.
+-- Demand 2 for voice: the frame after a slot, bit by bit, at either end.
 use mathlib.Core.Path.{_≡_, ap, _∙_}
 use mathlib.Core.Bool.{true, false}
 use mathlib.Core.List.{List}
@@ -8,7 +8,8 @@ use Rattle.octets.specs.Bits.{bit, flip}
 use Rattle.answers.specs.Numbers.{numberOf}
 use Rattle.ciphers.specs.Keystream.{stream}
 use Rattle.voice.specs.declared.call.Call.{Call}
-use Rattle.voice.specs.Frame.{words, wordBits, speechBits, frameOctets, slotBits, has, ofSlot}
+use Rattle.sizes.specs.Frame.{words, wordBits, speechBits, frameOctets, slotBits}
+use Rattle.voice.specs.Frame.{inMask, ofSlot}
 use Rattle.voice.specs.Slot.{voiceOf}
 use Rattle.voice.proofs.FrameLaws.{protect-bit, protect-stays, keyBit-spare, keyBit-other, keyBit-speech}
 use Rattle.voice.proofs.SlotLaws.{done-turned, undone-stays}
@@ -26,7 +27,7 @@ module _ (c : Call) (mask : ℕ) (frame : List ℕ) where
   slot = ofSlot (stream (c .cipher) (c .key) (c .vector)) (c .position)
 
   -- bit j of word w is turned, where it is speech and the mask has the word, by stream bit 196 p + 49 w + j
-  pub speech-turned : numberOf (voiceOf c mask frame .0) ≡ 0 → (w j : ℕ) → w < words → j < speechBits → has mask w ≡ true
+  pub speech-turned : numberOf (voiceOf c mask frame .0) ≡ 0 → (w j : ℕ) → w < words → j < speechBits → inMask mask w ≡ true
       → bit after (wordBits * w + j) ≡ flip (bit frame (wordBits * w + j)) (stream (c .cipher) (c .key) (c .vector) (slotBits * c .position + speechBits * w + j))
   speech-turned z w j hw hj e =
       let k : ℕ = wordBits * w + j in
@@ -38,7 +39,7 @@ module _ (c : Call) (mask : ℕ) (frame : List ℕ) where
   pub spare-stays : numberOf (voiceOf c mask frame .0) ≡ 0 → (k : ℕ) → k < 8 * frameOctets → speechBits ≤ k % wordBits → bit after k ≡ bit frame k
   spare-stays z k h l = ap (λ (f : List ℕ). bit f k) (done-turned stream c mask frame z) ∙ protect-stays slot mask frame k h (keyBit-spare slot mask k l)
 
-  pub other-stays : numberOf (voiceOf c mask frame .0) ≡ 0 → (k : ℕ) → k < 8 * frameOctets → has mask (k / wordBits) ≡ false → bit after k ≡ bit frame k
+  pub other-stays : numberOf (voiceOf c mask frame .0) ≡ 0 → (k : ℕ) → k < 8 * frameOctets → inMask mask (k / wordBits) ≡ false → bit after k ≡ bit frame k
   other-stays z k h e = ap (λ (f : List ℕ). bit f k) (done-turned stream c mask frame z) ∙ protect-stays slot mask frame k h (keyBit-other slot mask k e)
 
   -- a held frame is as it came

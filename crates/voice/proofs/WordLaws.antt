@@ -1,4 +1,4 @@
--- The four words turned one after another are the frame protected. Assumes nothing.
+-- The four words turned one after another are the frame protected.
 use mathlib.Core.Path.{_≡_, refl, sym, ap, ap₂, _∙_}
 use mathlib.Core.List.{List}
 use mathlib.Core.Bool.{Bool, true, false, and-true}
@@ -14,7 +14,8 @@ use Rattle.octets.specs.Turn.{within, turned, turnedIn}
 use Rattle.octets.proofs.BitLaws.{bit-lt, flip-zero}
 use Rattle.octets.proofs.Turning.{turned-same}
 use Rattle.octets.proofs.Parts.{put-turned, length-turnedIn, octets-turnedIn, bit-inside, bit-outside}
-use Rattle.voice.specs.Frame.{words, wordOctets, wordBits, speechBits, frameOctets, IsFrame, has, keyBit, protect, wordTurned}
+use Rattle.sizes.specs.Frame.{words, wordOctets, wordBits, speechBits, frameOctets}
+use Rattle.voice.specs.Frame.{IsFrame, inMask, keyBit, protect, wordTurned}
 use Rattle.voice.proofs.FrameLaws.{protect-bit, protect-frame, frame-ext, keyBit-other}
 
 far : (q n : ℕ) → n ≤ q → (q ≡ n → ⊥) → suc n ≤ q
@@ -32,7 +33,7 @@ module _ (slot : ℕ → ℕ) (mask : ℕ) where
   inPlace w f = turnedIn (wordOctets * w) wordOctets speechBits (ofWord w) f
 
   -- a word's own bits
-  of-word : (w j : ℕ) → j < wordBits → has mask w ≡ true → within speechBits (ofWord w) j ≡ keyBit slot mask (wordBits * w + j)
+  of-word : (w j : ℕ) → j < wordBits → inMask mask w ≡ true → within speechBits (ofWord w) j ≡ keyBit slot mask (wordBits * w + j)
   unfolding within keyBit
   of-word w j h e =
       let q : (wordBits * w + j) / wordBits ≡ w = omega arith in
@@ -45,7 +46,7 @@ module _ (slot : ℕ → ℕ) (mask : ℕ) where
 
     word-frame : IsFrame (wordTurned slot mask w f)
     unfolding wordTurned
-    word-frame = go (has mask w)
+    word-frame = go (inMask mask w)
       where
         go : (b : Bool) → IsFrame (pick b (inPlace w f) f)
         go true =
@@ -55,7 +56,7 @@ module _ (slot : ℕ → ℕ) (mask : ℕ) where
             }
         go false = fr
 
-    turned-bit : has mask w ≡ true → (k : ℕ) → k < 8 * frameOctets → bit (inPlace w f) k ≡ flip (bit f k) (wordBit w k)
+    turned-bit : inMask mask w ≡ true → (k : ℕ) → k < 8 * frameOctets → bit (inPlace w f) k ≡ flip (bit f k) (wordBit w k)
     turned-bit e k h = go (eqb (k / wordBits) w) refl
       where
         go : (b : Bool) → eqb (k / wordBits) w ≡ b → bit (inPlace w f) k ≡ flip (bit f k) (pick b (keyBit slot mask k) 0)
@@ -70,7 +71,7 @@ module _ (slot : ℕ → ℕ) (mask : ℕ) where
             bit-outside (wordOctets * w) wordOctets speechBits (ofWord w) f fits k (λ x y. eqb-false (k / wordBits) w q (omega arith))
             ∙ sym (flip-zero (bit f k) (bit-lt f k))
 
-    still : has mask w ≡ false → (k : ℕ) → flip (bit f k) (wordBit w k) ≡ bit f k
+    still : inMask mask w ≡ false → (k : ℕ) → flip (bit f k) (wordBit w k) ≡ bit f k
     still e k = go (eqb (k / wordBits) w) refl
       where
         go : (b : Bool) → eqb (k / wordBits) w ≡ b → flip (bit f k) (pick b (keyBit slot mask k) 0) ≡ bit f k
@@ -79,9 +80,9 @@ module _ (slot : ℕ → ℕ) (mask : ℕ) where
 
     word-turned-bit : (k : ℕ) → k < 8 * frameOctets → bit (wordTurned slot mask w f) k ≡ flip (bit f k) (wordBit w k)
     unfolding wordTurned
-    word-turned-bit k h = go (has mask w) refl
+    word-turned-bit k h = go (inMask mask w) refl
       where
-        go : (b : Bool) → has mask w ≡ b → bit (pick b (inPlace w f) f) k ≡ flip (bit f k) (wordBit w k)
+        go : (b : Bool) → inMask mask w ≡ b → bit (pick b (inPlace w f) f) k ≡ flip (bit f k) (wordBit w k)
         go true e = turned-bit e k h
         go false e = sym (still e k)
 

@@ -6,13 +6,12 @@ use lib.Dec.{ltb, leb, eqb}
 use lib.ListN.{replicate}
 use Rattle.octets.specs.Tests.{pick, every}
 use Rattle.octets.specs.Lists.{allZero}
-use Rattle.ciphers.specs.Numbers.{sessionSlots}
+use Rattle.sizes.specs.Ciphers.{sessionSlots, keyRoom, noVector, scrambles}
 use Rattle.answers.specs.declared.Answer.{Answer}
 use Rattle.answers.specs.declared.Answer.the-variants.{Bad, NotNow}
 use Rattle.answers.specs.Outcomes.{Refusals, outcome}
-use Rattle.keyentry.specs.Entry.{keyRoom}
 use Rattle.voice.specs.declared.call.Call.{Call}
-use Rattle.session.specs.Session.{noVector, scrambles, keyRight}
+use Rattle.ciphers.specs.Keys.{keyRight}
 
 -- ---- the numbers of the struct
 

@@ -8,34 +8,7 @@ use lib.ListN.{length, take, drop}
 use Rattle.octets.specs.Tests.{pick}
 use Rattle.octets.specs.Bits.{bit, flip, octetsFrom, Octets}
 use Rattle.octets.specs.Turn.{turnedIn}
-
-abbrev pub words : ℕ
-words = 4
-
-abbrev pub wordOctets : ℕ
-wordOctets = 7
-
--- the bits of a word, and those of them that are speech
-abbrev pub wordBits : ℕ
-wordBits = 8 * wordOctets
-
-abbrev pub speechBits : ℕ
-speechBits = 49
-
-abbrev pub frameOctets : ℕ
-frameOctets = words * wordOctets
-
--- the keystream bits of a slot, used or not
-abbrev pub slotBits : ℕ
-slotBits = words * speechBits
-
--- the most that a session has: 8 slots
-abbrev pub sessionBits : ℕ
-sessionBits = 8 * slotBits
-
--- the octets that hold them
-abbrev pub sessionOctets : ℕ
-sessionOctets = sessionBits / 8
+use Rattle.sizes.specs.Frame.{wordOctets, wordBits, speechBits, frameOctets, slotBits}
 
 -- 28 octets
 pub record IsFrame (frame : List ℕ) : Type 0 where
@@ -47,8 +20,8 @@ abbrev pub word : ℕ → List ℕ → List ℕ
 word w frame = take wordOctets (drop (wordOctets * w) frame)
 
 -- the mask has word w: value 1 for the first word, then 2, 4, 8
-abbrev pub has : ℕ → ℕ → Bool
-has mask w = eqb (mask / 2 ^ w % 2) 1
+abbrev pub inMask : ℕ → ℕ → Bool
+inMask mask w = eqb (mask / 2 ^ w % 2) 1
 
 -- the bits of slot p of a session: 196 p to 196 p + 195
 abbrev pub ofSlot : (ℕ → ℕ) → ℕ → ℕ → ℕ
@@ -59,7 +32,7 @@ unfoldable pub keyBit : (ℕ → ℕ) → ℕ → ℕ → ℕ
 keyBit slot mask k =
     let w = k / wordBits in
     let j = k % wordBits in
-    pick (ltb j speechBits && has mask w) (slot (speechBits * w + j)) 0
+    pick (ltb j speechBits && inMask mask w) (slot (speechBits * w + j)) 0
 
 -- a frame protected, or opened: the one turning of voice
 unfoldable pub protect : (ℕ → ℕ) → ℕ → List ℕ → List ℕ
@@ -68,4 +41,4 @@ protect slot mask frame = octetsFrom frameOctets (λ k. flip (bit frame k) (keyB
 -- the frame with word w turned where it stands, if the mask has it
 unfoldable pub wordTurned : (ℕ → ℕ) → ℕ → ℕ → List ℕ → List ℕ
 wordTurned slot mask w frame =
-    pick (has mask w) (turnedIn (wordOctets * w) wordOctets speechBits (λ j. slot (speechBits * w + j)) frame) frame
+    pick (inMask mask w) (turnedIn (wordOctets * w) wordOctets speechBits (λ j. slot (speechBits * w + j)) frame) frame

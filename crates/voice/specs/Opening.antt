@@ -6,8 +6,8 @@ use Rattle.octets.specs.Tests.{pick}
 use Rattle.answers.specs.declared.Answer.{Answer}
 use Rattle.answers.specs.Outcomes.{Refusals, outcome}
 use Rattle.voice.specs.declared.call.Call.{Call}
-use Rattle.session.specs.Session.{noVector, scrambles, sessionVector}
-use Rattle.session.specs.Ladder.{keyFor, keyRefusals, vectorRefusals}
+use Rattle.sizes.specs.Ciphers.{noVector, scrambles}
+use Rattle.openings.specs.Ladder.{sessionVector, keyFor, keyRefusals, vectorRefusals}
 use Rattle.voice.specs.Call.{sendingEnd, receivingEnd, Standing, receiving, standing, written, isBad, stands}
 
 -- the slots of a superframe

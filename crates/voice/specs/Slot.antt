@@ -11,12 +11,12 @@ use Rattle.octets.specs.Bits.{bit, octetsFrom}
 use Rattle.answers.specs.declared.Answer.{Answer}
 use Rattle.answers.specs.declared.Answer.the-variants.{Done, Held, WrongLength, Bad, NotNow, BadMask, NextZero}
 use Rattle.answers.specs.Outcomes.{Refusals, settled, outcome}
-use Rattle.ciphers.specs.Numbers.{sessionSlots}
+use Rattle.sizes.specs.Ciphers.{sessionSlots, noVector, scrambles}
 use Rattle.ciphers.specs.Keystream.{stream}
 use Rattle.generator.specs.Generator.{nextVector}
 use Rattle.voice.specs.declared.call.Call.{Call}
-use Rattle.voice.specs.Frame.{words, frameOctets, sessionBits, sessionOctets, ofSlot, protect}
-use Rattle.session.specs.Session.{noVector, scrambles}
+use Rattle.sizes.specs.Frame.{words, frameOctets, sessionBits, sessionOctets}
+use Rattle.voice.specs.Frame.{ofSlot, protect}
 use Rattle.voice.specs.Call.{Standing, closed, bad, sending, receiving, standing, written, isBad, stands, receives}
 
 -- ---- a slot on

@@ -10,7 +10,7 @@ use Rattle.answers.specs.declared.Answer.the-variants.{WrongLength, Bad, ZeroVe
 use Rattle.answers.specs.Outcomes.{Refusals, outcome}
 use Rattle.generator.specs.Generator.{nextVector}
 use Rattle.voice.specs.declared.call.Call.{Call}
-use Rattle.session.specs.Session.{vectorOctets, noVector, scrambles}
+use Rattle.sizes.specs.Ciphers.{vectorOctets, noVector, scrambles}
 use Rattle.voice.specs.Call.{Standing, closed, bad, sending, receiving, standing, written, isBad}
 
 -- ---- announce

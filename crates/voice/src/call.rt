@@ -2,13 +2,13 @@
 ghost use mathlib.Core.Path.{_≡_};
 ghost use Rattle.voice.specs.Call.{vectorRight, isClosed, isOpen, goodCall, noCall, endOf};
 use answers::Answer;
-use ciphers::cipher::Scramble;
-use ciphers::cipher::session_slots;
-use keyentry::KEY_ROOM;
+use ciphers::key::key_right;
 use octets::all_zero;
 use octets::wide;
-use session::VECTOR_OCTETS;
-use session::key_right;
+use sizes::cipher::KEY_ROOM;
+use sizes::cipher::Scramble;
+use sizes::cipher::VECTOR_OCTETS;
+use sizes::cipher::session_slots;
 
 pub const CLOSED: u8 = 0;
 

@@ -3,21 +3,11 @@ ghost use mathlib.Core.Path.{_≡_};
 ghost use Prim.Native.Nat.{_+_, _*_, _≤_, _<_};
 ghost use lib.ListN.{length};
 ghost use Rattle.octets.specs.Bits.{bit};
-ghost use Rattle.voice.specs.Frame.{frameOctets, words, slotBits, sessionBits, protect, wordTurned};
+ghost use Rattle.sizes.specs.Frame.{frameOctets, words, slotBits, sessionBits};
+ghost use Rattle.voice.specs.Frame.{protect, wordTurned};
 use octets::turn;
-
-pub const WORDS: usize = 4;
-
-const WORD_OCTETS: usize = 7;
-
-const SPEECH_BITS: usize = 49;
-
-pub const FRAME_OCTETS: usize = WORDS * WORD_OCTETS;
-
-pub const SLOT_BITS: usize = WORDS * SPEECH_BITS;
-
-// The octets that hold a session's keystream: 8 slots of 196 bits.
-pub const SESSION_OCTETS: usize = 8 * SLOT_BITS / 8;
+use sizes::frame::SPEECH_BITS;
+use sizes::frame::WORD_OCTETS;
 
 // Word w, where the mask has it, turned by its bits of the slot, which stand in `stream` from bit `from` on.
 fn turn_word(frame: &mut [u8], mask: u8, w: usize, stream: &[u8], from: usize)

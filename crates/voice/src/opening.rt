@@ -9,12 +9,12 @@ use crate::call::SENDING;
 use crate::call::Stepped;
 use crate::call::good_call;
 use answers::Answer;
-use ciphers::cipher::Scramble;
-use keyentry::KEY_ROOM;
-use session::VECTOR_OCTETS;
-use session::ladder::opening_key;
-use session::ladder::opening_key_with;
-use session::session_vector;
+use openings::opening_key;
+use openings::opening_key_with;
+use openings::session_vector;
+use sizes::cipher::KEY_ROOM;
+use sizes::cipher::Scramble;
+use sizes::cipher::VECTOR_OCTETS;
 
 const SUPERFRAME_SLOTS: u8 = 4;
 

@@ -9,10 +9,10 @@ use crate::call::SENDING;
 use crate::call::Stepped;
 use crate::call::good_call;
 use answers::Answer;
-use ciphers::cipher::Scramble;
 use octets::all_zero;
 use octets::copy;
-use session::VECTOR_OCTETS;
+use sizes::cipher::Scramble;
+use sizes::cipher::VECTOR_OCTETS;
 
 // Whether the call waits for a vector.
 fn is_awaiting(call: Call) -> bool

@@ -1,4 +1,4 @@
--- `aes::add_round_key` meets its contract. Assumes nothing.
+-- `aes::add_round_key` meets its contract.
 use mathlib.Core.Path.{refl}
 use Prim.Native.Nat.{_+_, _*_, _-_}
 use borrow.Author.Needs.{needs}

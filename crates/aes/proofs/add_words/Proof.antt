@@ -1,4 +1,4 @@
--- `aes::add_words` meets its contract. Assumes nothing.
+-- `aes::add_words` meets its contract.
 use mathlib.Core.Path.{refl}
 use Prim.Native.Nat.{_-_}
 use borrow.Author.Needs.{needs}

@@ -1,4 +1,4 @@
--- `aes::column` meets its contract. Assumes nothing.
+-- `aes::column` meets its contract.
 use borrow.Author.Needs.{needs}
 use Rattle.aes.proofs.FieldLaws.{sbox-lt}
 use Rattle.aes.proofs.StateLaws.{sub-shifted}

@@ -1,4 +1,4 @@
--- `aes::columns` meets its contract. Assumes nothing.
+-- `aes::columns` meets its contract.
 use mathlib.Core.Path.{refl}
 use Prim.Native.Nat.{_*_, _-_, _≤_}
 use borrow.Author.Needs.{needs}

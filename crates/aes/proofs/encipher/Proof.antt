@@ -1,4 +1,4 @@
--- `aes::encipher` meets its contract. Assumes nothing.
+-- `aes::encipher` meets its contract.
 use mathlib.Core.Path.{_≡_, _∙_}
 use Prim.Native.Nat.{_≤_, _-_}
 use borrow.Author.Needs.{needs}

@@ -1,4 +1,4 @@
--- `aes::entry` meets its contract. Assumes nothing.
+-- `aes::entry` meets its contract.
 use mathlib.Core.Path.{_∙_}
 use borrow.Author.Needs.{needs}
 use Rattle.aes.proofs.ColumnLaws.{entry-is}

@@ -1,4 +1,4 @@
--- `aes::key_expansion` meets its contract: the words below i are those of the schedule. Assumes nothing.
+-- `aes::key_expansion` meets its contract: the words below i are those of the schedule.
 use mathlib.Core.Path.{_≡_, sym, _∙_}
 use Prim.Native.Nat.{_*_, _≤_, _-_}
 use native.Mathlib.Nat.{le-antisymm}

@@ -1,4 +1,4 @@
--- `aes::key_words` meets its contract. Assumes nothing.
+-- `aes::key_words` meets its contract.
 use mathlib.Core.Path.{ap}
 use mathlib.Core.List.{List, _++_}
 use Prim.Native.Nat.{ℕ}

@@ -1,4 +1,4 @@
--- `aes::next_word` meets its contract. Assumes nothing.
+-- `aes::next_word` meets its contract.
 use borrow.Author.Needs.{needs}
 use Rattle.aes.specs.Cipher.{nextWord}
 use Rattle.aes.proofs.next_word.Statement.{statement}

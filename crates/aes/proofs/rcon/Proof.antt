@@ -1,4 +1,4 @@
--- `aes::rcon` meets its contract. Assumes nothing.
+-- `aes::rcon` meets its contract.
 use borrow.Author.Needs.{needs}
 use Rattle.aes.proofs.ScheduleLaws.{rcon-is}
 use Rattle.aes.proofs.rcon.Statement.{statement}

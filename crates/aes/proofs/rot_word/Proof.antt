@@ -1,4 +1,4 @@
--- `aes::rot_word` meets its contract. Assumes nothing.
+-- `aes::rot_word` meets its contract.
 use mathlib.Core.Path.{refl}
 use borrow.Author.Needs.{needs}
 use Rattle.octets.specs.Lists.{tab}

@@ -1,4 +1,4 @@
--- `aes::round` meets its contract. Assumes nothing.
+-- `aes::round` meets its contract.
 use mathlib.Core.Path.{sym}
 use Prim.Native.Nat.{_*_, _-_, _≤_}
 use native.Mathlib.Omega.{arith}

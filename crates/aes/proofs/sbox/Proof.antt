@@ -1,4 +1,4 @@
--- `aes::sbox` meets its contract: the table is held to the rule by one test at all of its 256 entries, which antt computes. Assumes nothing.
+-- `aes::sbox` meets its contract: the table is held to the rule by one test at all of its 256 entries, which antt computes.
 use mathlib.Core.Path.{refl}
 use Rattle.octets.specs.Tests.{allBelow}
 use Rattle.aes.specs.Field.{sboxOf, affine, inverse, squares, mul, mulBits, digit, xtime, reduce, around}

@@ -1,4 +1,4 @@
--- `aes::shifted` meets its contract. Assumes nothing.
+-- `aes::shifted` meets its contract.
 use mathlib.Core.Path.{sym}
 use borrow.Author.Needs.{needs}
 use Rattle.aes.proofs.StateLaws.{shift-at}

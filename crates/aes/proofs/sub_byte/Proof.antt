@@ -1,4 +1,4 @@
--- `aes::sub_byte` meets its contract. Assumes nothing.
+-- `aes::sub_byte` meets its contract.
 use borrow.Author.Needs.{needs}
 use Rattle.aes.proofs.sub_byte.Statement.{statement}
 use Rattle.aes.proofs.sub_byte.Tie as tie

@@ -1,4 +1,4 @@
--- `aes::sub_shift` meets its contract. Assumes nothing.
+-- `aes::sub_shift` meets its contract.
 use mathlib.Core.Path.{sym, _∙_}
 use Prim.Native.Nat.{_-_}
 use borrow.Author.Needs.{needs}

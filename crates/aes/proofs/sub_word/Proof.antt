@@ -1,4 +1,4 @@
--- `aes::sub_word` meets its contract. Assumes nothing.
+-- `aes::sub_word` meets its contract.
 use mathlib.Core.Path.{refl}
 use Prim.Native.Nat.{_-_}
 use borrow.Author.Needs.{needs}

@@ -1,4 +1,4 @@
--- `aes::temp` meets its contract. Assumes nothing.
+-- `aes::temp` meets its contract.
 use mathlib.Core.Path.{ap, _∙_}
 use borrow.Author.Needs.{needs}
 use Rattle.aes.specs.Cipher.{subWord}

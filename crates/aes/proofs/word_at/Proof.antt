@@ -1,4 +1,4 @@
--- `aes::word_at` meets its contract. Assumes nothing.
+-- `aes::word_at` meets its contract.
 use mathlib.Core.Path.{refl}
 use Prim.Native.Nat.{_+_, _*_, _-_}
 use borrow.Author.Needs.{needs}

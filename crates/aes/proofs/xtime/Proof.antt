@@ -1,4 +1,4 @@
--- `aes::xtime` meets its contract. Assumes nothing.
+-- `aes::xtime` meets its contract.
 use borrow.Author.Needs.{needs}
 use Rattle.aes.proofs.FieldLaws.{xtime-is}
 use Rattle.aes.proofs.xtime.Statement.{statement}

@@ -1,4 +1,4 @@
--- `bookwalk::copied` meets its contract. Assumes nothing.
+-- `bookwalk::copied` meets its contract.
 use mathlib.Core.Path.{_≡_}
 use Prim.Native.Nat.{_+_, _-_, _≤_}
 use lib.ListN.{length}

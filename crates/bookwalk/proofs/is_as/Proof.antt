@@ -1,4 +1,4 @@
--- `bookwalk::is_as` meets its contract. Assumes nothing.
+-- `bookwalk::is_as` meets its contract.
 use Prim.Native.Nat.{_+_, _-_, _≤_}
 use borrow.Author.Needs.{needs}
 use Rattle.keybook.specs.Book.{bookOctets}

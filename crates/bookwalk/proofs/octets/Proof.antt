@@ -1,4 +1,4 @@
--- `bookwalk::octets` meets its contract. Assumes nothing.
+-- `bookwalk::octets` meets its contract.
 use Prim.Native.Nat.{_-_, _≤_}
 use lib.ListN.{length}
 use borrow.Author.Needs.{needs}

@@ -1,4 +1,4 @@
--- `des::add` meets its contract. Assumes nothing.
+-- `des::add` meets its contract.
 use mathlib.Core.Path.{_≡_, sym, ap, _∙_}
 use Prim.Native.Nat.{ℕ, _-_}
 use native.Mathlib.Nat.{le-refl}

@@ -1,4 +1,4 @@
--- `des::box_place` meets its contract. Assumes nothing.
+-- `des::box_place` meets its contract.
 use native.Mathlib.Omega.{arith}
 use borrow.Author.Needs.{needs}
 use Rattle.des.specs.Des.{boxPlace}

@@ -1,4 +1,4 @@
--- `des::choice_table` meets its contract. Assumes nothing.
+-- `des::choice_table` meets its contract.
 use mathlib.Core.Path.{refl}
 use Rattle.des.specs.Tables.{pc2Table}
 use Rattle.des.proofs.choice_table.Statement.{statement}

@@ -1,4 +1,4 @@
--- `des::encipher` meets its contract. Assumes nothing.
+-- `des::encipher` meets its contract.
 use mathlib.Core.Path.{ap, _∙_}
 use mathlib.Core.List.{List}
 use Prim.Native.Nat.{ℕ}

@@ -1,4 +1,4 @@
--- `des::first_rounds` meets its contract. Assumes nothing.
+-- `des::first_rounds` meets its contract.
 use mathlib.Core.Path.{ap, _∙_}
 use Prim.Native.Nat.{_-_, _≤_}
 use native.Mathlib.Omega.{arith}

@@ -1,4 +1,4 @@
--- `des::first_state` meets its contract. Assumes nothing.
+-- `des::first_state` meets its contract.
 use mathlib.Core.Path.{refl}
 use borrow.Author.Needs.{needs}
 use Rattle.des.specs.Tables.{pc1Table}

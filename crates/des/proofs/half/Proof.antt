@@ -1,4 +1,4 @@
--- `des::half` meets its contract. Assumes nothing.
+-- `des::half` meets its contract.
 use mathlib.Core.Path.{ap, _∙_}
 use Prim.Native.Nat.{ℕ}
 use native.Mathlib.Nat.{add-sub-cancel-left}

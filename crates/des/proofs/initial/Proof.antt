@@ -1,4 +1,4 @@
--- `des::initial` meets its contract. Assumes nothing.
+-- `des::initial` meets its contract.
 use native.Mathlib.Omega.{arith}
 use borrow.Author.Needs.{needs}
 use Rattle.des.specs.Tables.{ipTable}

@@ -1,4 +1,4 @@
--- `des::join` meets its contract. Assumes nothing.
+-- `des::join` meets its contract.
 use mathlib.Core.Path.{refl}
 use native.Mathlib.Omega.{arith}
 use borrow.Author.Needs.{needs}

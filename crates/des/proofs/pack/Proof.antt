@@ -1,4 +1,4 @@
--- `des::pack` meets its contract. Assumes nothing.
+-- `des::pack` meets its contract.
 use mathlib.Core.Path.{_≡_, sym, _∙_}
 use Prim.Native.Nat.{_-_}
 use native.Mathlib.Nat.{add-zero}

@@ -1,4 +1,4 @@
--- `des::permute` meets its contract. Assumes nothing.
+-- `des::permute` meets its contract.
 use mathlib.Core.Path.{_≡_, sym, ap, _∙_}
 use Prim.Native.Nat.{ℕ, _-_}
 use native.Mathlib.Omega.{arith}

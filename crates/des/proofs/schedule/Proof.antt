@@ -1,4 +1,4 @@
--- `des::schedule` meets its contract. Assumes nothing.
+-- `des::schedule` meets its contract.
 use mathlib.Core.Path.{_≡_, refl, sym, ap, _∙_}
 use Prim.Native.Nat.{suc, _+_, _-_, _*_}
 use native.Mathlib.Nat.{add-sub-cancel-left}

@@ -1,4 +1,4 @@
--- `des::shift` meets its contract. Assumes nothing.
+-- `des::shift` meets its contract.
 use mathlib.Core.Path.{sym}
 use Prim.Native.Nat.{_-_}
 use native.Mathlib.Omega.{arith}

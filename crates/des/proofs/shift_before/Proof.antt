@@ -1,4 +1,4 @@
--- `des::shift_before` meets its contract. Assumes nothing.
+-- `des::shift_before` meets its contract.
 use mathlib.Core.Path.{_≡_, ap, _∙_}
 use mathlib.Core.List.{List}
 use Prim.Native.Nat.{ℕ}

@@ -1,4 +1,4 @@
--- `des::shift_table` meets its contract. Assumes nothing.
+-- `des::shift_table` meets its contract.
 use mathlib.Core.Path.{refl}
 use Rattle.des.specs.Tables.{shifts}
 use Rattle.des.proofs.shift_table.Statement.{statement}

@@ -1,4 +1,4 @@
--- `des::substitute` meets its contract. Assumes nothing.
+-- `des::substitute` meets its contract.
 use mathlib.Core.Path.{_≡_, sym, ap, _∙_}
 use mathlib.Core.List.{List}
 use Prim.Native.Nat.{ℕ, _+_, _-_, _*_, _/_, _%_, _^_, _<_}

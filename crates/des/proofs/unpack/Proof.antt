@@ -1,4 +1,4 @@
--- `des::unpack` meets its contract. Assumes nothing.
+-- `des::unpack` meets its contract.
 use mathlib.Core.Path.{sym}
 use Prim.Native.Nat.{_-_}
 use native.Mathlib.Omega.{arith}

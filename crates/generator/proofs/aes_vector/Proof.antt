@@ -1,4 +1,4 @@
--- `generator::aes_vector` meets its contract. Assumes nothing.
+-- `generator::aes_vector` meets its contract.
 use mathlib.Core.Path.{_≡_, ap, _∙_}
 use mathlib.Core.List.{List, [], _∷_, _++_, append-nil}
 use Prim.Native.Nat.{ℕ}

@@ -1,4 +1,4 @@
--- `generator::fed` meets its contract. Assumes nothing.
+-- `generator::fed` meets its contract.
 use native.Mathlib.Nat.{mod-lt}
 use native.Mathlib.Omega.{arith}
 use borrow.Author.Needs.{needs}

@@ -1,17 +1,17 @@
--- `generator::next_vector` meets its contract: after i turns the number holds the register after i shifts. Assumes nothing.
+-- `generator::next_vector` meets its contract: after i turns the number holds the register after i shifts.
 use mathlib.Core.Path.{_∙_}
 use Prim.Native.Nat.{_-_, _≤_}
 use native.Mathlib.Omega.{arith}
 use borrow.Author.Needs.{needs}
 use Rattle.octets.specs.Lists.{iterate}
-use Rattle.generator.specs.Generator.{loaded, shifted}
+use Rattle.generator.specs.Generator.{filled, shifted}
 use Rattle.generator.specs.Held.{Holds}
 use Rattle.generator.proofs.Register.{shift-start, shift-more, shift-done}
 use Rattle.generator.proofs.next_vector.Statement.{statement}
 use Rattle.generator.proofs.next_vector.Tie as tie
 
 abbrev Inv-loop : tie.InvT-loop
-Inv-loop vector register₀ i₀ register i = (i ≤ 64) × Holds register (iterate shifted i (loaded vector))
+Inv-loop vector register₀ i₀ register i = (i ≤ 64) × Holds register (iterate shifted i (filled vector))
 
 abbrev μ-loop : tie.MeasureT-loop
 μ-loop vector register₀ i₀ register i = 64 - i
@@ -26,7 +26,7 @@ next-vector-spec =
     Inv-loop
     μ-loop
     (λ c κs. search needs)
-    (λ c. (omega arith, shift-start _ _ (c .load .ensures)))
+    (λ c. (omega arith, shift-start _ _ (c .fill .ensures)))
     (λ c κs. search needs)
     (λ c. omega arith)
     (λ c. omega arith)

@@ -1,4 +1,4 @@
--- `generator::shift` meets its contract. Assumes nothing.
+-- `generator::shift` meets its contract.
 use borrow.Author.Needs.{needs}
 use Rattle.generator.proofs.Register.{shift-one}
 use Rattle.generator.proofs.shift.Statement.{statement}

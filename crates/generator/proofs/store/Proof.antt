@@ -1,4 +1,4 @@
--- `generator::store` meets its contract: the octets below i announce the register. Assumes nothing.
+-- `generator::store` meets its contract: the octets below i announce the register.
 use mathlib.Core.Path.{sym}
 use Prim.Native.Nat.{_-_, _≤_}
 use native.Mathlib.Omega.{arith}

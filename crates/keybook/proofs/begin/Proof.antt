@@ -1,4 +1,4 @@
--- `keybook::begin` meets its contract. Assumes nothing.
+-- `keybook::begin` meets its contract.
 use mathlib.Core.Path.{sym, ap, _∙_}
 use mathlib.Core.List.{List}
 use Prim.Native.Nat.{ℕ}

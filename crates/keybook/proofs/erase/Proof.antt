@@ -1,4 +1,4 @@
--- `keybook::erase` meets its contract. Assumes nothing.
+-- `keybook::erase` meets its contract.
 use mathlib.Core.Path.{sym, _∙_, ap}
 use native.Mathlib.Omega.{arith}
 use borrow.Author.Needs.{needs}

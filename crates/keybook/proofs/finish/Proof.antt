@@ -1,4 +1,4 @@
--- `keybook::finish` meets its contract. Assumes nothing.
+-- `keybook::finish` meets its contract.
 use mathlib.Core.Path.{sym, _∙_}
 use native.Mathlib.Omega.{arith}
 use borrow.Author.Needs.{needs}

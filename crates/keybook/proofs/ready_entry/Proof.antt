@@ -1,4 +1,4 @@
--- `keybook::ready_entry` meets its contract. Assumes nothing.
+-- `keybook::ready_entry` meets its contract.
 use borrow.Author.Needs.{needs}
 use Rattle.keybook.proofs.OperationLaws.{ready-not, ready-done}
 use Rattle.keybook.proofs.ready_entry.Statement.{statement}

@@ -1,4 +1,4 @@
--- `keybook::ready_key` meets its contract. Assumes nothing.
+-- `keybook::ready_key` meets its contract.
 use mathlib.Core.Path.{sym, ap, _∙_}
 use borrow.Author.Needs.{needs}
 use Rattle.keybook.proofs.OperationLaws.{located, both, ready-ways, readying}

@@ -1,4 +1,4 @@
--- `keybook::refused` meets its contract. Assumes nothing.
+-- `keybook::refused` meets its contract.
 use mathlib.Core.Path.{refl}
 use Rattle.keybook.specs.Operations.{noKey}
 use Rattle.keybook.proofs.refused.Statement.{statement}

@@ -1,8 +1,8 @@
--- `keyentry::append` meets its contract. Assumes nothing.
+-- `keyentry::append` meets its contract.
 use native.Mathlib.Omega.{arith}
 use borrow.Author.Needs.{needs}
 use denote.Ref.{now}
-use Rattle.ciphers.proofs.NumberLaws.{key-at-most}
+use Rattle.sizes.proofs.SizeLaws.{key-at-most}
 use Rattle.keyentry.specs.Entry.{cipherIn, lacks}
 use Rattle.keyentry.proofs.EntryLaws.{appended}
 use Rattle.keyentry.proofs.append.Statement.{statement}

@@ -1,4 +1,4 @@
--- `keyentry::clear` meets its contract. Assumes nothing.
+-- `keyentry::clear` meets its contract.
 use mathlib.Core.Path.{sym}
 use Prim.Native.Nat.{_-_}
 use borrow.Author.Needs.{needs}

@@ -1,4 +1,4 @@
--- `keyentry::complete` meets its contract. Assumes nothing.
+-- `keyentry::complete` meets its contract.
 use native.Mathlib.Omega.{arith}
 use borrow.Author.Needs.{needs}
 use Rattle.octets.proofs.TestLaws.{fails, holds}

@@ -1,4 +1,4 @@
--- `keyentry::is_for` meets its contract. Assumes nothing.
+-- `keyentry::is_for` meets its contract.
 use borrow.Author.Needs.{needs}
 use borrow.Author.Tests.{eq-eqb, ne-eqb}
 use Rattle.keyentry.specs.Entry.{isFor}

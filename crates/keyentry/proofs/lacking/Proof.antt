@@ -1,4 +1,4 @@
--- `keyentry::lacking` meets its contract. Assumes nothing.
+-- `keyentry::lacking` meets its contract.
 use native.Mathlib.Omega.{arith}
 use borrow.Author.Needs.{needs}
 use Rattle.keyentry.specs.Entry.{lacks}

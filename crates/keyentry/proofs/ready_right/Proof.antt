@@ -1,4 +1,4 @@
--- `keyentry::ready_right` meets its contract. Assumes nothing.
+-- `keyentry::ready_right` meets its contract.
 use mathlib.Core.Path.{_∙_}
 use native.Mathlib.Omega.{arith}
 use borrow.Author.Needs.{needs}

@@ -1,4 +1,4 @@
--- `keyentry::rest_zero` meets its contract. Assumes nothing.
+-- `keyentry::rest_zero` meets its contract.
 use mathlib.Core.Path.{ap, _∙_}
 use borrow.Author.Needs.{needs}
 use denote.Ref.{now}

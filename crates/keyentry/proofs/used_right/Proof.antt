@@ -1,9 +1,9 @@
--- `keyentry::used_right` meets its contract. Assumes nothing.
+-- `keyentry::used_right` meets its contract.
 use mathlib.Core.Path.{_∙_}
 use native.Mathlib.Omega.{arith}
 use borrow.Author.Needs.{needs}
 use denote.Ref.{now}
-use Rattle.ciphers.proofs.NumberLaws.{key-at-most}
+use Rattle.sizes.proofs.SizeLaws.{key-at-most}
 use Rattle.octets.proofs.TestLaws.{fails, holds}
 use Rattle.keyentry.specs.Entry.{cipherIn}
 use Rattle.keyentry.proofs.EntryLaws.{used-name, used-count, used-rest, used-ready}
@@ -11,16 +11,16 @@ use Rattle.keyentry.proofs.used_right.Statement.{statement}
 use Rattle.keyentry.proofs.used_right.Tie as tie
 
 returns-2 : tie.Need-returns-2
-returns-2 c = used-count _ (holds (c .before .before .before .before .before .before .is-named .ensures) (c .before .before .before .before .before .if1 .left)) (omega arith)
+returns-2 c = used-count _ (holds (c .before .before .before .before .before .before .in-range .ensures) (c .before .before .before .before .before .if1 .left)) (omega arith)
 
 rest-zero-requires : tie.Need-rest-zero-requires
 rest-zero-requires c κs = (search needs, omega (arith, key-at-most (cipherIn (now (c .before .before .before .before .before .before .before .before .before .before .args .e)))))
 
 returns-3 : tie.Need-returns-3
-returns-3 c = used-rest _ (holds (c .before .before .before .before .before .before .before .before .is-named .ensures) (c .before .before .before .before .before .before .before .if1 .left)) (omega arith) (fails (c .before .rest-zero .ensures) (c .if3 .taken))
+returns-3 c = used-rest _ (holds (c .before .before .before .before .before .before .before .before .in-range .ensures) (c .before .before .before .before .before .before .before .if1 .left)) (omega arith) (fails (c .before .rest-zero .ensures) (c .if3 .taken))
 
 returns-4 : tie.Need-returns-4
-returns-4 c = c .ready-right .ensures ∙ used-ready _ (holds (c .before .before .before .before .before .before .before .before .before .is-named .ensures) (c .before .before .before .before .before .before .before .before .if1 .left)) (omega arith) (holds (c .before .before .rest-zero .ensures) (c .before .if3 .left))
+returns-4 c = c .ready-right .ensures ∙ used-ready _ (holds (c .before .before .before .before .before .before .before .before .before .in-range .ensures) (c .before .before .before .before .before .before .before .before .if1 .left)) (omega arith) (holds (c .before .before .rest-zero .ensures) (c .before .if3 .left))
 
 pub used-right-spec : {M : Type 1} → statement M
 used-right-spec =
@@ -29,7 +29,7 @@ used-right-spec =
     (λ c. search needs)
     (λ c. search needs)
     (λ c κs. search needs)
-    (λ c. used-name _ (fails (c .before .is-named .ensures) (c .if1 .taken)))
+    (λ c. used-name _ (fails (c .before .in-range .ensures) (c .if1 .taken)))
     (λ c. search needs)
     (λ c κs. search needs)
     (λ c. search needs)

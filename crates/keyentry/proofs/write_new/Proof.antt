@@ -1,4 +1,4 @@
--- `keyentry::write_new` meets its contract. Assumes nothing.
+-- `keyentry::write_new` meets its contract.
 use borrow.Author.Needs.{needs}
 use Rattle.keyentry.proofs.EntryLaws.{new-written}
 use Rattle.keyentry.proofs.write_new.Statement.{statement}

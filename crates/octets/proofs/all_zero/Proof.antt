@@ -1,4 +1,4 @@
--- `octets::all_zero` meets its contract. Assumes nothing.
+-- `octets::all_zero` meets its contract.
 use mathlib.Core.Path.{_≡_, sym}
 use mathlib.Core.Bool.{true}
 use Prim.Native.Nat.{_-_, _≤_}

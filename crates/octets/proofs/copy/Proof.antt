@@ -1,4 +1,4 @@
--- `octets::copy` meets its contract. Assumes nothing.
+-- `octets::copy` meets its contract.
 use mathlib.Core.Path.{refl}
 use Prim.Native.Nat.{_-_}
 use borrow.Author.Needs.{needs}

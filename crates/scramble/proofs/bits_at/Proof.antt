@@ -1,4 +1,4 @@
--- `scramble::bits_at` meets its contract. Assumes nothing.
+-- `scramble::bits_at` meets its contract.
 use mathlib.Core.Path.{_≡_, ap, _∙_}
 use Prim.Native.Nat.{_+_, _*_, _/_, _%_}
 use native.Mathlib.Omega.{arith}

@@ -1,4 +1,4 @@
--- `scramble::first` meets its contract. Assumes nothing.
+-- `scramble::first` meets its contract.
 use mathlib.Core.Path.{_≡_, refl, sym, ap, _∙_}
 use Prim.Native.Nat.{_-_, _/_, _^_, _≤_}
 use native.Mathlib.Nat.{div-one}

@@ -1,4 +1,4 @@
--- `scramble::key_number` meets its contract. Assumes nothing.
+-- `scramble::key_number` meets its contract.
 use native.Mathlib.Omega.{arith}
 use borrow.Author.Needs.{needs}
 use Rattle.scramble.specs.Sequence.{keyNumber}

@@ -1,4 +1,4 @@
--- `scramble::later` meets its contract. Assumes nothing.
+-- `scramble::later` meets its contract.
 use borrow.Author.Needs.{needs}
 use Rattle.scramble.proofs.HeldBits.{later-fits}
 use Rattle.scramble.proofs.MovedBits.{later-moved}

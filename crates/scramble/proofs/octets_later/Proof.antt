@@ -1,4 +1,4 @@
--- `scramble::octets_later` meets its contract. Assumes nothing.
+-- `scramble::octets_later` meets its contract.
 use mathlib.Core.Path.{_≡_, refl, ap, _∙_}
 use Prim.Native.Nat.{ℕ, _+_, _-_, _*_, _≤_}
 use native.Mathlib.Omega.{arith}

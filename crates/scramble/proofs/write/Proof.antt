@@ -1,4 +1,4 @@
--- `scramble::write` meets its contract. Assumes nothing.
+-- `scramble::write` meets its contract.
 use mathlib.Core.Path.{_≡_, refl, sym, ap, _∙_}
 use Prim.Native.Nat.{_+_, _-_, _*_, _<_}
 use native.Mathlib.Omega.{arith}

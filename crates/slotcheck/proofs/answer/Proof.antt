@@ -1,4 +1,4 @@
--- `slotcheck::answer` meets its contract. Assumes nothing.
+-- `slotcheck::answer` meets its contract.
 use mathlib.Core.Path.{_≡_, sym, ap, _∙_}
 use mathlib.Core.Bool.{false≢true}
 use mathlib.Core.List.{List}

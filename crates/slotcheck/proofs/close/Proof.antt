@@ -1,4 +1,4 @@
--- `slotcheck::close` is safe and ends. Assumes nothing.
+-- `slotcheck::close` is safe and ends.
 use mathlib.Core.Path.{sym}
 use lib.Seq.{length-take-le}
 use borrow.Author.Needs.{needs}

@@ -1,4 +1,4 @@
--- `slotcheck::run` is safe and ends. Assumes nothing.
+-- `slotcheck::run` is safe and ends.
 use mathlib.Core.Path.{_≡_}
 use lib.ListN.{length}
 use borrow.Author.Needs.{needs}

@@ -1,4 +1,4 @@
--- `timed::aes_chain` is safe and ends. Assumes nothing.
+-- `timed::aes_chain` is safe and ends.
 use mathlib.Core.Path.{_≡_, refl}
 use Prim.Native.Nat.{_-_, _≤_}
 use borrow.Author.Needs.{needs}

@@ -1,4 +1,4 @@
--- `timed::des_chain` is safe and ends. Assumes nothing.
+-- `timed::des_chain` is safe and ends.
 use mathlib.Core.Path.{_≡_, refl, subst⁻¹}
 use Prim.Native.Nat.{_-_, _≤_}
 use borrow.Author.Needs.{needs}

@@ -1,4 +1,4 @@
--- `vectors::try_rows` is safe and ends: no more rows hold than there are, nor are there more rows or lines than octets. Assumes nothing.
+-- `vectors::try_rows` is safe and ends: no more rows hold than there are, nor are there more rows or lines than octets.
 use mathlib.Core.Logic.{⊎-elim}
 use Prim.Native.Nat.{_≤_, _-_}
 use lib.ListN.{length}

@@ -1,9 +1,9 @@
--- `ciphers::feedback::encipher` meets its contract. Assumes nothing.
+-- `ciphers::feedback::encipher` meets its contract.
 use mathlib.Core.Path.{_∙_}
 use borrow.Author.Needs.{needs}
 use lib.ListN.{length}
 use Rattle.ciphers.specs.Engine.{encipheredBy}
-use Rattle.ciphers.proofs.Cases.{of-des, of-aes}
+use Rattle.sizes.proofs.Cases.{of-des, of-aes}
 use Rattle.ciphers.proofs.EngineLaws.{des-engine, aes-engine}
 use Rattle.ciphers.proofs.feedback.encipher.Statement.{statement}
 use Rattle.ciphers.proofs.feedback.encipher.Tie as tie

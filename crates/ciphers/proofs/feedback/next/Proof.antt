@@ -1,4 +1,4 @@
--- `ciphers::feedback::next` meets its contract. Assumes nothing.
+-- `ciphers::feedback::next` meets its contract.
 use mathlib.Core.Path.{refl}
 use borrow.Author.Needs.{needs}
 use borrow.Author.Tests.{lt-ltb, le-ltb}

@@ -1,4 +1,4 @@
--- `ciphers::feedback::run` meets its contract: the octet that is read stands at its place in its block. Assumes nothing.
+-- `ciphers::feedback::run` meets its contract: the octet that is read stands at its place in its block.
 use mathlib.Core.Path.{_≡_, refl, sym}
 use native.Mathlib.Nat.{add-zero}
 use Prim.Native.Nat.{_+_, _-_, _*_, _/_, _≤_}

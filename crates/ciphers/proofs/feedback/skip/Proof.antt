@@ -1,4 +1,4 @@
--- `ciphers::feedback::skip` meets its contract. Assumes nothing.
+-- `ciphers::feedback::skip` meets its contract.
 use mathlib.Core.Path.{_≡_, refl, _∙_, ap}
 use Prim.Native.Nat.{_-_, _≤_}
 use native.Mathlib.Numerals.{add-one}

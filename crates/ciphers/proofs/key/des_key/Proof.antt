@@ -1,4 +1,4 @@
--- `ciphers::key::des_key` meets its contract. Assumes nothing.
+-- `ciphers::key::des_key` meets its contract.
 use mathlib.Core.Path.{_≡_, sym, _∙_}
 use mathlib.Core.Bool.{true}
 use Prim.Native.Nat.{_-_, _≤_}

@@ -1,8 +1,8 @@
--- `ciphers::key::key_allowed` meets its contract. Assumes nothing.
+-- `ciphers::key::key_allowed` meets its contract.
 use mathlib.Core.Path.{_∙_}
 use borrow.Author.Needs.{needs}
 use Rattle.ciphers.specs.Keys.{keyAllowed}
-use Rattle.ciphers.proofs.Cases.{of-scramble, of-des, of-aes, of-none}
+use Rattle.sizes.proofs.Cases.{of-scramble, of-des, of-aes, of-none}
 use Rattle.ciphers.proofs.key.key_allowed.Statement.{statement}
 use Rattle.ciphers.proofs.key.key_allowed.Tie as tie
 

@@ -1,4 +1,4 @@
--- `ciphers::key::odd_octet` meets its contract. Assumes nothing.
+-- `ciphers::key::odd_octet` meets its contract.
 use mathlib.Core.Path.{refl}
 use borrow.Author.Needs.{needs}
 use Rattle.ciphers.specs.Keys.{oddOctet}

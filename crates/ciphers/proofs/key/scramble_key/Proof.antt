@@ -1,4 +1,4 @@
--- `ciphers::key::scramble_key` meets its contract. Assumes nothing.
+-- `ciphers::key::scramble_key` meets its contract.
 use borrow.Author.Needs.{needs}
 use Rattle.ciphers.proofs.KeyLaws.{scramble-top, scramble-high, scramble-low}
 use Rattle.ciphers.proofs.key.scramble_key.Statement.{statement}

@@ -1,4 +1,4 @@
--- `ciphers::keystream::aes_stream` meets its contract. Assumes nothing.
+-- `ciphers::keystream::aes_stream` meets its contract.
 use native.Mathlib.Omega.{arith}
 use borrow.Author.Needs.{needs}
 use Rattle.generator.proofs.VectorLaws.{length-aesVector}

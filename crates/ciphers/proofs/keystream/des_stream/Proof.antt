@@ -1,4 +1,4 @@
--- `ciphers::keystream::des_stream` meets its contract. Assumes nothing.
+-- `ciphers::keystream::des_stream` meets its contract.
 use mathlib.Core.Path.{refl}
 use borrow.Author.Needs.{needs}
 use Rattle.ciphers.proofs.EngineLaws.{key-des, by-des, fed-back}

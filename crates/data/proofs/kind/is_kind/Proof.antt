@@ -1,4 +1,4 @@
--- `data::kind::is_kind` meets its contract. Assumes nothing.
+-- `data::kind::is_kind` meets its contract.
 use borrow.Author.Tests.{le-leb, lt-leb}
 use Rattle.data.specs.Kinds.{isKind}
 use Rattle.data.proofs.kind.is_kind.Statement.{statement}

@@ -1,4 +1,4 @@
--- `data::kind::protected_octets` meets its contract. Assumes nothing.
+-- `data::kind::protected_octets` meets its contract.
 use Rattle.data.proofs.KindLaws.{of-dcall, of-inbound, of-outbound, of-facch, of-none}
 use Rattle.data.proofs.kind.protected_octets.Statement.{statement}
 use Rattle.data.proofs.kind.protected_octets.Tie as tie

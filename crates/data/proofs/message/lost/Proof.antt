@@ -1,4 +1,4 @@
--- `data::message::lost` meets its contract. Assumes nothing.
+-- `data::message::lost` meets its contract.
 use mathlib.Core.Path.{ap}
 use mathlib.Core.Bool.{not}
 use mathlib.Core.Logic.{⊎-elim}

@@ -1,4 +1,4 @@
--- `data::message::message` meets its contract. Assumes nothing.
+-- `data::message::message` meets its contract.
 use mathlib.Core.Path.{sym, _∙_}
 use Rattle.answers.proofs.OutcomeLaws.{is-done, not-done}
 use Rattle.data.proofs.MessageLaws.{none-open, none-few, lost-none, lost-decides, message-length, lost-leaves}

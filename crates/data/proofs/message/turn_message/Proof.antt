@@ -1,10 +1,10 @@
--- `data::message::turn_message` meets its contract. Assumes nothing.
+-- `data::message::turn_message` meets its contract.
 use mathlib.Core.Path.{refl, sym}
 use native.Mathlib.Omega.{arith}
 use lib.ListN.{replicate}
 use lib.Seq.{length-take-le}
 use denote.Ref.{now}
-use Rattle.session.proofs.SessionLaws.{key-ranged}
+use Rattle.ciphers.proofs.KeyLaws.{key-ranged}
 use Rattle.data.proofs.PacketLaws.{open-key}
 use Rattle.data.proofs.MessageLaws.{by-own, own-length, part-most, part-ends, place-fits}
 use borrow.Author.Needs.{needs}

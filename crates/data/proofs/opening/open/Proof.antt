@@ -1,6 +1,6 @@
--- `data::opening::open` meets its contract. Assumes nothing.
+-- `data::opening::open` meets its contract.
 use Rattle.answers.proofs.OutcomeLaws.{is-done, not-done}
-use Rattle.session.proofs.BegunLaws.{begun-sized}
+use Rattle.openings.proofs.BegunLaws.{begun-sized}
 use Rattle.data.proofs.OpeningLaws.{open-refused, open-done}
 use borrow.Author.Needs.{needs}
 use Rattle.data.proofs.opening.open.Statement.{statement}

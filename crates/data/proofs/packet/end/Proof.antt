@@ -1,4 +1,4 @@
--- `data::packet::end` meets its contract. Assumes nothing.
+-- `data::packet::end` meets its contract.
 use mathlib.Core.Path.{ap}
 use mathlib.Core.Bool.{not}
 use Rattle.octets.proofs.TestLaws.{fails, holds}

@@ -1,4 +1,4 @@
--- `data::packet::good_packet` meets its contract. Assumes nothing.
+-- `data::packet::good_packet` meets its contract.
 use mathlib.Core.Path.{sym, _∙_}
 use Rattle.data.specs.Packet.{goodPacket}
 use borrow.Author.Needs.{needs}

@@ -1,4 +1,4 @@
--- `data::packet::is_closed` meets its contract. Assumes nothing.
+-- `data::packet::is_closed` meets its contract.
 use mathlib.Core.Bool.{and-true}
 use borrow.Author.Tests.{eq-eqb, ne-eqb}
 use Rattle.octets.proofs.TestLaws.{every-fails, fails, holds}

@@ -1,4 +1,4 @@
--- `des::looks::looks_at` meets its contract. Assumes nothing.
+-- `des::looks::looks_at` meets its contract.
 use borrow.Author.Needs.{needs}
 use denote.Ref.{now}
 use Rattle.des.specs.Des.{boxInput}

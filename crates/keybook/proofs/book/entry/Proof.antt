@@ -1,4 +1,4 @@
--- `book::entry` meets its contract. Assumes nothing.
+-- `book::entry` meets its contract.
 use borrow.Author.Needs.{needs}
 use denote.Ref.{now}
 use Rattle.keybook.proofs.BookLaws.{entry-lent, lent-length}

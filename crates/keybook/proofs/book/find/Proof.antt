@@ -1,4 +1,4 @@
--- `book::find` meets its contract. Assumes nothing.
+-- `book::find` meets its contract.
 use mathlib.Core.Path.{_≡_, sym}
 use mathlib.Core.Bool.{false}
 use Prim.Native.Nat.{ℕ, _-_, _≤_, _<_}

@@ -1,4 +1,4 @@
--- `book::free` meets its contract. Assumes nothing.
+-- `book::free` meets its contract.
 use mathlib.Core.Path.{_≡_, refl, sym}
 use mathlib.Core.Bool.{false}
 use Prim.Native.Nat.{ℕ, _-_, _≤_, _<_}

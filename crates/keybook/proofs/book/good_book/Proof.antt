@@ -1,4 +1,4 @@
--- `book::good_book` meets its contract. Assumes nothing.
+-- `book::good_book` meets its contract.
 use mathlib.Core.Path.{_≡_}
 use mathlib.Core.Bool.{true}
 use Prim.Native.Nat.{_-_, _≤_}

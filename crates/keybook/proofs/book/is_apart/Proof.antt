@@ -1,4 +1,4 @@
--- `book::is_apart` meets its contract. Assumes nothing.
+-- `book::is_apart` meets its contract.
 use borrow.Author.Needs.{needs}
 use Rattle.keybook.proofs.BookLaws.{apart-free, apart-used}
 use Rattle.keybook.proofs.book.is_apart.Statement.{statement}

@@ -1,4 +1,4 @@
--- `lines::field::last_hex` meets its contract. Assumes nothing.
+-- `lines::field::last_hex` meets its contract.
 use mathlib.Core.Path.{sym, _∙_}
 use mathlib.Core.Bool.{false≢true}
 use lib.ListN.{length}

@@ -1,4 +1,4 @@
--- `lines::field::name` meets its contract. Assumes nothing.
+-- `lines::field::name` meets its contract.
 use mathlib.Core.Path.{sym, _∙_}
 use borrow.Author.Needs.{needs}
 use Rattle.lines.proofs.FieldLaws.{name-not-first, name-not-second, named-by}

@@ -1,4 +1,4 @@
--- `lines::field::next_field` meets its contract. Assumes nothing.
+-- `lines::field::next_field` meets its contract.
 use borrow.Author.Needs.{needs}
 use borrow.Author.Tests.{not-true, not-false}
 use Rattle.lines.proofs.FieldLaws.{field-none, field-more, field-last}

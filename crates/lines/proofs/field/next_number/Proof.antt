@@ -1,4 +1,4 @@
--- `lines::field::next_number` meets its contract. Assumes nothing.
+-- `lines::field::next_number` meets its contract.
 use mathlib.Core.Path.{ap, _∙_}
 use borrow.Author.Needs.{needs}
 use Rattle.text.specs.Decimal.{numberIn}

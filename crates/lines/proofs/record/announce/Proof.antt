@@ -1,7 +1,7 @@
--- `lines::record::announce` meets its contract. Assumes nothing.
+-- `lines::record::announce` meets its contract.
 use native.Mathlib.Omega.{arith}
 use borrow.Author.Needs.{needs}
-use Rattle.session.specs.Session.{vectorOctets}
+use Rattle.sizes.specs.Ciphers.{vectorOctets}
 use Rattle.lines.proofs.RecordLaws.{part-size, part-some, part-most, last-lent, announce-done, announce-not}
 use Rattle.lines.proofs.record.announce.Statement.{statement}
 use Rattle.lines.proofs.record.announce.Tie as tie

@@ -1,4 +1,4 @@
--- `lines::record::join` meets its contract. Assumes nothing.
+-- `lines::record::join` meets its contract.
 use borrow.Author.Needs.{needs}
 use Rattle.lines.proofs.RecordLaws.{join-no-name, join-is, join-count}
 use Rattle.lines.proofs.record.join.Statement.{statement}

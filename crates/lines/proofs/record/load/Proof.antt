@@ -1,4 +1,4 @@
--- `lines::record::load` meets its contract. Assumes nothing.
+-- `lines::record::load` meets its contract.
 use mathlib.Core.Path.{refl}
 use native.Mathlib.Omega.{arith}
 use borrow.Author.Needs.{needs}

@@ -1,7 +1,7 @@
--- `lines::record::open` meets its contract. Assumes nothing.
+-- `lines::record::open` meets its contract.
 use native.Mathlib.Omega.{arith}
 use borrow.Author.Needs.{needs}
-use Rattle.session.specs.Session.{vectorOctets}
+use Rattle.sizes.specs.Ciphers.{vectorOctets}
 use Rattle.lines.proofs.RecordLaws.{part-size, part-some, part-most, last-lent, name-within, open-no-name, open-done, open-not}
 use Rattle.lines.proofs.record.open.Statement.{statement}
 use Rattle.lines.proofs.record.open.Tie as tie

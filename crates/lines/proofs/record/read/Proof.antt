@@ -1,4 +1,4 @@
--- `lines::record::read` meets its contract. Assumes nothing.
+-- `lines::record::read` meets its contract.
 use mathlib.Core.Path.{_∙_}
 use borrow.Author.Needs.{needs}
 use Rattle.lines.specs.declared.record.Parsed.the-variants as code

@@ -1,8 +1,8 @@
--- `lines::record::voice` meets its contract. Assumes nothing.
+-- `lines::record::voice` meets its contract.
 use mathlib.Core.Path.{sym, _∙_}
 use native.Mathlib.Omega.{arith}
 use borrow.Author.Needs.{needs}
-use Rattle.voice.specs.Frame.{frameOctets}
+use Rattle.sizes.specs.Frame.{frameOctets}
 use Rattle.lines.proofs.RecordLaws.{part-size, part-some, part-most, last-lent, voice-no-mask, voice-done, voice-not}
 use Rattle.lines.proofs.record.voice.Statement.{statement}
 use Rattle.lines.proofs.record.voice.Tie as tie

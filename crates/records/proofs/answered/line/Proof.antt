@@ -1,4 +1,4 @@
--- `records::answered::line` meets its contract. Assumes nothing.
+-- `records::answered::line` meets its contract.
 use mathlib.Core.Path.{refl}
 use Rattle.records.proofs.AnsweredLaws.{no-room, in-room}
 use Rattle.records.proofs.StepLaws.{unmade}

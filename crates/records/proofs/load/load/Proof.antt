@@ -1,4 +1,4 @@
--- `records::load::load` meets its contract. Assumes nothing.
+-- `records::load::load` meets its contract.
 use borrow.Author.Needs.{needs}
 use Rattle.answers.proofs.OutcomeLaws.{is-done, not-done}
 use Rattle.records.proofs.LoadLaws.{begin-refuses, add-refuses, finish-refuses, finish-done}

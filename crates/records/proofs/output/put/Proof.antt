@@ -1,4 +1,4 @@
--- `records::output::put` meets its contract. Assumes nothing.
+-- `records::output::put` meets its contract.
 use Rattle.records.proofs.OutputLaws.{laid-text}
 use borrow.Author.Needs.{needs}
 use Rattle.records.proofs.output.put.Statement.{statement}

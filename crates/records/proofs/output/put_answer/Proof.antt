@@ -1,4 +1,4 @@
--- `records::output::put_answer` meets its contract. Assumes nothing.
+-- `records::output::put_answer` meets its contract.
 use Rattle.records.proofs.OutputLaws.{answer-laid}
 use borrow.Author.Needs.{needs}
 use Rattle.records.proofs.output.put_answer.Statement.{statement}

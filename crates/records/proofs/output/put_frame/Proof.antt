@@ -1,4 +1,4 @@
--- `records::output::put_frame` meets its contract. Assumes nothing.
+-- `records::output::put_frame` meets its contract.
 use native.Mathlib.Omega.{arith}
 use Rattle.records.proofs.OutputLaws.{laid-as, shown-none, shown-frame}
 use denote.Ref.{now}

@@ -1,4 +1,4 @@
--- `records::output::put_number` meets its contract. Assumes nothing.
+-- `records::output::put_number` meets its contract.
 use native.Mathlib.Omega.{arith}
 use Rattle.text.proofs.DecimalLaws.{decimal-size}
 use Rattle.records.proofs.OutputLaws.{laid-number}

@@ -1,4 +1,4 @@
--- `records::output::put_octets` meets its contract. Assumes nothing.
+-- `records::output::put_octets` meets its contract.
 use Rattle.records.proofs.OutputLaws.{laid-octets}
 use borrow.Author.Needs.{needs}
 use Rattle.records.proofs.output.put_octets.Statement.{statement}

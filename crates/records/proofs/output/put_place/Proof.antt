@@ -1,4 +1,4 @@
--- `records::output::put_place` meets its contract. Assumes nothing.
+-- `records::output::put_place` meets its contract.
 use native.Mathlib.Omega.{arith}
 use Rattle.records.proofs.OutputLaws.{laid-as, place-closed, place-open}
 use borrow.Author.Needs.{needs}

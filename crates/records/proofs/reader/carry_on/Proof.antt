@@ -1,4 +1,4 @@
--- `records::reader::carry_on` meets its contract. Assumes nothing.
+-- `records::reader::carry_on` meets its contract.
 use native.Mathlib.Omega.{arith}
 use lib.ListN.{length-take}
 use Rattle.records.proofs.CarryLaws.{carried-is}

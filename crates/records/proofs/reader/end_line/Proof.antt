@@ -1,4 +1,4 @@
--- `records::reader::end_line` meets its contract. Assumes nothing.
+-- `records::reader::end_line` meets its contract.
 use mathlib.Core.Path.{_≡_}
 use native.Mathlib.Omega.{arith}
 use lib.ListN.{length-take}

@@ -1,4 +1,4 @@
--- `records::reader::finish` meets its contract. Assumes nothing.
+-- `records::reader::finish` meets its contract.
 use mathlib.Core.Path.{_∙_}
 use Rattle.records.proofs.BoundLaws.{finish-wrote}
 use Rattle.records.proofs.TakeLaws.{reading-is}

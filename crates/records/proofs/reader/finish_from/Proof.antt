@@ -1,4 +1,4 @@
--- `records::reader::finish_from` meets its contract. Assumes nothing.
+-- `records::reader::finish_from` meets its contract.
 use mathlib.Core.Path.{refl, sym, _∙_}
 use native.Mathlib.Omega.{arith}
 use lib.ListN.{length-take}

@@ -1,4 +1,4 @@
--- `records::reader::keep` meets its contract. Assumes nothing.
+-- `records::reader::keep` meets its contract.
 use native.Mathlib.Omega.{arith}
 use lib.ListN.{length-take, length-drop}
 use Rattle.records.proofs.CarryLaws.{keeps}

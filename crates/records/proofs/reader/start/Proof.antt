@@ -1,4 +1,4 @@
--- `records::reader::start` meets its contract. Assumes nothing.
+-- `records::reader::start` meets its contract.
 use Rattle.records.proofs.CarryLaws.{started-is}
 use borrow.Author.Needs.{needs}
 use Rattle.records.proofs.reader.start.Statement.{statement}

@@ -1,4 +1,4 @@
--- `records::reader::take` meets its contract. Assumes nothing.
+-- `records::reader::take` meets its contract.
 use mathlib.Core.Path.{_∙_}
 use Rattle.records.proofs.BoundLaws.{take-used, take-wrote, take-some}
 use Rattle.records.proofs.TakeLaws.{reading-is}

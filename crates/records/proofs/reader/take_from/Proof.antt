@@ -1,4 +1,4 @@
--- `records::reader::take_from` meets its contract. Assumes nothing.
+-- `records::reader::take_from` meets its contract.
 use mathlib.Core.Path.{_≡_, refl}
 use Prim.Native.Nat.{_-_, _≤_}
 use native.Mathlib.Omega.{arith}

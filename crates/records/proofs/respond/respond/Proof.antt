@@ -1,4 +1,4 @@
--- `records::respond::respond` meets its contract. Assumes nothing.
+-- `records::respond::respond` meets its contract.
 use mathlib.Core.Path.{sym}
 use native.Mathlib.Omega.{arith}
 use lib.Seq.{length-take-le}

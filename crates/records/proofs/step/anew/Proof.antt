@@ -1,4 +1,4 @@
--- `records::step::anew` meets its contract. Assumes nothing.
+-- `records::step::anew` meets its contract.
 use mathlib.Core.Path.{sym, _∙_}
 use mathlib.Core.Bool.{false≢true}
 use borrow.Author.Needs.{needs}

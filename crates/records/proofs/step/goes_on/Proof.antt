@@ -1,4 +1,4 @@
--- `records::step::goes_on` meets its contract. Assumes nothing.
+-- `records::step::goes_on` meets its contract.
 use borrow.Author.Tests.{not-true, eq-eqb, eqb-false}
 use Rattle.records.proofs.step.goes_on.Statement.{statement}
 use Rattle.records.proofs.step.goes_on.Tie as tie

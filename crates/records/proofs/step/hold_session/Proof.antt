@@ -1,4 +1,4 @@
--- `records::step::hold_session` meets its contract. Assumes nothing.
+-- `records::step::hold_session` meets its contract.
 use mathlib.Core.Path.{sym}
 use borrow.Author.Needs.{needs}
 use borrow.Author.Tests.{not-true, not-false}

@@ -1,4 +1,4 @@
--- `records::step::lost_slot` meets its contract. Assumes nothing.
+-- `records::step::lost_slot` meets its contract.
 use mathlib.Core.Path.{refl, sym, _∙_}
 use mathlib.Core.Bool.{true≢false}
 use borrow.Author.Needs.{needs}

@@ -1,4 +1,4 @@
--- `records::step::step` meets its contract. Assumes nothing.
+-- `records::step::step` meets its contract.
 use mathlib.Core.Path.{refl, sym, ap, _∙_}
 use native.Mathlib.Omega.{arith}
 use lib.Seq.{length-take-le}

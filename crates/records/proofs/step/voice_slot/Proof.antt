@@ -1,4 +1,4 @@
--- `records::step::voice_slot` meets its contract. Assumes nothing.
+-- `records::step::voice_slot` meets its contract.
 use mathlib.Core.Path.{_∙_}
 use borrow.Author.Needs.{needs}
 use Rattle.answers.proofs.OutcomeLaws.{is-done, not-done}

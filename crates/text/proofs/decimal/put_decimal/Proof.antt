@@ -1,4 +1,4 @@
--- `text::decimal::put_decimal` meets its contract. Assumes nothing.
+-- `text::decimal::put_decimal` meets its contract.
 use native.Mathlib.Omega.{arith}
 use borrow.Author.Needs.{needs}
 use lib.ListN.{length-set}

@@ -1,4 +1,4 @@
--- `text::decimal::read_number` meets its contract. Assumes nothing.
+-- `text::decimal::read_number` meets its contract.
 use mathlib.Core.Logic.{⊎-elim}
 use Prim.Native.Nat.{_-_}
 use native.Mathlib.Omega.{arith}

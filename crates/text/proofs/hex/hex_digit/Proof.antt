@@ -1,4 +1,4 @@
--- `text::hex::hex_digit` meets its contract. Assumes nothing.
+-- `text::hex::hex_digit` meets its contract.
 use borrow.Author.Needs.{needs}
 use borrow.Author.Tests.{lt-ltb, le-ltb}
 use Rattle.text.specs.Hex.{hexDigit}

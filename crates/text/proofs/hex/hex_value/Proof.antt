@@ -1,4 +1,4 @@
--- `text::hex::hex_value` meets its contract. Assumes nothing.
+-- `text::hex::hex_value` meets its contract.
 use native.Mathlib.Omega.{arith}
 use borrow.Author.Needs.{needs}
 use Rattle.text.proofs.RangeLaws.{below, above}

@@ -1,4 +1,4 @@
--- `text::hex::join_digits` meets its contract. Assumes nothing.
+-- `text::hex::join_digits` meets its contract.
 use mathlib.Core.Path.{_≡_, refl}
 use Prim.Native.Nat.{_+_, _-_, _*_, _≤_}
 use native.Mathlib.Omega.{arith}

@@ -1,4 +1,4 @@
--- `text::hex::put_hex` meets its contract. Assumes nothing.
+-- `text::hex::put_hex` meets its contract.
 use mathlib.Core.Path.{_≡_}
 use Prim.Native.Nat.{_-_, _*_, _≤_}
 use native.Mathlib.Omega.{arith}

@@ -1,4 +1,4 @@
--- `text::hex::read_digits` meets its contract. Assumes nothing.
+-- `text::hex::read_digits` meets its contract.
 use mathlib.Core.Path.{_≡_, sym}
 use Prim.Native.Nat.{_-_, _≤_}
 use native.Mathlib.Omega.{arith}

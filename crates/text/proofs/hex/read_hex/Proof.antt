@@ -1,4 +1,4 @@
--- `text::hex::read_hex` meets its contract. Assumes nothing.
+-- `text::hex::read_hex` meets its contract.
 use mathlib.Core.Path.{_≡_, refl, sym, ap, _∙_}
 use mathlib.Core.List.{List, _++_}
 use Prim.Native.Nat.{ℕ, _*_, _≤_, _<_}

@@ -1,4 +1,4 @@
--- `text::part::is_part` meets its contract. Assumes nothing.
+-- `text::part::is_part` meets its contract.
 use mathlib.Core.Path.{_≡_, sym}
 use mathlib.Core.Bool.{Bool, _&&_, not}
 use mathlib.Core.List.{List}

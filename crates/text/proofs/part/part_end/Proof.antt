@@ -1,4 +1,4 @@
--- `text::part::part_end` meets its contract. Assumes nothing.
+-- `text::part::part_end` meets its contract.
 use Prim.Native.Nat.{_-_}
 use borrow.Author.Needs.{needs}
 use lib.ListN.{length}

@@ -1,4 +1,4 @@
--- `text::part::stride` meets its contract. Assumes nothing.
+-- `text::part::stride` meets its contract.
 use Prim.Native.Nat.{_-_}
 use borrow.Author.Needs.{needs}
 use lib.ListN.{length}

@@ -1,4 +1,4 @@
--- `vectors::blocks::by_des` is safe and ends. Assumes nothing.
+-- `vectors::blocks::by_des` is safe and ends.
 use mathlib.Core.Path.{subst⁻¹}
 use borrow.Author.Needs.{needs}
 use denote.Ref.{now}

@@ -1,4 +1,4 @@
--- `vectors::feedback::feed_back` is safe and ends. Assumes nothing.
+-- `vectors::feedback::feed_back` is safe and ends.
 use mathlib.Core.Path.{_≡_}
 use Prim.Native.Nat.{_-_}
 use lib.ListN.{length}

@@ -1,4 +1,4 @@
--- `vectors::nxdn::output` is safe and ends. Assumes nothing.
+-- `vectors::nxdn::output` is safe and ends.
 use mathlib.Core.Path.{_≡_}
 use Prim.Native.Nat.{_-_}
 use lib.ListN.{length}

@@ -1,4 +1,4 @@
--- `vectors::row::field` meets its contract. Assumes nothing.
+-- `vectors::row::field` meets its contract.
 use Prim.Native.Nat.{_-_}
 use borrow.Author.Needs.{needs}
 use Rattle.vectors.proofs.RowLaws.{Walked, walk-start, walk-more, walk-none, walk-done}

@@ -1,4 +1,4 @@
--- `vectors::row::octets_of` meets its contract. Assumes nothing.
+-- `vectors::row::octets_of` meets its contract.
 use mathlib.Core.Bool.{false≢true}
 use native.Mathlib.Omega.{arith}
 use borrow.Author.Needs.{needs}

@@ -1,4 +1,4 @@
--- `vectors::selection::mark_block` is safe and ends. Assumes nothing.
+-- `vectors::selection::mark_block` is safe and ends.
 use mathlib.Core.Path.{_≡_, subst⁻¹}
 use Prim.Native.Nat.{_-_}
 use lib.ListN.{length}

@@ -1,4 +1,4 @@
--- `vectors::selection::mark_round` is safe and ends. Assumes nothing.
+-- `vectors::selection::mark_round` is safe and ends.
 use mathlib.Core.Path.{_≡_}
 use Prim.Native.Nat.{_-_}
 use lib.ListN.{length}

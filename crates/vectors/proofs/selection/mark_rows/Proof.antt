@@ -1,4 +1,4 @@
--- `vectors::selection::mark_rows` is safe and ends. Assumes nothing.
+-- `vectors::selection::mark_rows` is safe and ends.
 use mathlib.Core.Path.{_≡_}
 use mathlib.Core.Logic.{⊎-elim}
 use Prim.Native.Nat.{_-_}

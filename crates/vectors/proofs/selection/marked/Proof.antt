@@ -1,4 +1,4 @@
--- `vectors::selection::marked` is safe and ends: no more are marked than were looked at. Assumes nothing.
+-- `vectors::selection::marked` is safe and ends: no more are marked than were looked at.
 use mathlib.Core.Logic.{⊎-elim}
 use Prim.Native.Nat.{_≤_, _-_}
 use lib.ListN.{length}

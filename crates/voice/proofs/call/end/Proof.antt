@@ -1,4 +1,4 @@
--- `voice::call::end` meets its contract. Assumes nothing.
+-- `voice::call::end` meets its contract.
 use Rattle.octets.proofs.TestLaws.{fails, holds}
 use Rattle.voice.specs.Call.{endRefusals}
 use Rattle.voice.proofs.CallLaws.{is-bad, not-bad, stands-none, stands-some, end-refused, end-done}

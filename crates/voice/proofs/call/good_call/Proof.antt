@@ -1,4 +1,4 @@
--- `voice::call::good_call` meets its contract. Assumes nothing.
+-- `voice::call::good_call` meets its contract.
 use mathlib.Core.Path.{sym, _∙_}
 use Rattle.voice.specs.Call.{goodCall}
 use borrow.Author.Needs.{needs}

@@ -1,4 +1,4 @@
--- `voice::call::is_closed` meets its contract. Assumes nothing.
+-- `voice::call::is_closed` meets its contract.
 use mathlib.Core.Bool.{and-true}
 use borrow.Author.Tests.{eq-eqb, ne-eqb}
 use Rattle.octets.proofs.TestLaws.{every-fails, fails, holds}

@@ -1,4 +1,4 @@
--- `voice::call::is_open` meets its contract. Assumes nothing.
+-- `voice::call::is_open` meets its contract.
 use mathlib.Core.Path.{sym}
 use mathlib.Core.Bool.{and-true}
 use borrow.Author.Tests.{le-leb, lt-leb, lt-ltb, le-ltb}

@@ -1,4 +1,4 @@
--- `voice::call::vector_right` meets its contract. Assumes nothing.
+-- `voice::call::vector_right` meets its contract.
 use borrow.Author.Tests.{eq-eqb, ne-eqb}
 use Rattle.voice.specs.Call.{vectorRight}
 use Rattle.voice.proofs.call.vector_right.Statement.{statement}

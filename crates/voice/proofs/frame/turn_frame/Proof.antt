@@ -1,4 +1,4 @@
--- `voice::frame::turn_frame` meets its contract. Assumes nothing.
+-- `voice::frame::turn_frame` meets its contract.
 use native.Mathlib.Omega.{arith}
 use borrow.Author.Needs.{needs}
 use Rattle.voice.proofs.WordLaws.{four-words}

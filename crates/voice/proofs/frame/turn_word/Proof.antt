@@ -1,4 +1,4 @@
--- `voice::frame::turn_word` meets its contract. Assumes nothing.
+-- `voice::frame::turn_word` meets its contract.
 use native.Mathlib.Nat.{add-assoc}
 use borrow.Author.Needs.{needs}
 use Rattle.voice.proofs.WordLaws.{word-out, word-in}

@@ -1,6 +1,6 @@
--- `voice::opening::begin` meets its contract. Assumes nothing.
+-- `voice::opening::begin` meets its contract.
 use Rattle.answers.proofs.OutcomeLaws.{is-done, not-done}
-use Rattle.session.proofs.BegunLaws.{begun-sized}
+use Rattle.openings.proofs.BegunLaws.{begun-sized}
 use Rattle.voice.proofs.OpeningLaws.{begun-refused, begun-done}
 use borrow.Author.Needs.{needs}
 use Rattle.voice.proofs.opening.begin.Statement.{statement}

@@ -1,4 +1,4 @@
--- `voice::opening::join` meets its contract. Assumes nothing.
+-- `voice::opening::join` meets its contract.
 use Rattle.answers.proofs.OutcomeLaws.{is-done, not-done}
 use Rattle.voice.proofs.OpeningLaws.{join-refused, join-done}
 use borrow.Author.Needs.{needs}

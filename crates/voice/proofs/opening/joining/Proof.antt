@@ -1,4 +1,4 @@
--- `voice::opening::joining` meets its contract. Assumes nothing.
+-- `voice::opening::joining` meets its contract.
 use borrow.Author.Tests.{eq-eqb, ne-eqb}
 use Rattle.voice.proofs.opening.joining.Statement.{statement}
 use Rattle.voice.proofs.opening.joining.Tie as tie

@@ -1,4 +1,4 @@
--- `voice::opening::open` meets its contract. Assumes nothing.
+-- `voice::opening::open` meets its contract.
 use Rattle.voice.specs.Opening.{openOf}
 use borrow.Author.Needs.{needs}
 use Rattle.voice.proofs.opening.open.Statement.{statement}

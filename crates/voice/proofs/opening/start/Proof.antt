@@ -1,4 +1,4 @@
--- `voice::opening::start` meets its contract. Assumes nothing.
+-- `voice::opening::start` meets its contract.
 use Rattle.voice.specs.Opening.{startOf}
 use borrow.Author.Needs.{needs}
 use Rattle.voice.proofs.opening.start.Statement.{statement}

@@ -1,4 +1,4 @@
--- `voice::slot::answer_to` meets its contract. Assumes nothing.
+-- `voice::slot::answer_to` meets its contract.
 use mathlib.Core.Path.{sym, ap, _∙_}
 use mathlib.Core.Bool.{not}
 use borrow.Author.Tests.{eq-eqb, ne-eqb, lt-ltb, le-ltb, not-true, not-false}

@@ -1,4 +1,4 @@
--- `voice::slot::going_on` meets its contract. Assumes nothing.
+-- `voice::slot::going_on` meets its contract.
 use borrow.Author.Tests.{eq-eqb, ne-eqb}
 use Rattle.voice.specs.Slot.{goingOn}
 use borrow.Author.Needs.{needs}

@@ -1,4 +1,4 @@
--- `voice::slot::is_zero_after` meets its contract. Assumes nothing.
+-- `voice::slot::is_zero_after` meets its contract.
 use mathlib.Core.Path.{sym}
 use mathlib.Core.Bool.{and-true}
 use borrow.Author.Tests.{eq-eqb, ne-eqb, le-leb, lt-leb}

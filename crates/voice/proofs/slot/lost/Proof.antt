@@ -1,4 +1,4 @@
--- `voice::slot::lost` meets its contract. Assumes nothing.
+-- `voice::slot::lost` meets its contract.
 use native.Mathlib.Omega.{arith}
 use Rattle.octets.proofs.TestLaws.{fails, holds}
 use Rattle.voice.specs.Slot.{lostRefusals, lostOf}

@@ -1,8 +1,8 @@
--- `voice::slot::receiver_on` meets its contract. Assumes nothing.
+-- `voice::slot::receiver_on` meets its contract.
 use mathlib.Core.Path.{sym}
 use native.Mathlib.Omega.{arith}
 use borrow.Author.Tests.{lt-ltb, le-ltb}
-use Rattle.ciphers.proofs.NumberLaws.{slots-at-most}
+use Rattle.sizes.proofs.SizeLaws.{slots-at-most}
 use Rattle.voice.specs.Slot.{received}
 use borrow.Author.Needs.{needs}
 use Rattle.voice.proofs.slot.receiver_on.Statement.{statement}

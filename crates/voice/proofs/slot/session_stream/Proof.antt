@@ -1,4 +1,4 @@
--- `voice::slot::session_stream` meets its contract. Assumes nothing.
+-- `voice::slot::session_stream` meets its contract.
 use mathlib.Core.Path.{_∙_}
 use borrow.Author.Tests.{not-true, not-false}
 use Rattle.octets.proofs.TestLaws.{fails, holds}

@@ -1,4 +1,4 @@
--- `voice::slot::slot_on` meets its contract. Assumes nothing.
+-- `voice::slot::slot_on` meets its contract.
 use mathlib.Core.Path.{sym, ap, _∙_}
 use Rattle.voice.specs.Call.{Standing, written}
 use Rattle.voice.specs.Slot.{slotOn}

@@ -1,4 +1,4 @@
--- `voice::slot::step` meets its contract. Assumes nothing.
+-- `voice::slot::step` meets its contract.
 use native.Mathlib.Omega.{arith}
 use Rattle.voice.proofs.SlotLaws.{none-good, none-open, taken-none, refused-call, taken-call}
 use borrow.Author.Needs.{needs}

@@ -1,9 +1,9 @@
--- `voice::slot::turn_slot` meets its contract. Assumes nothing.
+-- `voice::slot::turn_slot` meets its contract.
 use mathlib.Core.Path.{ap}
 use Prim.Native.Nat.{ℕ, _*_}
 use native.Mathlib.Omega.{arith}
-use Rattle.ciphers.proofs.NumberLaws.{slot-ranged}
-use Rattle.voice.specs.Frame.{slotBits}
+use Rattle.sizes.proofs.SizeLaws.{slot-ranged}
+use Rattle.sizes.specs.Frame.{slotBits}
 use Rattle.voice.proofs.SlotLaws.{by-slot}
 use borrow.Author.Needs.{needs}
 use Rattle.voice.proofs.slot.turn_slot.Statement.{statement}

@@ -1,4 +1,4 @@
--- `voice::slot::voice` meets its contract. Assumes nothing.
+-- `voice::slot::voice` meets its contract.
 use mathlib.Core.Path.{sym, _∙_}
 use Rattle.ciphers.specs.Keystream.{stream}
 use Rattle.voice.proofs.SlotLaws.{frame-stays, frame-turned, turned-long, turned-inside}

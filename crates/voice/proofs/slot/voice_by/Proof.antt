@@ -1,4 +1,4 @@
--- `voice::slot::voice_by` meets its contract. Assumes nothing.
+-- `voice::slot::voice_by` meets its contract.
 use mathlib.Core.Path.{sym, _∙_}
 use native.Mathlib.Omega.{arith}
 use Rattle.ciphers.specs.Keystream.{stream}

@@ -1,4 +1,4 @@
--- `voice::vector::is_awaiting` meets its contract. Assumes nothing.
+-- `voice::vector::is_awaiting` meets its contract.
 use mathlib.Core.Path.{sym}
 use borrow.Author.Tests.{eq-eqb, ne-eqb}
 use Rattle.voice.proofs.CallLaws.{is-receiver}

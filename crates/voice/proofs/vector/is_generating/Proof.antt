@@ -1,4 +1,4 @@
--- `voice::vector::is_generating` meets its contract. Assumes nothing.
+-- `voice::vector::is_generating` meets its contract.
 use mathlib.Core.Path.{sym}
 use Rattle.voice.proofs.CallLaws.{is-sender}
 use Rattle.voice.proofs.VectorLaws.{generates-not}

@@ -1,4 +1,4 @@
--- `voice::vector::next_vector` meets its contract. Assumes nothing.
+-- `voice::vector::next_vector` meets its contract.
 use mathlib.Core.Path.{sym, ap, _∙_}
 use mathlib.Core.Bool.{not}
 use borrow.Author.Tests.{eq-eqb, ne-eqb}

@@ -1,0 +1,3 @@
+pub mod LadderLaws
+pub mod BegunLaws
+pub mod ReadyLaws

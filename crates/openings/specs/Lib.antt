@@ -1,0 +1,2 @@
+pub mod Ladder
+pub mod Samples

@@ -1,4 +1,0 @@
-pub mod SessionLaws
-pub mod LadderLaws
-pub mod BegunLaws
-pub mod ReadyLaws

@@ -1,3 +1,0 @@
-pub mod Session
-pub mod Ladder
-pub mod Samples

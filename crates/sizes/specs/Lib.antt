@@ -1,0 +1,2 @@
+pub mod Ciphers
+pub mod Frame
