@@ -1,17 +1,13 @@
 -- Several refusals at once (document 01, "Answer numbers"): the one order in which they count, and the test that a list of refusals keeps to it.
 use Prim.Native.Nat.{ℕ}
 use mathlib.Core.Bool.{Bool, true, _&&_}
-use mathlib.Core.List.{List, [], _∷_}
+use mathlib.Core.List.{List, [], _∷_, _++_}
 use lib.Dec.{eqb}
 use Rattle.octets.specs.Tests.{pick}
 use Rattle.answers.specs.Numbers.{numberOf, isOneOf}
 use Rattle.answers.specs.Outcomes.{Refusals}
 
--- 2, then 3, 10, 4 for the call, 9, 4 for the book, 5, 11, 6, 13, 7, 12, 8, 14, each where the operation can give it
-abbrev pub refusalOrder : List ℕ
-refusalOrder = 2 ∷ 3 ∷ 10 ∷ 4 ∷ 9 ∷ 4 ∷ 5 ∷ 11 ∷ 6 ∷ 13 ∷ 7 ∷ 12 ∷ 8 ∷ 14 ∷ []
-
--- its parts: of what is given, of the call or packet, of the book, and of a vector of zeros
+-- the parts of the order: of what is given, of the call or packet, of the book, and of a vector of zeros
 abbrev pub ofGiven : List ℕ
 ofGiven = 2 ∷ 3 ∷ 10 ∷ []
 
@@ -23,6 +19,10 @@ ofBook = 4 ∷ 5 ∷ 11 ∷ 6 ∷ 13 ∷ 7 ∷ 12 ∷ []
 
 abbrev pub ofZeros : List ℕ
 ofZeros = 8 ∷ 14 ∷ []
+
+-- 2, then 3, 10, 4 for the call, 9, 4 for the book, 5, 11, 6, 13, 7, 12, 8, 14, each where the operation can give it
+abbrev pub refusalOrder : List ℕ
+refusalOrder = ofGiven ++ (ofCall ++ (ofBook ++ ofZeros))
 
 -- the numbers of a list of refusals
 abbrev pub numbersOf : Refusals → List ℕ

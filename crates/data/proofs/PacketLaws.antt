@@ -1,19 +1,19 @@
 -- The rules of a packet, as the code tests them, and its end.
 use mathlib.Core.Path.{_≡_, refl, sym}
 use mathlib.Core.Bool.{Bool, true, false, _||_, not}
-use Prim.Native.Nat.{ℕ, _≤_}
+use Prim.Native.Nat.{ℕ}
 use native.Mathlib.Omega.{arith}
 use lib.Dec.{eqb}
-use borrow.Author.Tests.{eqb-true, eqb-false, leb-true}
+use borrow.Author.Tests.{eqb-true, eqb-false}
 use Rattle.octets.specs.Lists.{allZero}
-use Rattle.octets.proofs.TestLaws.{every-at, or-left, or-right, not-so}
+use Rattle.octets.proofs.TestLaws.{every-at, or-left, not-so}
 use Rattle.answers.specs.declared.Answer.the-variants.{Done}
 use Rattle.answers.proofs.OutcomeLaws.{NoneHolds, none-settles, Refuses, answerAt, refused-at}
 use Rattle.sizes.specs.Ciphers.{scrambles}
 use Rattle.ciphers.specs.Keys.{keyRight}
 use Rattle.data.specs.declared.packet.Packet.{Packet}
 use Rattle.data.specs.Kinds.{isKind}
-use Rattle.data.specs.Packet.{mostMessages, closedTests, openTests, isClosed, isOpen, goodPacket, noPacket, endRefusals, endOf}
+use Rattle.data.specs.Packet.{closedTests, openTests, isClosed, isOpen, goodPacket, noPacket, endRefusals, endOf}
 use Rattle.data.proofs.KindLaws.{kind-range}
 
 module _ (p : Packet) where
@@ -35,10 +35,6 @@ module _ (p : Packet) where
     unfolding isOpen openTests
     open-key = every-at (openTests p) 1 o
 
-    pub open-count : p .count ≤ mostMessages
-    unfolding isOpen openTests
-    open-count = leb-true (p .count) mostMessages (every-at (openTests p) 2 o)
-
     pub open-vector : (not (scrambles (p .cipher)) || allZero (p .vector)) ≡ true
     unfolding isOpen openTests
     open-vector = every-at (openTests p) 3 o
@@ -56,10 +52,6 @@ module _ (p : Packet) where
     pub closed-by : p .kind ≡ 0 → isClosed p ≡ true
     unfolding goodPacket
     closed-by z = or-left (isClosed p) (isOpen p) good (λ e. open-some e z)
-
-    pub open-by : (p .kind ≡ 0 → ⊥) → isOpen p ≡ true
-    unfolding goodPacket
-    open-by n = or-right (isClosed p) (isOpen p) good (λ e. n (closed-kind e))
 
     pub kind-closed : eqb (p .kind) 0 ≡ isClosed p
     kind-closed = go (eqb (p .kind) 0) refl

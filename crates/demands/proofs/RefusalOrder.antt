@@ -1,14 +1,14 @@
 -- Every operation's refusals stand in the order in which document 01 has them count, whatever the device.
 use mathlib.Core.Path.{_≡_, refl}
 use mathlib.Core.Bool.{true, false, not}
-use mathlib.Core.List.{List, [], _∷_, _++_}
+use mathlib.Core.List.{List, [], _∷_}
 use Prim.Native.Nat.{ℕ}
 use lib.ListN.{length}
 use borrow.Author.Tests.{eq-eqb}
 use Rattle.answers.specs.declared.Answer.{Answer}
 use Rattle.answers.specs.declared.Answer.the-variants.{NotNow}
 use Rattle.answers.specs.Outcomes.{answered}
-use Rattle.answers.specs.Order.{refusalOrder, ofGiven, ofCall, ofBook, ofZeros, numbersOf, inOrder}
+use Rattle.answers.specs.Order.{refusalOrder, numbersOf, inOrder}
 use Rattle.keyentry.specs.Entry.{inRange, extendRefusals, completeRefusals}
 use Rattle.keybook.specs.Book.{bookOctets, bookRefusals}
 use Rattle.keybook.specs.Operations.{beginRefusals, addRefusals, finishRefusals, eraseRefusals, notReady, readyRefusals}
@@ -66,10 +66,6 @@ message-order d n octets = refl
 pub ready-in-order : (b : List ℕ) (c i : ℕ) → inOrder withoutCall (numbersOf (readyRefusals b c i)) ≡ true
 unfolding readyRefusals bookRefusals notReady
 ready-in-order b c i = refl
-
--- the parts of the order are all of it
-pub order-parts : refusalOrder ≡ ofGiven ++ (ofCall ++ (ofBook ++ ofZeros))
-order-parts = refl
 
 -- ---- the two 4s
 

@@ -3,13 +3,13 @@ use mathlib.Core.Path.{_≡_, refl, sym, ap, ap₂, _∙_}
 use mathlib.Core.Bool.{true}
 use mathlib.Core.List.{List, [], _∷_, _++_}
 use mathlib.Core.Logic.{⊎-elim}
-use Prim.Native.Nat.{ℕ, zero, suc, _+_, _-_, _≤_, _<_}
-use native.Mathlib.Nat.{le-of-lt, not-suc-le-zero, le-of-suc-le-suc, eq-or-lt-of-le, zero-add}
+use Prim.Native.Nat.{ℕ, zero, suc, _+_, _-_, _<_}
+use native.Mathlib.Nat.{not-suc-le-zero, le-of-suc-le-suc, eq-or-lt-of-le, zero-add}
 use native.Mathlib.Decide.{decLt}
 use native.Mathlib.Omega.{arith}
-use lib.ListN.{length, getD, take, length-append, replicate, length-replicate, getD-replicate, List·getD-append, List·getD-eq-default}
+use lib.ListN.{length, getD, length-append, replicate, length-replicate, getD-replicate, List·getD-append, List·getD-eq-default}
 use lib.Dec.{eqb}
-use lib.Seq.{take-suc, getD-at, getD-append-add, ext-getD}
+use lib.Seq.{getD-at, getD-append-add, ext-getD}
 use borrow.Author.Tests.{eqb-true}
 use Rattle.octets.specs.Lists.{tab, allZero, iterate}
 use Rattle.octets.proofs.Zeros.{zeros-at}
@@ -39,11 +39,6 @@ octets-tab f n h i = go (decLt i n)
     go : Dec (i < n) → getD (tab f n) i 0 < 256
     go (yes l) = rw (getD-tab f n i l) (h i l)
     go (no l) = rw (List·getD-eq-default (tab f n) 0 {n = i} (omega (arith, length-tab f n))) (omega arith)
-
-pub tab-take : (l : List ℕ) (n : ℕ) → n ≤ length l → tab (λ k. getD l k 0) n ≡ take n l
-unfolding tab
-tab-take l zero h = refl
-tab-take l (suc n) h = ap (λ (r : List ℕ). r ++ (getD l n 0 ∷ [])) (tab-take l n (le-of-lt h)) ∙ sym (take-suc l n 0 h)
 
 module _ (xs : List ℕ) (n : ℕ) where
   -- zeros after a list are no elements of it
