@@ -1,13 +1,14 @@
 -- What an operation answers is a number of document 01's table, settled by its refusals in their order; and a refusal leaves all as it was.
 use mathlib.Core.Path.{_≡_, refl, sym, ap, subst, _∙_}
-use mathlib.Core.Bool.{Bool, true, false, _&&_, true≢false}
+use mathlib.Core.Bool.{Bool, true, false, _&&_, _||_, true≢false}
 use mathlib.Core.Logic.{inl, inr}
-use mathlib.Core.List.{[], _∷_}
-use Prim.Native.Nat.{_<_}
+use mathlib.Core.List.{List, [], _∷_}
+use Prim.Native.Nat.{ℕ, zero, suc, _<_}
 use native.Mathlib.Omega.{arith}
+use lib.Dec.{leb, eqb}
+use borrow.Author.Tests.{eqb-true, leb-true}
 use Rattle.octets.proofs.TestLaws.{and-left, and-right}
 use Rattle.answers.specs.declared.Answer.{Answer}
-use Rattle.answers.specs.declared.Answer.the-variants.{Done, Held, WrongLength, OutOfRange, Bad, NoEntry, NotReady, NotAllowed, ZeroVector, NotNow, BadMask, Already, Full, TooMany, NextZero, Malformed}
 use Rattle.answers.specs.Numbers.{numberOf, isOneOf, operationNumbers}
 use Rattle.answers.specs.Outcomes.{Refusals, settled, answered}
 use Rattle.answers.specs.Order.{refusalOrder}
@@ -19,43 +20,29 @@ abbrev pub inTable : Refusals → Bool
 inTable [] = true
 inTable (r ∷ rs) = isOneOf (numberOf (r .1)) refusalOrder && inTable rs
 
+-- what is tested of each of a list holds of one of it
+abbrev allOf : (ℕ → Bool) → List ℕ → Bool
+allOf f [] = true
+allOf f (m ∷ ms) = f m && allOf f ms
+
+one-of : (f : ℕ → Bool) (n : ℕ) (ms : List ℕ) → allOf f ms ≡ true → isOneOf n ms ≡ true → f n ≡ true
+one-of f n [] t e = absurd (true≢false (sym e))
+one-of f n (m ∷ ms) t e = go (eqb n m) refl (one-of f n ms (and-right (f m) (allOf f ms) t)) e
+  where
+    go : (b : Bool) → eqb n m ≡ b → (isOneOf n ms ≡ true → f n ≡ true) → (b || isOneOf n ms) ≡ true → f n ≡ true
+    go true p later e = rw (eqb-true n m p) (and-left (f m) (allOf f ms) t)
+    go false p later e = later e
+
 -- an answer of the order of refusals is one that an operation can give, and it changes nothing
 of-table : (a : Answer) → isOneOf (numberOf a) refusalOrder ≡ true → (isOneOf (numberOf a) operationNumbers ≡ true) × Refusal a
-of-table Done e = absurd (true≢false (sym e))
-of-table Held e = absurd (true≢false (sym e))
-of-table WrongLength e = (refl, omega arith)
-of-table OutOfRange e = (refl, omega arith)
-of-table Bad e = (refl, omega arith)
-of-table NoEntry e = (refl, omega arith)
-of-table NotReady e = (refl, omega arith)
-of-table NotAllowed e = (refl, omega arith)
-of-table ZeroVector e = (refl, omega arith)
-of-table NotNow e = (refl, omega arith)
-of-table BadMask e = (refl, omega arith)
-of-table Already e = (refl, omega arith)
-of-table Full e = (refl, omega arith)
-of-table TooMany e = (refl, omega arith)
-of-table NextZero e = (refl, omega arith)
-of-table Malformed e = absurd (true≢false (sym e))
+of-table a e =
+    (one-of (λ n. isOneOf n operationNumbers) (numberOf a) refusalOrder refl e, leb-true 2 (numberOf a) (one-of (leb 2) (numberOf a) refusalOrder refl e))
 
 -- and so are 0 and 1
-under-two : (a : Answer) → numberOf a < 2 → isOneOf (numberOf a) operationNumbers ≡ true
-under-two Done l = refl
-under-two Held l = refl
-under-two WrongLength l = absurd (omega arith)
-under-two OutOfRange l = absurd (omega arith)
-under-two Bad l = absurd (omega arith)
-under-two NoEntry l = absurd (omega arith)
-under-two NotReady l = absurd (omega arith)
-under-two NotAllowed l = absurd (omega arith)
-under-two ZeroVector l = absurd (omega arith)
-under-two NotNow l = absurd (omega arith)
-under-two BadMask l = absurd (omega arith)
-under-two Already l = absurd (omega arith)
-under-two Full l = absurd (omega arith)
-under-two TooMany l = absurd (omega arith)
-under-two NextZero l = absurd (omega arith)
-under-two Malformed l = absurd (omega arith)
+under-two : (n : ℕ) → n < 2 → isOneOf n operationNumbers ≡ true
+under-two zero l = refl
+under-two (suc zero) l = refl
+under-two (suc (suc n)) l = absurd (omega arith)
 
 among-table : (a : Answer) (rs : Refusals) → inTable rs ≡ true → Among a rs → (isOneOf (numberOf a) operationNumbers ≡ true) × Refusal a
 among-table a (r ∷ rs) t (inl e) =
@@ -82,7 +69,7 @@ module _ {S : Type 0} where
       record {
         number =
             by-refusals (λ o. isOneOf (numberOf (o .0)) operationNumbers ≡ true) before rs last (λ a m. among-table a rs t m .0)
-            (λ n. under-two (last .0) l);
+            (λ n. under-two (numberOf (last .0)) l);
         answer = ap (λ (o : Answer × Unit {0}). o .0) (around (λ (x : S). tt {0}) before rs last);
         none-holds =
             by-refusals (λ o. numberOf (o .0) < 2 → NoneHolds rs) before rs last (λ a m h. absurd (omega (arith, among-table a rs t m .1))) (λ n h. n);
