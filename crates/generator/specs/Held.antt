@@ -1,4 +1,4 @@
--- The register (001, 5.3.2.2) as the code keeps it: a number whose bit i is stage i.
+-- The register (001, 5.3.2.2) as the code keeps it: a number whose bit i is stage i. Only the contracts of this crate's own functions cite it.
 use mathlib.Core.Path.{_≡_}
 use Prim.Native.Nat.{ℕ, _/_, _%_, _^_, _<_}
 

@@ -38,9 +38,9 @@ module _ (e : List ℕ) where
   pub rest-lent : {n : ℕ} {k : List ℕ} → n ≡ countIn e → k ≡ keyIn e → take (length k - n) (drop n k) ≡ keyRest e
   rest-lent {n} {k} p q = take-all (length k - n) (drop n k) (simp length-drop (le-refl (length k - n))) ∙ rw (p, q)
 
-  pub used-name : inRange (cipherIn e) (idIn e) ≡ false → false ≡ usedRight e
+  pub used-range : inRange (cipherIn e) (idIn e) ≡ false → false ≡ usedRight e
   unfolding usedRight
-  used-name h = rw h
+  used-range h = rw h
 
   module _ (h : inRange (cipherIn e) (idIn e) ≡ true) where
     pub used-count : keyOctets (cipherIn e) < countIn e → false ≡ usedRight e

@@ -16,7 +16,7 @@ use sizes::cipher::KEY_ROOM;
 use sizes::cipher::Scramble;
 use sizes::cipher::key_octets;
 
-// A later request puts a name after the key: an entry then has more octets, and the key keeps its place.
+// Only clear, and the rule that a free entry is all zero, look past KEY_END: an entry may be longer than its key.
 pub const ENTRY_OCTETS: usize = 36;
 
 pub const CIPHER: usize = 0;

@@ -6,7 +6,7 @@ use denote.Ref.{now}
 use Rattle.sizes.proofs.SizeLaws.{key-at-most}
 use Rattle.octets.proofs.TestLaws.{fails, holds}
 use Rattle.keyentry.specs.Entry.{cipherIn}
-use Rattle.keyentry.proofs.EntryLaws.{used-name, used-count, used-rest, used-ready}
+use Rattle.keyentry.proofs.EntryLaws.{used-range, used-count, used-rest, used-ready}
 use Rattle.keyentry.proofs.used_right.Statement.{statement}
 use Rattle.keyentry.proofs.used_right.Tie as tie
 
@@ -29,7 +29,7 @@ used-right-spec =
     (λ c. search needs)
     (λ c. search needs)
     (λ c κs. search needs)
-    (λ c. used-name _ (fails (c .before .in-range .ensures) (c .if1 .taken)))
+    (λ c. used-range _ (fails (c .before .in-range .ensures) (c .if1 .taken)))
     (λ c. search needs)
     (λ c κs. search needs)
     (λ c. search needs)
