@@ -77,6 +77,10 @@ module _ {S : Type 0} where
       go true e h = f (r .1) (inl refl)
       go false e h = h (λ n. g (e, n))
 
+  -- what holds before, and of what is left where no test holds, holds of what is left
+  pub leaves : (P : S → Type 0) (before : S) (rs : Refusals) (last : Answer × S) → P before → (NoneHolds rs → P (last .1)) → P (settled before rs last .1)
+  leaves P before rs last b = by-refusals (λ o. P (o .1)) before rs last (λ a m. b)
+
   -- what holds of each answer that is given, and of the last one, holds of the outcome's
   pub gives : (P : Answer → Type 0) (before : S) (rs : Refusals) (last : Answer × S) → Gives P rs → P (last .0) → P (settled before rs last .0)
   gives P before [] last g l = l

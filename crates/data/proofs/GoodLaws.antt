@@ -1,21 +1,21 @@
 -- A good packet stays good under every operation, and what open leaves is a good open packet.
 use mathlib.Core.Path.{_≡_, refl, ap, _∙_}
 use mathlib.Core.Bool.{Bool, true, false, _||_, not}
-use mathlib.Core.List.{List, [], _∷_}
+use mathlib.Core.List.{List}
 use Prim.Native.Nat.{ℕ, _+_, _≤_, _<_}
 use native.Mathlib.Omega.{arith}
 use borrow.Author.Tests.{le-leb}
 use Rattle.octets.specs.Tests.{allBelow}
 use Rattle.octets.specs.Lists.{allZero}
 use Rattle.answers.specs.declared.Answer.{Answer}
-use Rattle.answers.specs.declared.Answer.the-variants.{Done, ZeroVector}
+use Rattle.answers.specs.declared.Answer.the-variants.{Done}
 use Rattle.answers.specs.Numbers.{isDone}
-use Rattle.answers.specs.Outcomes.{Refusals, settled}
-use Rattle.answers.proofs.OutcomeLaws.{NoneHolds, neverDone, none-left, none-settles, by-refusals, done-none}
+use Rattle.answers.proofs.OutcomeLaws.{NoneHolds, neverDone, none-left, none-settles, leaves, done-none}
 use Rattle.sizes.specs.Ciphers.{scrambles}
-use Rattle.openings.specs.Ladder.{sessionVector, keyFor, keyRefusals, zeroFor, vectorRefusals}
+use Rattle.openings.specs.Ladder.{sessionVector, keyFor}
 use Rattle.ciphers.specs.Keys.{keyRight}
 use Rattle.sizes.proofs.SizeLaws.{no-vector-zero}
+use Rattle.openings.proofs.LadderLaws.{vector-never, vector-none}
 use Rattle.openings.proofs.ReadyLaws.{none-ranged, none-key}
 use Rattle.data.specs.declared.packet.Packet.{Packet}
 use Rattle.data.specs.Kinds.{isKind}
@@ -57,15 +57,15 @@ session-right c w = go (scrambles c) refl
 
 module _ (p : Packet) (kind c i : ℕ) (w b : List ℕ) where
   opened-open : NoneHolds (openRefusals p kind c i w b) → isOpen (newPacket kind c w (keyFor b c i)) ≡ true
-  unfolding openRefusals vectorRefusals
+  unfolding openRefusals
   opened-open n =
-      let m = none-left (keyRefusals (isKind kind) (not (goodPacket p)) (not (isClosed p)) c i b) ((zeroFor c w, ZeroVector) ∷ []) (n .1) in
+      let m = vector-none (isKind kind) (not (goodPacket p)) (not (isClosed p)) c i b w n in
       opens kind c (keyFor b c i) 0 (sessionVector c w) (none-ranged (isKind kind) (not (goodPacket p)) (not (isClosed p)) c i b m .0)
       (none-key (isKind kind) (not (goodPacket p)) (not (isClosed p)) c i b m) (omega arith) (session-right c w)
 
   open-never : neverDone (openRefusals p kind c i w b) ≡ true
-  unfolding openRefusals vectorRefusals keyRefusals
-  open-never = refl
+  unfolding openRefusals
+  open-never = vector-never (isKind kind) (not (goodPacket p)) (not (isClosed p)) c i b w
 
   -- done, it leaves the one packet before its first message, which is open and so good
   pub open-leaves : isDone (openOf p kind c i w b .0) ≡ true
@@ -78,20 +78,18 @@ module _ (p : Packet) (kind c i : ℕ) (w b : List ℕ) where
 
 -- ---- the operations
 
--- what is refused leaves a good packet; it is left to show that what is done leaves one
-kept : {S : Type 0} (f : S → Packet) (before : S) (rs : Refusals) (last : Answer × S) → goodPacket (f before) ≡ true
-    → (NoneHolds rs → goodPacket (f (last .1)) ≡ true) → goodPacket (f (settled before rs last .1)) ≡ true
-kept f before rs last good = by-refusals (λ o. goodPacket (f (o .1)) ≡ true) before rs last (λ a m. good)
-
 module _ (p : Packet) (good : goodPacket p ≡ true) where
+  abbrev Good : Packet → Type 0
+  Good q = goodPacket q ≡ true
+
   pub end-good : goodPacket (endOf p .1) ≡ true
   unfolding endOf
-  end-good = kept (λ q. q) p (endRefusals p) (Done, noPacket) good (λ n. closed-good)
+  end-good = leaves Good p (endRefusals p) (Done, noPacket) good (λ n. closed-good)
 
   pub open-good : (kind c i : ℕ) (w b : List ℕ) → goodPacket (openOf p kind c i w b .1) ≡ true
   unfolding openOf
   open-good kind c i w b =
-      kept (λ q. q) p (openRefusals p kind c i w b) (Done, newPacket kind c w (keyFor b c i)) good
+      leaves Good p (openRefusals p kind c i w b) (Done, newPacket kind c w (keyFor b c i)) good
       (λ n. open-is-good (newPacket kind c w (keyFor b c i)) (opened-open p kind c i w b n))
 
   on-good : NoneHolds (lostRefusals p) → goodPacket (counted p) ≡ true
@@ -99,10 +97,10 @@ module _ (p : Packet) (good : goodPacket p ≡ true) where
 
   pub lost-good : goodPacket (lostOf p .1) ≡ true
   unfolding lostOf
-  lost-good = kept (λ q. q) p (lostRefusals p) (Done, counted p) good on-good
+  lost-good = leaves Good p (lostRefusals p) (Done, counted p) good on-good
 
   pub message-good : (message : List ℕ) → goodPacket (messageOf p message .1 .0) ≡ true
   unfolding messageOf messageRefusals
   message-good message =
-      kept (λ (o : Packet × List ℕ). o .0) (p, message) (messageRefusals p message) (Done, (counted p, messageTurned p message)) good
+      leaves (λ (o : Packet × List ℕ). Good (o .0)) (p, message) (messageRefusals p message) (Done, (counted p, messageTurned p message)) good
       (λ n. on-good (none-left (lostRefusals p) _ n))

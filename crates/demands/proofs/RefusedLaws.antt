@@ -34,6 +34,7 @@ use Rattle.voice.proofs.SlotLaws.{by-voice, none-good, undone-stays}
 use Rattle.voice.proofs.Exactly.{done-exactly}
 use Rattle.data.specs.declared.packet.Packet.{Packet}
 use Rattle.data.specs.Kinds.{isKind, messageOctets}
+use Rattle.data.proofs.KindLaws.{kind-range}
 use Rattle.data.specs.Packet as packet
 use Rattle.data.specs.Opening as opening
 use Rattle.data.specs.Message as message
@@ -101,14 +102,13 @@ call-right b c (Announce w) n =
 call-right b c (NextVector out) n = (sized (length out) vectorOctets (n .0), good-by c (n .1 .0))
 
 packet-right : (b : List ℕ) (p : Packet) (o : PacketOperation) → NoneHolds (packetRefusals b p o) → RightPacket b p o
-unfolding opening.openRefusals ladder.vectorRefusals ladder.keyRefusals message.messageRefusals message.lostRefusals packet.endRefusals isKind
-packet-right b p (OpenPacket kind c i w) n =
-    let k = and-left (isKind kind) (inRange c i) (not-false (isKind kind && inRange c i) (n .1 .1 .0)) in (
-      keyed b c i (isKind kind) (n .1 .0) (n .1 .1 .0) (n .1 .1 .1 .1 .1 .0),
-      (leb-true 1 kind (and-left (leb 1 kind) (leb kind 4) k), leb-true kind 4 (and-right (leb 1 kind) (leb kind 4) k)),
-      vector-right c w (n .0) (n .1 .1 .1 .1 .1 .1 .1 .1 .0),
-      not-false (packet.goodPacket p) (n .1 .1 .1 .0),
-    )
+unfolding opening.openRefusals ladder.vectorRefusals ladder.keyRefusals message.messageRefusals message.lostRefusals packet.endRefusals
+packet-right b p (OpenPacket kind c i w) n = (
+  keyed b c i (isKind kind) (n .1 .0) (n .1 .1 .0) (n .1 .1 .1 .1 .1 .0),
+  kind-range kind (and-left (isKind kind) (inRange c i) (not-false (isKind kind && inRange c i) (n .1 .1 .0))),
+  vector-right c w (n .0) (n .1 .1 .1 .1 .1 .1 .1 .1 .0),
+  not-false (packet.goodPacket p) (n .1 .1 .1 .0),
+)
 packet-right b p (Message octets) n = (sized (length octets) (messageOctets (p .kind)) (n .1 .1 .0), not-false (packet.goodPacket p) (n .0))
 packet-right b p LostMessage n = not-false (packet.goodPacket p) (n .0)
 packet-right b p EndPacket n = not-false (packet.goodPacket p) (n .0)

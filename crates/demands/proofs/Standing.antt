@@ -4,22 +4,18 @@ use mathlib.Core.Bool.{Bool, true, false, _&&_, _||_, not, or-true, true≢false
 use mathlib.Core.List.{List}
 use Prim.Native.Nat.{ℕ, _+_, _*_, _≤_, _<_}
 use native.Mathlib.Omega.{arith}
-use lib.Dec.{leb}
 use lib.ListN.{length}
-use borrow.Author.Tests.{eq-eqb, eqb-true, le-ltb, lt-ltb, ltb-true, leb-true}
+use borrow.Author.Tests.{eq-eqb, le-ltb, lt-ltb}
+use Rattle.ciphers.proofs.KeyLaws as keys
 use Rattle.ciphers.proofs.KeystreamLaws.{stream-rest}
 use Rattle.sizes.proofs.Cases.{by-range}
 use Rattle.octets.specs.Tests.{pick}
 use Rattle.octets.specs.Lists.{allZero}
-use Rattle.octets.proofs.TestLaws.{and-left, and-right}
 use Rattle.answers.specs.declared.Answer.the-variants.{Done, Held}
 use Rattle.sizes.specs.Ciphers.{keyOctets, sessionSlots, noVector, scrambles}
 use Rattle.ciphers.specs.Keystream.{stream}
-use Rattle.keyentry.specs.Entry.{cipherIn, readyPlace, readyIn, inRange}
-use Rattle.keyentry.proofs.RightLaws.{used-of, free-zero, for-parts}
-use Rattle.keybook.specs.Book.{entries, findEntry}
-use Rattle.keybook.specs.Operations.{entryFor}
-use Rattle.keybook.proofs.GoodLaws.{good-sized, good-entry, found-for}
+use Rattle.keyentry.specs.Entry.{inRange}
+use Rattle.keybook.proofs.GoodLaws.{good-sized}
 use Rattle.voice.specs.declared.call.Call.{Call}
 use Rattle.voice.specs.Frame.{ofSlot, protect}
 use Rattle.openings.specs.Ladder.{sessionVector, keyFor, keyRefusals, zeroFor, vectorRefusals}
@@ -30,7 +26,7 @@ use Rattle.voice.specs.Slot.{received, lostRefusals, lostOf, voiceOf}
 use Rattle.voice.specs.Vector.{announceRefusals, announceOf}
 use Rattle.voice.proofs.FrameLaws.{protect-same}
 use Rattle.sizes.proofs.SizeLaws.{no-vector-zero}
-use Rattle.openings.proofs.ReadyLaws.{key-right}
+use Rattle.openings.proofs.ReadyLaws.{key-in-range, key-right}
 use Rattle.voice.proofs.GoodLaws.{closed-good, good-open, read-written, fresh-right}
 use Rattle.voice.proofs.SlotSteps.{voice-heard, voice-held}
 use Rattle.demands.specs.Talk.{Slot, SlotKept, VectorKept, HasKey}
@@ -39,29 +35,14 @@ use Rattle.demands.specs.Notices.{counts}
 -- ---- a book that has the key
 
 module _ (b : List ℕ) (c i : ℕ) (key : List ℕ) (h : HasKey b c i key) where
-  abbrev e : List ℕ
-  e = entryFor b c i
-
-  below : findEntry b c i < entries
-  below = ltb-true _ _ (h .there)
-
-  used : cipherIn e ≡ 0 → ⊥
-  used z =
-      let free : readyIn e ≡ 0 = free-zero e z (good-entry b (h .good) (findEntry b c i) below) readyPlace in
-      let ready : readyIn e ≡ 1 = eqb-true (readyIn e) 1 (h .ready) in
-      omega arith
-
   pub key-named : inRange c i ≡ true
-  key-named =
-      let f = for-parts e c i (found-for b c i below) in
-      rw (f .0, f .1) at (used-of e used (good-entry b (h .good) (findEntry b c i) below) .range)
-
-  pub key-ranged : (1 ≤ c) × (c ≤ 3)
-  unfolding inRange
-  key-ranged = (leb-true 1 c (and-left (leb 1 c) _ key-named), leb-true c 3 (and-left (leb c 3) _ (and-right (leb 1 c) _ key-named)))
+  key-named = key-in-range b c i (h .good) (h .there) (h .ready)
 
   pub has-key-right : keyRight c (keyFor b c i) ≡ true
-  has-key-right = key-right b c i (h .good) key-named (h .there) (h .ready)
+  has-key-right = key-right b c i (h .good) (h .there) (h .ready)
+
+  pub key-ranged : (1 ≤ c) × (c ≤ 3)
+  key-ranged = keys.key-ranged c (keyFor b c i) has-key-right
 
 -- ---- the sessions of a cipher
 

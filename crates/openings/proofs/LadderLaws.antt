@@ -10,7 +10,7 @@ use Rattle.answers.specs.declared.Answer.the-variants.{Done, ZeroVector}
 use Rattle.answers.specs.Numbers.{isDone}
 use Rattle.answers.specs.Outcomes.{Refusals, outcome}
 use Rattle.answers.specs.Order.{refusalOrder, numbersOf, inOrder}
-use Rattle.answers.proofs.OutcomeLaws.{NoneHolds, neverDone, none-first, none-settles, done-none, Refuses, answerAt, refused-at, first-decides}
+use Rattle.answers.proofs.OutcomeLaws.{NoneHolds, neverDone, none-left, none-first, none-settles, done-none, Refuses, answerAt, refused-at, first-decides}
 use Rattle.keyentry.specs.Entry.{inRange}
 use Rattle.keybook.specs.Book.{bookOctets, bookRefusals}
 use Rattle.keybook.specs.Operations.{noKey, notReady, readyRefusals, readyKeyOf}
@@ -90,3 +90,8 @@ module _ (ranged isBad busy : Bool) (c i : ℕ) (b : List ℕ) where
     pub vector-sized : NoneHolds askedWith → length w ≡ vectorOctets
     unfolding vectorRefusals
     vector-sized n = eqb-true _ _ (not-false _ (n .0))
+
+    -- what is not refused with the vector is not refused without it
+    pub vector-none : NoneHolds askedWith → NoneHolds asked
+    unfolding vectorRefusals
+    vector-none n = none-left asked ((zeroFor c w, ZeroVector) ∷ []) (n .1)

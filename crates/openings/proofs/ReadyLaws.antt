@@ -4,42 +4,46 @@ use mathlib.Core.Bool.{Bool, true, _&&_}
 use mathlib.Core.List.{List}
 use Prim.Native.Nat.{ℕ, _-_, _≤_, _<_}
 use native.Mathlib.Omega.{arith}
-use lib.Dec.{leb, eqb}
+use lib.Dec.{eqb}
 use lib.ListN.{length, getD, drop}
-use borrow.Author.Tests.{eqb-true, eq-eqb, leb-true, ltb-true, not-false}
+use borrow.Author.Tests.{eqb-true, eq-eqb, ltb-true, not-false}
 use Rattle.octets.specs.Lists.{allZero}
 use Rattle.octets.proofs.TestLaws.{and-left, and-right, all-intro}
 use Rattle.sizes.specs.Ciphers.{keyOctets}
 use Rattle.ciphers.specs.Keys.{keyAllowed, keyRight}
+use Rattle.ciphers.proofs.KeyLaws.{key-ranged}
 use Rattle.answers.specs.declared.Answer.the-variants.{Done}
-use Rattle.answers.proofs.OutcomeLaws.{NoneHolds, none-left, none-settles}
-use Rattle.keyentry.specs.Entry.{cipherIn, countIn, readyIn, isReady, keyIn, keyRest, inRange, lacks, readyRight}
-use Rattle.keyentry.proofs.RightLaws.{zero-at, Used, used-of, for-parts}
+use Rattle.answers.proofs.OutcomeLaws.{NoneHolds, none-settles}
+use Rattle.keyentry.specs.Entry.{cipherIn, idIn, countIn, readyPlace, readyIn, isReady, keyIn, keyRest, inRange, lacks, readyRight, entryRight}
+use Rattle.keyentry.proofs.RightLaws.{zero-at, Used, used-of, free-zero, for-parts}
 use Rattle.keybook.specs.Book.{entries, findEntry, goodBook}
 use Rattle.keybook.specs.Operations.{hasEntry, entryFor, noKey, readyKeyOf}
 use Rattle.keybook.proofs.GoodLaws.{good-entry, found-for}
 use Rattle.openings.specs.Ladder.{keyFor, keyRefusals, keyOf, vectorRefusals}
-use Rattle.openings.proofs.LadderLaws.{key-ready}
-
-in-range-some : (c i : ℕ) → inRange c i ≡ true → (1 ≤ c) × (c ≤ 3)
-unfolding inRange
-in-range-some c i e = (leb-true 1 c (and-left (leb 1 c) _ e), leb-true c 3 (and-left (leb c 3) _ (and-right (leb 1 c) _ e)))
+use Rattle.openings.proofs.LadderLaws.{key-ready, vector-none}
 
 lacks-none : (a b n : ℕ) → b ≡ n → b - a ≡ 0 → a ≤ b → a ≡ n
 lacks-none a b n e z l = omega arith
 
-module _ (b : List ℕ) (c i : ℕ) (good : goodBook b ≡ true) (ranged : inRange c i ≡ true) (there : hasEntry b c i ≡ true) (ready : isReady (entryFor b c i) ≡ true) where
+module _ (b : List ℕ) (c i : ℕ) (good : goodBook b ≡ true) (there : hasEntry b c i ≡ true) (ready : isReady (entryFor b c i) ≡ true) where
   abbrev e : List ℕ
   e = entryFor b c i
 
   below : findEntry b c i < entries
   below = ltb-true _ _ there
 
-  is-cipher : cipherIn e ≡ c
-  is-cipher = for-parts e c i (found-for b c i below) .0
+  right : entryRight e ≡ true
+  right = good-entry b good (findEntry b c i) below
+
+  is-its : (cipherIn e ≡ c) × (idIn e ≡ i)
+  is-its = for-parts e c i (found-for b c i below)
 
   used : Used e
-  used = used-of e (λ z. let q = is-cipher in omega (arith, in-range-some c i ranged)) (good-entry b good (findEntry b c i) below)
+  used = used-of e (λ z. let free : readyIn e ≡ 0 = free-zero e z right readyPlace in omega (arith, eqb-true (readyIn e) 1 ready)) right
+
+  -- its cipher and key ID are in range
+  pub key-in-range : inRange c i ≡ true
+  key-in-range = rw (is-its .0, is-its .1) at (used .range)
 
   -- it has its full, allowed key
   full : (eqb (lacks e) 0 && keyAllowed (cipherIn e) (keyIn e)) ≡ true
@@ -47,12 +51,12 @@ module _ (b : List ℕ) (c i : ℕ) (good : goodBook b ≡ true) (ranged : inRan
   full = rw (eqb-true (readyIn e) 1 ready) at (used .ready)
 
   allowed : keyAllowed c (keyIn e) ≡ true
-  allowed = rw is-cipher at (and-right (eqb (lacks e) 0) _ full)
+  allowed = rw (is-its .0) at (and-right (eqb (lacks e) 0) _ full)
 
   whole : countIn e ≡ keyOctets c
   unfolding lacks
   whole =
-      lacks-none (countIn e) (keyOctets (cipherIn e)) (keyOctets c) (ap keyOctets is-cipher)
+      lacks-none (countIn e) (keyOctets (cipherIn e)) (keyOctets c) (ap keyOctets (is-its .0))
       (eqb-true (lacks e) 0 (and-left (eqb (lacks e) 0) _ full)) (used .count)
 
   rest-zero : (j : ℕ) → getD (drop (keyOctets c) (keyIn e)) j 0 ≡ 0
@@ -71,22 +75,20 @@ module _ (ranged bad busy : Bool) (c i : ℕ) (b : List ℕ) (n : NoneHolds (key
   unfolding keyRefusals
   none-ranged = let q = not-false (ranged && inRange c i) (n .1 .0) in (and-left ranged (inRange c i) q, and-right ranged (inRange c i) q)
 
-  pub none-named : (1 ≤ c) × (c ≤ 3)
-  none-named = in-range-some c i (none-ranged .1)
-
   pub none-key : keyRight c (keyFor b c i) ≡ true
   unfolding keyRefusals
-  none-key = key-right b c i (not-false _ (n .1 .1 .1 .1 .0)) (none-ranged .1) (not-false _ (n .1 .1 .1 .1 .1 .0)) (not-false _ (n .1 .1 .1 .1 .1 .1 .0))
+  none-key = key-right b c i (not-false _ (n .1 .1 .1 .1 .0)) (not-false _ (n .1 .1 .1 .1 .1 .0)) (not-false _ (n .1 .1 .1 .1 .1 .1 .0))
 
--- where nothing refuses the key, the book hands it out
-module _ (ranged bad busy : Bool) (c i : ℕ) (b : List ℕ) where
-  pub none-ready : NoneHolds (keyRefusals ranged bad busy c i b) → readyKeyOf b c i ≡ (Done, keyFor b c i)
+  pub none-named : (1 ≤ c) × (c ≤ 3)
+  none-named = key-ranged c (keyFor b c i) none-key
+
+  -- and the book hands the key out
+  pub none-ready : readyKeyOf b c i ≡ (Done, keyFor b c i)
   unfolding keyRefusals keyOf
-  none-ready n =
-      let q = none-ranged ranged bad busy c i b n in
-      key-ready ranged bad busy c i b (eqb-true _ _ (not-false _ (n .0))) (q .0) (q .1) (n .1 .1 .0) (n .1 .1 .1 .0)
+  none-ready =
+      key-ready ranged bad busy c i b (eqb-true _ _ (not-false _ (n .0))) (none-ranged .0) (none-ranged .1) (n .1 .1 .0) (n .1 .1 .1 .0)
       ∙ none-settles (keyRefusals ranged bad busy c i b) noKey (Done, keyFor b c i) n
 
-  pub none-ready-vector : (w : List ℕ) → NoneHolds (vectorRefusals ranged bad busy c i w b) → readyKeyOf b c i ≡ (Done, keyFor b c i)
-  unfolding vectorRefusals
-  none-ready-vector w n = none-ready (none-left (keyRefusals ranged bad busy c i b) _ (n .1))
+pub none-ready-vector : (ranged bad busy : Bool) (c i : ℕ) (b w : List ℕ) → NoneHolds (vectorRefusals ranged bad busy c i w b)
+    → readyKeyOf b c i ≡ (Done, keyFor b c i)
+none-ready-vector ranged bad busy c i b w n = none-ready ranged bad busy c i b (vector-none ranged bad busy c i b w n)

@@ -19,10 +19,6 @@ use Rattle.sizes.specs.Ciphers.{vectorOctets, noVector, scrambles}
 abbrev pub keyFor : List ℕ → ℕ → ℕ → List ℕ
 keyFor b c i = keyIn (entryFor b c i)
 
--- a refusal leaves no key
-abbrev pub withoutKey : Answer → Answer × List ℕ
-withoutKey a = (a, noKey)
-
 -- 2 book length, 3, 4 of what is opened, 9, 4 of the book, 5, 6
 unfoldable pub keyRefusals : Bool → Bool → Bool → ℕ → ℕ → List ℕ → Refusals
 keyRefusals ranged isBad busy c i b =

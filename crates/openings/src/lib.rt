@@ -2,7 +2,8 @@
 ghost use mathlib.Core.Path.{_≡_};
 ghost use lib.ListN.{length};
 ghost use Rattle.sizes.specs.Ciphers.{vectorOctets};
-ghost use Rattle.openings.specs.Ladder.{withoutKey, keyOf, sessionVector, zeroFor, vectorKeyOf};
+ghost use Rattle.keybook.specs.Operations.{noKey};
+ghost use Rattle.openings.specs.Ladder.{keyOf, sessionVector, zeroFor, vectorKeyOf};
 use answers::Answer;
 use keybook::BOOK_OCTETS;
 use keybook::Ready;
@@ -15,7 +16,7 @@ use sizes::cipher::Scramble;
 use sizes::cipher::VECTOR_OCTETS;
 
 fn refused(answer: Answer) -> Ready
-    ensures { λ r. ⌜ (r .answer, r .key) ≡ withoutKey answer ⌝ }
+    ensures { λ r. ⌜ (r .answer ≡ answer) × (r .key ≡ noKey) ⌝ }
 {
     Ready {
         answer,

@@ -26,13 +26,13 @@ opening-key-spec =
     tie.close
     (tie.spec
     (λ c κs. search needs)
-    (λ c. c .refused .ensures ∙ key-refused _ _ _ _ _ _ 0 (ap not (ne-eqb _ _ (c .before .if1 .taken))))
+    (λ c. rw (c .refused .ensures .0, c .refused .ensures .1) (key-refused _ _ _ _ _ _ 0 (ap not (ne-eqb _ _ (c .before .if1 .taken)))))
     (λ c κs. search needs)
     (λ c κs. search needs)
-    (λ c. c .refused2 .ensures ∙ key-refused _ _ _ _ _ _ 1 (ap not (eq-eqb _ _ (c .before .before .if1 .left)), out-of-range (c .before .before .before .before .args .ranged) (inRange (c .before .before .before .before .args .cipher) (c .before .before .before .before .args .id)) (⊎-elim (λ t. inl (t .taken)) (λ t. inr (fails (t .1 .ensures) (t .2 .taken))) (c .before .if2 .came))))
+    (λ c. rw (c .refused2 .ensures .0, c .refused2 .ensures .1) (key-refused _ _ _ _ _ _ 1 (ap not (eq-eqb _ _ (c .before .before .if1 .left)), out-of-range (c .before .before .before .before .args .ranged) (inRange (c .before .before .before .before .args .cipher) (c .before .before .before .before .args .id)) (⊎-elim (λ t. inl (t .taken)) (λ t. inr (fails (t .1 .ensures) (t .2 .taken))) (c .before .if2 .came)))))
     (λ c κs. search needs)
-    (λ c. c .refused3 .ensures ∙ key-refused _ _ _ _ _ _ 2 (ap not (eq-eqb _ _ (c .before .before .before .before .before .if1 .left)), (in-range (c .before .before .before .before .before .before .before .args .ranged) (c .before .before .before .before .if2 .left) (c .before .before .before .in-range .ensures) (c .before .before .if3 .left), c .before .if4 .taken)))
+    (λ c. rw (c .refused3 .ensures .0, c .refused3 .ensures .1) (key-refused _ _ _ _ _ _ 2 (ap not (eq-eqb _ _ (c .before .before .before .before .before .if1 .left)), (in-range (c .before .before .before .before .before .before .before .args .ranged) (c .before .before .before .before .if2 .left) (c .before .before .before .in-range .ensures) (c .before .before .if3 .left), c .before .if4 .taken))))
     (λ c κs. search needs)
-    (λ c. c .refused4 .ensures ∙ key-refused _ _ _ _ _ _ 3 (ap not (eq-eqb _ _ (c .before .before .before .before .before .before .if1 .left)), (in-range (c .before .before .before .before .before .before .before .before .args .ranged) (c .before .before .before .before .before .if2 .left) (c .before .before .before .before .in-range .ensures) (c .before .before .before .if3 .left), (c .before .before .if4 .left, c .before .if5 .taken))))
+    (λ c. rw (c .refused4 .ensures .0, c .refused4 .ensures .1) (key-refused _ _ _ _ _ _ 3 (ap not (eq-eqb _ _ (c .before .before .before .before .before .before .if1 .left)), (in-range (c .before .before .before .before .before .before .before .before .args .ranged) (c .before .before .before .before .before .if2 .left) (c .before .before .before .before .in-range .ensures) (c .before .before .before .if3 .left), (c .before .before .if4 .left, c .before .if5 .taken)))))
     (λ c κs. search needs)
     (λ c. c .ready-key .ensures ∙ key-ready _ _ _ _ _ _ (c .before .before .before .before .before .before .if1 .left) (not-false _ (c .before .before .before .before .before .if2 .left)) (holds (c .before .before .before .before .in-range .ensures) (c .before .before .before .if3 .left)) (c .before .before .if4 .left) (c .before .if5 .left)))

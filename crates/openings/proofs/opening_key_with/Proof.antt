@@ -13,11 +13,11 @@ opening-key-with-spec =
     tie.close
     (tie.spec
     (λ c κs. search needs)
-    (λ c. c .refused .ensures ∙ vector-length _ _ _ _ _ _ _ (c .before .if1 .taken))
+    (λ c. rw (c .refused .ensures .0, c .refused .ensures .1) (vector-length _ _ _ _ _ _ _ (c .before .if1 .taken)))
     (λ c κs. search needs)
     (λ c κs. search needs)
     (λ c. vector-key-refused _ _ _ _ _ _ _ (c .before .before .before .if1 .left) (c .before .before .opening-key .ensures) (not-done (c .before .before .opening-key .result .answer) (c .before .number .ensures) (c .if2 .taken)))
     (λ c κs. search needs)
     (λ c κs. search needs)
-    (λ c. c .refused2 .ensures ∙ vector-zero _ _ _ _ _ _ _ (c .before .before .before .before .before .before .if1 .left) (key-none _ _ _ _ _ _ (c .before .before .before .before .before .opening-key .ensures) (is-done (c .before .before .before .before .before .opening-key .result .answer) (c .before .before .before .before .number .ensures) (c .before .before .before .if2 .left))) (sym (c .before .before .is-zero-for .ensures) ∙ c .before .if3 .taken))
+    (λ c. rw (c .refused2 .ensures .0, c .refused2 .ensures .1) (vector-zero _ _ _ _ _ _ _ (c .before .before .before .before .before .before .if1 .left) (key-none _ _ _ _ _ _ (c .before .before .before .before .before .opening-key .ensures) (is-done (c .before .before .before .before .before .opening-key .result .answer) (c .before .before .before .before .number .ensures) (c .before .before .before .if2 .left))) (sym (c .before .before .is-zero-for .ensures) ∙ c .before .if3 .taken)))
     (λ c. vector-ready _ _ _ _ _ _ _ (c .before .before .before .before .before .if1 .left) (c .before .before .before .before .opening-key .ensures) (key-none _ _ _ _ _ _ (c .before .before .before .before .opening-key .ensures) (is-done (c .before .before .before .before .opening-key .result .answer) (c .before .before .before .number .ensures) (c .before .before .if2 .left))) (sym (c .before .is-zero-for .ensures) ∙ c .if3 .left)))

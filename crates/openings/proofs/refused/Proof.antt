@@ -9,4 +9,4 @@ unfolding noKey
 refused-spec =
     tie.close
     (tie.spec
-    (λ c. refl))
+    (λ c. (refl, refl)))
