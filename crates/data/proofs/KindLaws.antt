@@ -4,25 +4,9 @@ use mathlib.Core.Bool.{true}
 use Prim.Native.Nat.{ℕ, zero, suc, _+_, _≤_}
 use native.Mathlib.Omega.{arith}
 use lib.Dec.{leb}
-use borrow.Author.Tests.{ne-eqb, leb-true}
+use borrow.Author.Tests.{leb-true}
 use Rattle.octets.proofs.TestLaws.{and-left, and-right}
-use Rattle.data.specs.Kinds.{byKind, isKind, messageOctets, headOctets, protectedOctets}
-
-module _ (kind dcall inbound outbound facch none : ℕ) where
-  pub of-dcall : kind ≡ 1 → dcall ≡ byKind kind dcall inbound outbound facch none
-  of-dcall e = rw e
-
-  pub of-inbound : kind ≡ 2 → inbound ≡ byKind kind dcall inbound outbound facch none
-  of-inbound e = rw e
-
-  pub of-outbound : kind ≡ 3 → outbound ≡ byKind kind dcall inbound outbound facch none
-  of-outbound e = rw e
-
-  pub of-facch : kind ≡ 4 → facch ≡ byKind kind dcall inbound outbound facch none
-  of-facch e = rw e
-
-  pub of-none : (kind ≡ 1 → ⊥) → (kind ≡ 2 → ⊥) → (kind ≡ 3 → ⊥) → (kind ≡ 4 → ⊥) → none ≡ byKind kind dcall inbound outbound facch none
-  of-none a b c d = rw (ne-eqb _ _ a, ne-eqb _ _ b, ne-eqb _ _ c, ne-eqb _ _ d)
+use Rattle.data.specs.Kinds.{isKind, messageOctets, headOctets, protectedOctets}
 
 pub kind-range : (k : ℕ) → isKind k ≡ true → (1 ≤ k) × (k ≤ 4)
 unfolding isKind

@@ -1,6 +1,6 @@
 // The message kinds and the numbers that belong to each.
 ghost use mathlib.Core.Path.{_≡_};
-ghost use Rattle.data.specs.Kinds.{isKind, messageOctets, protectedOctets};
+ghost use Rattle.data.specs.Kinds.{byKind, isKind, messageOctets, protectedOctets};
 
 pub const DCALL: u8 = 1;
 
@@ -25,26 +25,27 @@ pub fn is_kind(kind: u8) -> bool
     kind <= FACCH1
 }
 
+// What belongs to a kind, or 0 where there is no such kind.
+fn by_kind(kind: u8, dcall: usize, inbound: usize, outbound: usize, facch1: usize) -> usize
+    ensures { λ r. ⌜ r ≡ byKind kind dcall inbound outbound facch1 ⌝ }
+{
+    match kind {
+        DCALL => dcall,
+        SDCALL_INBOUND => inbound,
+        SDCALL_OUTBOUND => outbound,
+        FACCH1 => facch1,
+        _ => 0,
+    }
+}
+
 pub fn message_octets(kind: u8) -> usize
     ensures { λ r. ⌜ r ≡ messageOctets kind ⌝ }
 {
-    match kind {
-        DCALL => 22,
-        SDCALL_INBOUND => 16,
-        SDCALL_OUTBOUND => 18,
-        FACCH1 => 10,
-        _ => 0,
-    }
+    by_kind(kind, 22, 16, 18, 10)
 }
 
 pub fn protected_octets(kind: u8) -> usize
     ensures { λ r. ⌜ r ≡ protectedOctets kind ⌝ }
 {
-    match kind {
-        DCALL => MOST_PROTECTED,
-        SDCALL_INBOUND => 14,
-        SDCALL_OUTBOUND => 14,
-        FACCH1 => 8,
-        _ => 0,
-    }
+    by_kind(kind, MOST_PROTECTED, 14, 14, 8)
 }

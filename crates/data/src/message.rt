@@ -20,19 +20,12 @@ use ciphers::keystream::keystream;
 use octets::turn;
 
 // The packet one message on.
-fn count_on(packet: Packet) -> Packet
+fn count_on(mut packet: Packet) -> Packet
     requires { ⌜ packet .count < mostMessages ⌝ }
     ensures { λ r. ⌜ r ≡ counted packet ⌝ }
 {
-    let key = packet.key;
-    let vector = packet.vector;
-    Packet {
-        kind: packet.kind,
-        cipher: packet.cipher,
-        key,
-        count: packet.count + 1,
-        vector,
-    }
+    packet.count += 1;
+    packet
 }
 
 // ---- a lost message

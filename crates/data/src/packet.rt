@@ -82,7 +82,7 @@ pub fn good_packet(packet: Packet) -> bool
 
 // ---- its end
 
-fn no_packet() -> Packet
+pub fn no_packet() -> Packet
     ensures { λ r. ⌜ r ≡ noPacket ⌝ }
 {
     Packet {
