@@ -6,3 +6,4 @@ pub mod Front
 pub mod Windows
 pub mod Turning
 pub mod Parts
+pub mod Words

@@ -92,6 +92,12 @@ turned-twice w ks part o =
     once : List ℕ
     once = turned w ks part
 
+-- and so is turning no bits
+pub turned-none : (ks : ℕ → ℕ) (part : List ℕ) → Octets part → turned 0 ks part ≡ part
+turned-none ks part o =
+    octets-ext (turned 0 ks part) part (octets-turned 0 ks part) o (length-turned 0 ks part)
+    (λ k h. turned-stays 0 ks part k (omega (arith, length-turned 0 ks part)) (omega arith))
+
 -- by a stream's octets
 module _ (w from : ℕ) (xs part : List ℕ) (os : Octets xs) (op : Octets part) where
   abbrev key : ℕ → ℕ

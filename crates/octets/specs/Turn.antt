@@ -1,5 +1,4 @@
--- Turning: the first bits of a part, turned over by the bits of a keystream. A message is turned so. A voice frame is written out bit by bit over
--- the same `flip` (voice's `protect`), and in the code each of its words is turned so.
+-- Turning: the first bits of a part, turned over by the bits of a keystream. So are turned a message and each word of a voice frame.
 use mathlib.Core.List.{List}
 use Prim.Native.Nat.{ℕ}
 use lib.Dec.{ltb}
