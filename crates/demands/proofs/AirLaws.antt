@@ -1,14 +1,16 @@
 -- What a sender that keeps the rules puts on the air opens, word by word, to what was spoken; and a protected frame keeps the rules.
 use mathlib.Core.Path.{_≡_, sym, ap, _∙_}
 use mathlib.Core.Bool.{true}
+use mathlib.Core.Logic.{inl}
 use mathlib.Core.List.{List}
 use Prim.Native.Nat.{ℕ, _+_, _*_, _≤_, _<_}
 use native.Mathlib.Decide.{decLt}
 use native.Mathlib.Omega.{arith}
+use lib.ListN.{length}
 use Rattle.octets.specs.Bits.{bit, flip}
 use Rattle.octets.proofs.BitLaws.{bit-lt, flip-flip}
 use Rattle.voice.specs.Frame.{word, inMask, ofSlot, protect}
-use Rattle.voice.proofs.FrameLaws.{protect-bit, protect-frame, protect-stays, word-bit, word-ext, keyBit-spare, keyBit-speech}
+use Rattle.voice.proofs.FrameLaws.{protect-frame, word-bit, word-ext, speech-bit, other-bit}
 use Rattle.demands.specs.Talk.{Slot, OnAir, SlotKept}
 
 pub word-bits : (w : ℕ) (f g : List ℕ) → word w f ≡ word w g → (j : ℕ) → j < 56 → bit f (56 * w + j) ≡ bit g (56 * w + j)
@@ -21,33 +23,33 @@ module _ (ks : ℕ → ℕ) (p : ℕ) (x : Slot) where
   abbrev slot : ℕ → ℕ
   slot = ofSlot ks p
 
-  module _ (w : ℕ) (hw : w < 4) (m : inMask (x .mask) w ≡ true) (frame : List ℕ) where
+  module _ (w : ℕ) (hw : w < 4) (m : inMask (x .mask) w ≡ true) (frame : List ℕ) (long : length frame ≡ 28) where
     -- a speech bit of a word in the mask is turned by its own bit of the session
     turned : (j : ℕ) → j < 49 → bit (protect slot (x .mask) frame) (56 * w + j) ≡ flip (bit frame (56 * w + j)) (ks (196 * p + 49 * w + j))
     turned j l =
-        protect-bit slot (x .mask) frame (56 * w + j) (omega arith)
-        ∙ ap (flip (bit frame (56 * w + j))) (keyBit-speech slot (x .mask) w j l m ∙ ap ks (sym (sum (196 * p) (49 * w) j)))
+        speech-bit slot (x .mask) frame long w hw j (omega arith) l m
+        ∙ ap (λ (n : ℕ). flip (bit frame (56 * w + j)) (ks n)) (sym (sum (196 * p) (49 * w) j))
 
     -- and a spare one is not
     spare : (j : ℕ) → 49 ≤ j → j < 56 → bit (protect slot (x .mask) frame) (56 * w + j) ≡ bit frame (56 * w + j)
-    spare j l h = protect-stays slot (x .mask) frame (56 * w + j) (omega arith) (keyBit-spare slot (x .mask) (56 * w + j) (omega arith))
+    spare j l h = other-bit slot (x .mask) frame long w hw j h (inl l)
 
   pub opened-word : SlotKept ks p x → (w : ℕ) → w < 4 → inMask (x .mask) w ≡ true → word w (protect slot (x .mask) (x .sent)) ≡ word w (x .spoken)
   opened-word s w hw m =
-      word-ext w hw (protect slot (x .mask) (x .sent)) (x .spoken) (protect-frame slot (x .mask) (x .sent)) (s .spoken) (λ j h. go j h (decLt j 49))
+      word-ext w hw (protect slot (x .mask) (x .sent)) (x .spoken) (protect-frame slot (x .mask) (x .sent) (s .sent .long)) (s .spoken) (λ j h. go j h (decLt j 49))
     where
       go : (j : ℕ) → j < 56 → Dec (j < 49) → bit (protect slot (x .mask) (x .sent)) (56 * w + j) ≡ bit (x .spoken) (56 * w + j)
       go j h (yes l) =
-          turned w hw m (x .sent) j l
+          turned w hw m (x .sent) (s .sent .long) j l
           ∙ ap (λ (n : ℕ). flip n (ks (196 * p + 49 * w + j))) (s .air .speech w j hw l m)
           ∙ flip-flip (bit (x .spoken) (56 * w + j)) (ks (196 * p + 49 * w + j)) (bit-lt (x .spoken) (56 * w + j))
-      go j h (no l) = spare w hw m (x .sent) j (omega arith) h ∙ s .air .spare w j hw (omega arith) h m
+      go j h (no l) = spare w hw m (x .sent) (s .sent .long) j (omega arith) h ∙ s .air .spare w j hw (omega arith) h m
 
-  pub protected-air : x .sent ≡ protect slot (x .mask) (x .spoken) → OnAir ks p x
-  protected-air e =
+  pub protected-air : length (x .spoken) ≡ 28 → x .sent ≡ protect slot (x .mask) (x .spoken) → OnAir ks p x
+  protected-air l e =
       record {
-        speech = λ w j hw hj m. at (56 * w + j) ∙ turned w hw m (x .spoken) j hj;
-        spare = λ w j hw lj hj m. at (56 * w + j) ∙ spare w hw m (x .spoken) j lj hj;
+        speech = λ w j hw hj m. at (56 * w + j) ∙ turned w hw m (x .spoken) l j hj;
+        spare = λ w j hw lj hj m. at (56 * w + j) ∙ spare w hw m (x .spoken) l j lj hj;
       }
     where
       at : (k : ℕ) → bit (x .sent) k ≡ bit (protect slot (x .mask) (x .spoken)) k

@@ -6,7 +6,7 @@ use mathlib.Core.List.{List, [], _∷_, _++_, map}
 use Prim.Native.Nat.{ℕ, zero, suc, _+_, _*_, _^_, _≤_, _<_}
 use native.Mathlib.Nat.{zero-div}
 use native.Mathlib.Omega.{arith}
-use lib.ListN.{getD, replicate}
+use lib.ListN.{length, getD, replicate}
 use Rattle.sizes.specs.Ciphers.{noVector, scrambles}
 use Rattle.openings.specs.Samples.{seed}
 use Rattle.octets.specs.Tests.{allBelow}
@@ -90,13 +90,13 @@ ks = stream 1 key0001 noVector
 abbrev gaveWay : ℕ → List ℕ → ℕ → Slot
 gaveWay mask frame p = record { mask = mask; spoken = silence; sent = turning ks p mask frame; arrived = true }
 
-gave-way-kept : (mask : ℕ) (frame : List ℕ) → mask ≤ 15 → ((w : ℕ) → w < 4 → inMask mask w ≡ true → word w frame ≡ word w silence)
+gave-way-kept : (mask : ℕ) (frame : List ℕ) → length frame ≡ 28 → mask ≤ 15 → ((w : ℕ) → w < 4 → inMask mask w ≡ true → word w frame ≡ word w silence)
     → (p : ℕ) → SlotKept ks p (gaveWay mask frame p)
-gave-way-kept mask frame m same p =
+gave-way-kept mask frame l m same p =
     record {
       mask = m;
       spoken = silence-frame;
-      sent = protect-frame (λ n. ks (196 * p + n)) mask frame;
+      sent = protect-frame (λ n. ks (196 * p + n)) mask frame l;
       air = record {
         speech = λ w j lw lj h. air .speech w j lw lj h ∙ ap (λ (a : ℕ). flip a (ks (196 * p + 49 * w + j))) (word-bits w frame silence (same w lw h) j (omega arith));
         spare = λ w j lw l lj h. air .spare w j lw l lj h ∙ word-bits w frame silence (same w lw h) j lj;
@@ -104,14 +104,14 @@ gave-way-kept mask frame m same p =
     }
   where
     air : OnAir ks p (record { mask = mask; spoken = frame; sent = turning ks p mask frame; arrived = true })
-    air = protected-air ks p (record { mask = mask; spoken = frame; sent = turning ks p mask frame; arrived = true }) refl
+    air = protected-air ks p (record { mask = mask; spoken = frame; sent = turning ks p mask frame; arrived = true }) l refl
 
 -- the second word gave way to signalling
 abbrev signalling : List ℕ
 signalling = replicate 7 0 ++ (replicate 7 255 ++ replicate 14 0)
 
 one-gave-way : (p : ℕ) → SlotKept ks p (gaveWay 13 signalling p)
-one-gave-way = gave-way-kept 13 signalling (omega arith) same
+one-gave-way = gave-way-kept 13 signalling refl (omega arith) same
   where
     same : (w : ℕ) → w < 4 → inMask 13 w ≡ true → word w signalling ≡ word w silence
     same zero l h = refl
@@ -122,7 +122,7 @@ one-gave-way = gave-way-kept 13 signalling (omega arith) same
 
 -- and all words, as those of each second slot at 9600 bps half rate
 all-gave-way : (p : ℕ) → SlotKept ks p (gaveWay 0 loud p)
-all-gave-way = gave-way-kept 0 loud (omega arith) same
+all-gave-way = gave-way-kept 0 loud refl (omega arith) same
   where
     same : (w : ℕ) → w < 4 → inMask 0 w ≡ true → word w loud ≡ word w silence
     same w l h = absurd (true≢false (sym h ∙ rw (zero-div (2 ^ w))))

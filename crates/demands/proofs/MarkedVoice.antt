@@ -7,8 +7,9 @@ use native.Mathlib.Omega.{arith}
 use lib.ListN.{length, replicate}
 use borrow.Author.Tests.{eq-eqb, lt-ltb}
 use Rattle.octets.specs.Tests.{allBelow, firstBelow}
-use Rattle.octets.specs.Lists.{allZero, iterate}
+use Rattle.octets.specs.Lists.{replaced, allZero, iterate}
 use Rattle.octets.specs.Bits.{octet, octetsFrom}
+use Rattle.octets.specs.Turn.{within, turned, turnedIn}
 use Rattle.scramble.specs.Sequence.{keyNumber, stepped, P}
 use Rattle.ciphers.specs.Keys.{oddOctet, scrambleKey, desKey, keyAllowed, keyRight}
 use Rattle.ciphers.specs.Keystream.{stream}
@@ -19,7 +20,7 @@ use Rattle.sizes.specs.Ciphers.{vectorOctets, noVector}
 use Rattle.openings.specs.Ladder.{keyRefusals, zeroFor, vectorRefusals}
 use Rattle.openings.specs.Samples.{scramble0001, desABCD}
 use Rattle.sizes.specs.Frame.{frameOctets}
-use Rattle.voice.specs.Frame.{keyBit, ofSlot, protect}
+use Rattle.voice.specs.Frame.{ofSlot, wordTurned, protect}
 use Rattle.voice.specs.Call.{vectorRight, closedTests, openTests, isClosed, isOpen, noCall, receiving, standing, written}
 use Rattle.voice.specs.Opening.{joinRefusals, openRefusals, openOf, joinOf}
 use Rattle.voice.specs.Slot.{received, topMask, voiceOf}
@@ -37,7 +38,7 @@ unfolding openOf joinOf openRefusals joinRefusals vectorRefusals keyRefusals zer
 openings = (refl, refl, refl)
 
 frame-turned : protect (ofSlot (stream 1 scramble0001 noVector) 0) 3 (replicate frameOctets 0) ≡ frame8001
-unfolding protect keyBit octetsFrom octet stream P iterate stepped keyNumber
+unfolding protect wordTurned turnedIn turned within replaced octetsFrom octet stream P iterate stepped keyNumber
 frame-turned = refl
 
 scrambling-stands : standing (scrambling 0) ≡ receiving 1 scramble0001 0 true noVector

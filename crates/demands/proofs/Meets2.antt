@@ -1,20 +1,16 @@
 -- Demand 2 is met: the definitions that the code is proved to compute agree bit for bit with the standards' own words.
-use mathlib.Core.Path.{_≡_, refl, sym, ap, subst, _∙_}
-use mathlib.Core.Bool.{false}
+use mathlib.Core.Path.{_≡_, refl, sym, ap, subst}
 use mathlib.Core.Logic.{_⊎_, inl, inr}
 use mathlib.Core.List.{List}
-use Prim.Native.Nat.{ℕ, _+_, _*_, _/_, _≤_, _<_}
+use Prim.Native.Nat.{ℕ, _+_, _≤_, _<_}
 use native.Mathlib.Omega.{arith}
 use Rattle.octets.specs.Bits.{bit, Octets}
 use Rattle.answers.specs.Numbers.{numberOf}
 use Rattle.generator.specs.Generator.{aesVector}
 use Rattle.ciphers.specs.Keystream.{usedBlock, feedback, stream}
-use Rattle.voice.specs.declared.call.Call.{Call}
-use Rattle.voice.specs.Frame.{IsFrame, inMask, ofSlot}
 use Rattle.voice.specs.Slot.{voiceOf}
-use Rattle.voice.proofs.FrameLaws.{protect-frame}
-use Rattle.voice.proofs.SlotLaws.{done-turned, undone-stays}
-use Rattle.voice.proofs.VoiceBits.{speech-turned, spare-stays, other-stays}
+use Rattle.voice.proofs.SlotLaws.{undone-stays}
+use Rattle.voice.proofs.VoiceBits.{speech-turned, rest-stays, whole-frame}
 use Rattle.data.specs.declared.packet.Packet.{Packet}
 use Rattle.data.specs.Kinds.{protectedBits}
 use Rattle.data.specs.Message.{messageOf}
@@ -25,19 +21,6 @@ use Rattle.demands.specs.Demand2.{Keystreams, Demand2}
 keystreams : Keystreams
 unfolding stream feedback usedBlock aesVector
 keystreams = record { scramble-bit = λ key vector n. refl; des-bit = λ key vector n. refl; aes-bit = λ key vector n. refl }
-
-module _ (call : Call) (mask : ℕ) (frame : List ℕ) (z : numberOf (voiceOf call mask frame .0) ≡ 0) where
-  -- bit j of word w, where it is not speech or the mask has not the word
-  stays : (w j : ℕ) → w < 4 → j < 56 → ((49 ≤ j) ⊎ (inMask mask w ≡ false)) → bit (voiceOf call mask frame .1 .1) (56 * w + j) ≡ bit frame (56 * w + j)
-  stays w j hw hj (inl spare) = spare-stays call mask frame z (56 * w + j) (omega arith) (omega arith)
-  stays w j hw hj (inr other) =
-      let e : (56 * w + j) / 56 ≡ w = omega arith in
-      other-stays call mask frame z (56 * w + j) (omega arith) (ap (inMask mask) e ∙ other)
-
-  whole : IsFrame (voiceOf call mask frame .1 .1)
-  whole =
-      subst IsFrame (sym (done-turned stream call mask frame z))
-      (protect-frame (ofSlot (stream (call .cipher) (call .key) (call .vector)) (call .position)) mask frame)
 
 module _ (packet : Packet) (message : List ℕ) (z : numberOf (messageOf packet message .0) ≡ 0) where
   outside-stays : (k : ℕ) → ((k < 16) ⊎ (16 + protectedBits (packet .kind) ≤ k)) → bit (messageOf packet message .1 .1) k ≡ bit message k
@@ -56,8 +39,8 @@ ours-meets-2 =
       voice = λ call mask frame.
           record {
             turned = speech-turned call mask frame;
-            stays = stays call mask frame;
-            whole = whole call mask frame;
+            stays = rest-stays call mask frame;
+            whole = whole-frame call mask frame;
             as-it-came = λ n. undone-stays stream call mask frame (λ z. omega arith);
           };
       messages = λ packet message.

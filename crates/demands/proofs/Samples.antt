@@ -39,8 +39,8 @@ saying-kept frame f ks p arrived =
     record {
       mask = omega arith;
       spoken = f;
-      sent = protect-frame (λ n. ks (196 * p + n)) 15 frame;
-      air = protected-air ks p (saying turning frame ks p arrived) refl;
+      sent = protect-frame (λ n. ks (196 * p + n)) 15 frame (f .long);
+      air = protected-air ks p (saying turning frame ks p arrived) (f .long) refl;
     }
 
 -- a run of such slots of silence, from slot p on: which of them arrive

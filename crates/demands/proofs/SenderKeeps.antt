@@ -145,9 +145,9 @@ module _ (b : List ℕ) (c i : ℕ) (key : List ℕ) (h : HasKey b c i key) (lon
         record {
           mask = s .mask;
           spoken = s .frame;
-          sent = protect-frame (ofSlot (stream c k v) p) (x .mask) (x .spoken);
+          sent = protect-frame (ofSlot (stream c k v) p) (x .mask) (x .spoken) (s .frame .long);
           air =
-              protected-air (stream c key v) p (made p x (out p x))
+              protected-air (stream c key v) p (made p x (out p x)) (s .frame .long)
               (protect-same (ofSlot (stream c k v) p) (ofSlot (stream c key v) p) (x .mask) (λ n r. same-stream b c i key h long v (196 * p + n)) (x .spoken));
         }
 

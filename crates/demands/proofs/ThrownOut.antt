@@ -6,8 +6,9 @@ use Prim.Native.Nat.{ℕ, zero, suc, _+_, _*_, _≤_, _<_}
 use native.Mathlib.Omega.{arith}
 use borrow.Author.Tests.{le-ltb}
 use lib.ListN.{length, replicate, length-replicate}
-use Rattle.octets.specs.Lists.{iterate, Each}
+use Rattle.octets.specs.Lists.{replaced, iterate, Each}
 use Rattle.octets.specs.Bits.{octet, octetsFrom}
+use Rattle.octets.specs.Turn.{within, turned, turnedIn}
 use Rattle.octets.proofs.TestLaws.{and-false-r}
 use Rattle.scramble.specs.Sequence.{keyNumber, stepped, P}
 use Rattle.sizes.specs.Ciphers.{sessionSlots, noVector, scrambles}
@@ -17,7 +18,7 @@ use Rattle.answers.specs.declared.Answer.{Answer}
 use Rattle.answers.specs.declared.Answer.the-variants.{Done}
 use Rattle.answers.specs.Numbers.{numberOf}
 use Rattle.voice.specs.declared.call.Call.{Call}
-use Rattle.voice.specs.Frame.{IsFrame, word, inMask, keyBit, ofSlot, protect}
+use Rattle.voice.specs.Frame.{IsFrame, word, inMask, ofSlot, wordTurned, protect}
 use Rattle.voice.specs.Call.{noCall}
 use Rattle.voice.specs.Opening.{openOf}
 use Rattle.voice.specs.Slot.{lostOf, voiceOf}
@@ -216,7 +217,7 @@ module _ (c : ℕ) (r : (1 ≤ c) × (c ≤ 3)) (n : scrambles c ≡ false) (w :
   atOnce-fails m =
       let came = turning (stream c (keyOf c) seed) 4 15 silence in
       let z : _≡_ {A = ℕ} 0 1 =
-      sym (ap numberOf (ap (λ (s : Call). voiceOf s 15 came .0) four-on ∙ opens came (protect-frame (ofSlot (stream c (keyOf c) seed) 4) 15 silence .long)))
+      sym (ap numberOf (ap (λ (s : Call). voiceOf s 15 came .0) four-on ∙ opens came (protect-frame (ofSlot (stream c (keyOf c) seed) 4) 15 silence refl .long)))
       ∙ m announcing refl announcing-kept bookOfThree 0 (has-key c r) (joining 0) .1 .0 .held (ap (λ (t : Bool). t || false) n) .0 in
       omega arith
 
@@ -246,14 +247,14 @@ identity-breaks k =
 
 -- P0 is 1, and P196 is 0
 pub restarting-breaks : Kept (twoSlots restarting) → ⊥
-unfolding protect keyBit octetsFrom octet stream P iterate stepped keyNumber
+unfolding protect wordTurned turnedIn turned within replaced octetsFrom octet stream P iterate stepped keyNumber
 restarting-breaks k =
     let z : _≡_ {A = ℕ} 1 0 = k .each .0 .slots .1 .0 .air .speech 0 0 (omega arith) (omega arith) refl in
     omega arith
 
 -- the first word gives way to signalling, so the second takes P0 on, and not P49, which is 0
 pub saving-breaks : SlotKept ks 0 (record { mask = 2; spoken = silence; sent = saving ks 0 2 silence; arrived = true }) → ⊥
-unfolding protect keyBit octetsFrom octet stream P iterate stepped keyNumber
+unfolding protect wordTurned turnedIn turned within replaced octetsFrom octet stream P iterate stepped keyNumber
 saving-breaks k =
     let z : _≡_ {A = ℕ} 1 0 = k .air .speech 1 0 (omega arith) (omega arith) refl in
     omega arith

@@ -5,8 +5,9 @@ use mathlib.Core.List.{List, [], _∷_, _++_}
 use Prim.Native.Nat.{ℕ}
 use lib.ListN.{replicate}
 use Rattle.octets.specs.Tests.{allBelow}
-use Rattle.octets.specs.Lists.{allZero, iterate}
+use Rattle.octets.specs.Lists.{replaced, allZero, iterate}
 use Rattle.octets.specs.Bits.{octet, octetsFrom}
+use Rattle.octets.specs.Turn.{within, turned, turnedIn}
 use Rattle.scramble.specs.Sequence.{keyNumber, stepped, P}
 use Rattle.ciphers.specs.Keys.{oddOctet, scrambleKey, desKey, keyAllowed, keyRight}
 use Rattle.ciphers.specs.Keystream.{stream}
@@ -14,13 +15,13 @@ use Rattle.sizes.specs.Ciphers.{noVector}
 use Rattle.openings.specs.Samples.{scramble0001, desABCD, seed}
 use Rattle.voice.specs.declared.call.Call.{Call}
 use Rattle.sizes.specs.Frame.{frameOctets}
-use Rattle.voice.specs.Frame.{keyBit, ofSlot, protect}
+use Rattle.voice.specs.Frame.{ofSlot, wordTurned, protect}
 use Rattle.voice.specs.Call.{vectorRight, closedTests, openTests, isClosed, isOpen, goodCall, noCall, sending, receiving, written}
 
 -- slot 3, words 1 and 3: 00000000000000A043C1888533000000000000000080BD038E092400, by a script of the recurrence P(n+15) = P(n+1) xor P(n)
 pub example-past : protect (ofSlot (stream 1 scramble0001 noVector) 3) 10 (replicate frameOctets 0)
     ≡ replicate 7 0 ++ (0xA0 ∷ 0x43 ∷ 0xC1 ∷ 0x88 ∷ 0x85 ∷ 0x33 ∷ replicate 8 0 ++ (0x80 ∷ 0xBD ∷ 0x03 ∷ 0x8E ∷ 0x09 ∷ 0x24 ∷ 0x00 ∷ []))
-unfolding protect keyBit octetsFrom octet stream P iterate stepped keyNumber
+unfolding protect wordTurned turnedIn turned within replaced octetsFrom octet stream P iterate stepped keyNumber
 example-past = refl
 
 -- a DES receiver that is told the seed, and the same struct with one thing changed

@@ -1,120 +1,109 @@
--- A protected frame, bit by bit and word by word.
-use mathlib.Core.Path.{_≡_, refl, sym, ap, _∙_}
+-- A protected frame, word by word and bit by bit, by the laws of words of any length.
+use mathlib.Core.Path.{_≡_, sym, ap, _∙_}
 use mathlib.Core.List.{List}
-use mathlib.Core.Bool.{Bool, true, false, _&&_}
-use Prim.Native.Nat.{ℕ, _+_, _*_, _/_, _%_, _≤_, _<_}
+use mathlib.Core.Bool.{Bool, true, false}
+use mathlib.Core.Logic.{_⊎_, inl, inr}
+use Prim.Native.Nat.{ℕ, _+_, _-_, _*_, _/_, _%_, _^_, _≤_, _<_}
 use native.Mathlib.Nat.{zero-div}
-use native.Mathlib.Decide.{decLt}
 use native.Mathlib.Omega.{arith}
-use borrow.Author.Tests.{lt-ltb, ltb-true, le-ltb}
-use lib.Dec.{ltb}
-use lib.ListN.{length, getD, drop, length-take, length-drop, List·getD-eq-default}
-use lib.Seq.{getD-take, getD-drop}
+use borrow.Author.Tests.{eq-eqb, ne-eqb}
+use borrow.Rule.Slice.PartMut.{putMid}
+use lib.ListN.{length, take, drop}
 use Rattle.octets.specs.Tests.{pick}
 use Rattle.octets.specs.Bits.{bit, flip, Octets}
-use Rattle.octets.proofs.TestLaws.{and-false-r, and-left}
-use Rattle.octets.proofs.BitLaws.{flip-lt, flip-zero, bit-lt, bit-octetsFrom, length-octetsFrom, octets-octetsFrom, octets-ext}
-use Rattle.sizes.specs.Frame.{wordOctets, wordBits, speechBits, frameOctets, slotBits}
-use Rattle.voice.specs.Frame.{IsFrame, word, inMask, keyBit, protect}
-
-module _ (slot : ℕ → ℕ) (mask : ℕ) where
-  pub protect-bit : (frame : List ℕ) (k : ℕ) → k < 8 * frameOctets → bit (protect slot mask frame) k ≡ flip (bit frame k) (keyBit slot mask k)
-  unfolding protect
-  protect-bit frame k h = bit-octetsFrom frameOctets (λ k. flip (bit frame k) (keyBit slot mask k)) (λ k. flip-lt (bit frame k) (keyBit slot mask k)) k h
-
-  pub protect-frame : (frame : List ℕ) → IsFrame (protect slot mask frame)
-  unfolding protect
-  protect-frame frame =
-      record {
-        long = length-octetsFrom frameOctets (λ k. flip (bit frame k) (keyBit slot mask k));
-        octets = octets-octetsFrom frameOctets (λ k. flip (bit frame k) (keyBit slot mask k)) (λ k. flip-lt (bit frame k) (keyBit slot mask k));
-      }
-
-  -- a frame is what its bits say
-  pub frame-ext : (f g : List ℕ) → IsFrame f → IsFrame g → ((k : ℕ) → k < 8 * frameOctets → bit f k ≡ bit g k) → f ≡ g
-  frame-ext f g a b e = octets-ext f g (a .octets) (b .octets) (a .long ∙ sym (b .long)) (λ k l. e k (omega (arith, a .long)))
-
-  -- spare bits are turned by nothing, nor are words outside the mask
-  pub keyBit-spare : (k : ℕ) → speechBits ≤ k % wordBits → keyBit slot mask k ≡ 0
-  unfolding keyBit
-  keyBit-spare k h = rw (le-ltb _ _ h)
-
-  pub keyBit-other : (k : ℕ) → inMask mask (k / wordBits) ≡ false → keyBit slot mask k ≡ 0
-  unfolding keyBit
-  keyBit-other k e = rw (e, and-false-r (ltb (k % wordBits) speechBits))
-
-  -- and such a bit stays as it came
-  pub protect-stays : (frame : List ℕ) (k : ℕ) → k < 8 * frameOctets → keyBit slot mask k ≡ 0 → bit (protect slot mask frame) k ≡ bit frame k
-  protect-stays frame k h e = protect-bit frame k h ∙ ap (flip (bit frame k)) e ∙ flip-zero (bit frame k) (bit-lt frame k)
-
-  -- a mask of no words leaves the frame as it came
-  pub protect-none : (frame : List ℕ) → IsFrame frame → mask ≡ 0 → protect slot mask frame ≡ frame
-  protect-none frame f e =
-      frame-ext (protect slot mask frame) frame (protect-frame frame) f
-      (λ k l. protect-stays frame k l (keyBit-other k (ap (λ (m : ℕ). inMask m (k / wordBits)) e ∙ none-of (k / wordBits))))
-    where
-      none-of : (w : ℕ) → inMask 0 w ≡ false
-      none-of w = rw zero-div
+use Rattle.octets.specs.Turn.{within, turned}
+use Rattle.octets.proofs.BitLaws.{flip-zero, bit-lt}
+use Rattle.octets.proofs.Turning.{within-in, within-out, turned-none, turned-same}
+use Rattle.octets.proofs.Parts.{part-octets, put-turned, turnedIn-none}
+use Rattle.octets.proofs.Words as any
+use Rattle.sizes.specs.Frame.{words, wordOctets, wordBits, speechBits, frameOctets, slotBits}
+use Rattle.voice.specs.Frame.{IsFrame, word, inMask, turnedBits, ofWord, wordTurned, protect}
 
 -- bits of a word are bits of the frame
 pub word-bit : (w : ℕ) (frame : List ℕ) (j : ℕ) → j < wordBits → bit (word w frame) j ≡ bit frame (wordBits * w + j)
-word-bit w frame j h =
-    let q : (wordBits * w + j) / 8 ≡ wordOctets * w + j / 8 = omega arith in
-    let r : (wordBits * w + j) % 8 ≡ j % 8 = omega arith in
-    let l : j / 8 < wordOctets = omega arith in
-    rw (q, r, getD-take wordOctets (drop (wordOctets * w) frame) (j / 8) 0 l, getD-drop (wordOctets * w) frame (j / 8) 0)
-
-word-octets : (w : ℕ) (frame : List ℕ) → Octets frame → Octets (word w frame)
-word-octets w frame h i = go (decLt i wordOctets)
-  where
-    go : Dec (i < wordOctets) → getD (word w frame) i 0 < 256
-    go (yes a) = rw (getD-take wordOctets (drop (wordOctets * w) frame) i 0 a, getD-drop (wordOctets * w) frame i 0) (h (wordOctets * w + i))
-    go (no a) = rw (List·getD-eq-default (word w frame) 0 {n = i} (simp length-take (omega arith))) (omega arith)
-
-word-long : (w : ℕ) (frame : List ℕ) → w < 4 → length frame ≡ frameOctets → length (word w frame) ≡ wordOctets
-word-long w frame h l = simp (length-take, length-drop, l) (omega arith)
+word-bit = any.word-bit wordOctets
 
 -- a word is what its bits say
-pub word-ext : (w : ℕ) → w < 4 → (f g : List ℕ) → IsFrame f → IsFrame g → ((j : ℕ) → j < wordBits → bit f (wordBits * w + j) ≡ bit g (wordBits * w + j))
-    → word w f ≡ word w g
-word-ext w h f g a b e =
-    octets-ext (word w f) (word w g) (word-octets w f (a .octets)) (word-octets w g (b .octets)) (long ∙ sym (word-long w g h (b .long)))
-    (λ j l.
-    let l′ : j < wordBits = omega (arith, long) in
-    word-bit w f j l′ ∙ e j l′ ∙ sym (word-bit w g j l′))
+pub word-ext : (w : ℕ) → w < words → (f g : List ℕ) → IsFrame f → IsFrame g
+    → ((j : ℕ) → j < wordBits → bit f (wordBits * w + j) ≡ bit g (wordBits * w + j)) → word w f ≡ word w g
+word-ext w l f g a b = any.word-ext wordOctets words f (a .long) g (b .long) (a .octets) (b .octets) w l
+
+-- at most a word's speech is turned
+at-most : (mask w : ℕ) → turnedBits mask w ≤ speechBits
+at-most mask w = go (inMask mask w)
   where
-    long : length (word w f) ≡ wordOctets
-    long = word-long w f h (a .long)
+    go : (t : Bool) → pick t speechBits 0 ≤ speechBits
+    go true = omega arith
+    go false = omega arith
 
--- a word that the mask does not have stays as it is
-pub word-stays : (slot : ℕ → ℕ) (mask w : ℕ) (frame : List ℕ) → IsFrame frame → w < 4 → inMask mask w ≡ false → word w (protect slot mask frame) ≡ word w frame
-word-stays slot mask w frame f h e =
-    word-ext w h (protect slot mask frame) frame (protect-frame slot mask frame) f
-    (λ j l.
-    let q : (wordBits * w + j) / wordBits ≡ w = omega arith in
-    protect-stays slot mask frame (wordBits * w + j) (omega arith) (keyBit-other slot mask (wordBits * w + j) (rw q e)))
+module _ (slot : ℕ → ℕ) (mask : ℕ) (frame : List ℕ) (long : length frame ≡ frameOctets) where
+  pub protect-frame : IsFrame (protect slot mask frame)
+  unfolding protect wordTurned
+  protect-frame =
+      record {
+        long = any.turned-long wordOctets (turnedBits mask) (ofWord slot) words frame long;
+        octets = any.turned-octets wordOctets (turnedBits mask) (ofWord slot) words frame long;
+      }
 
-picked : (t : Bool) (x y : ℕ) → (t ≡ true → x ≡ y) → pick t x 0 ≡ pick t y 0
-picked true x y h = h refl
-picked false x y h = refl
+  module _ (w : ℕ) (low : w < words) where
+    -- each word is turned
+    pub word-protected : word w (protect slot mask frame) ≡ turned (turnedBits mask w) (ofWord slot w) (word w frame)
+    unfolding protect wordTurned
+    word-protected = any.turned-word wordOctets (turnedBits mask) (ofWord slot) words frame long w low
+
+    module _ (j : ℕ) (h : j < wordBits) where
+      protect-bit : bit (protect slot mask frame) (wordBits * w + j) ≡ flip (bit frame (wordBits * w + j)) (within (turnedBits mask w) (ofWord slot w) j)
+      unfolding protect wordTurned
+      protect-bit = any.turned-bit wordOctets (turnedBits mask) (ofWord slot) words frame long w low j h
+
+      -- a speech bit of a word in the mask is turned by its own bit of the slot
+      pub speech-bit : j < speechBits → inMask mask w ≡ true → bit (protect slot mask frame) (wordBits * w + j) ≡ flip (bit frame (wordBits * w + j)) (slot (speechBits * w + j))
+      speech-bit l e = protect-bit ∙ ap (flip (bit frame (wordBits * w + j))) (rw e (within-in speechBits (ofWord slot w) j l))
+
+      -- a spare bit stays as it came, and so does a bit of a word outside the mask
+      pub other-bit : (speechBits ≤ j) ⊎ (inMask mask w ≡ false) → bit (protect slot mask frame) (wordBits * w + j) ≡ bit frame (wordBits * w + j)
+      other-bit o =
+          protect-bit
+          ∙ ap (flip (bit frame (wordBits * w + j))) (within-out (turnedBits mask w) (ofWord slot w) j (past o))
+          ∙ flip-zero (bit frame (wordBits * w + j)) (bit-lt frame (wordBits * w + j))
+        where
+          past : (speechBits ≤ j) ⊎ (inMask mask w ≡ false) → turnedBits mask w ≤ j
+          past (inl l) = omega (arith, at-most mask w)
+          past (inr e) = rw e (omega arith)
+
+-- a word outside the mask stays as it came
+pub word-stays : (slot : ℕ → ℕ) (mask w : ℕ) (frame : List ℕ) → IsFrame frame → w < words → inMask mask w ≡ false → word w (protect slot mask frame) ≡ word w frame
+word-stays slot mask w frame f l e =
+    word-protected slot mask frame (f .long) w l
+    ∙ rw e (turned-none (ofWord slot w) (word w frame) (part-octets (wordOctets * w) wordOctets frame (f .octets)))
+
+module _ (slot : ℕ → ℕ) (mask : ℕ) (frame : List ℕ) (f : IsFrame frame) where
+  -- a mask of no words leaves the frame as it came
+  pub protect-none : mask ≡ 0 → protect slot mask frame ≡ frame
+  protect-none e =
+      any.words-ext wordOctets words (protect slot mask frame) (protect-frame slot mask frame (f .long) .long) frame (f .long)
+      (λ w l. word-stays slot mask w frame f l (rw (e, zero-div)))
+
+  -- protected and opened it is what it was
+  pub protect-twice : protect slot mask (protect slot mask frame) ≡ frame
+  unfolding protect wordTurned
+  protect-twice = any.words-twice wordOctets (turnedBits mask) (ofWord slot) words frame (f .long) (f .octets)
 
 -- a slot rests on its 196 bits alone
-module _ (one two : ℕ → ℕ) (mask : ℕ) (same : (n : ℕ) → n < slotBits → one n ≡ two n) where
-  keyBit-same : (k : ℕ) → k < 8 * frameOctets → keyBit one mask k ≡ keyBit two mask k
-  unfolding keyBit
-  keyBit-same k h =
-      picked (ltb (k % wordBits) speechBits && inMask mask (k / wordBits)) _ _
-      (λ e. let l = ltb-true (k % wordBits) speechBits (and-left (ltb (k % wordBits) speechBits) (inMask mask (k / wordBits)) e) in same _ (omega arith))
+pub protect-same : (one two : ℕ → ℕ) (mask : ℕ) → ((n : ℕ) → n < slotBits → one n ≡ two n) → (frame : List ℕ) → protect one mask frame ≡ protect two mask frame
+unfolding protect wordTurned
+protect-same one two mask same =
+    any.words-same wordOctets (turnedBits mask) (ofWord one) (ofWord two) words
+    (λ w l j h. same (speechBits * w + j) (omega (arith, any.word-ends speechBits w words l, at-most mask w)))
 
-  pub protect-same : (frame : List ℕ) → protect one mask frame ≡ protect two mask frame
-  protect-same frame =
-      frame-ext one mask (protect one mask frame) (protect two mask frame) (protect-frame one mask frame) (protect-frame two mask frame)
-      (λ k l. protect-bit one mask frame k l ∙ ap (flip (bit frame k)) (keyBit-same k l) ∙ sym (protect-bit two mask frame k l))
+-- the code's step
+module _ (slot : ℕ → ℕ) (mask w : ℕ) (f : List ℕ) where
+  pub word-out : Octets f → (mask / 2 ^ w % 2 ≡ 1 → ⊥) → f ≡ wordTurned slot mask w f
+  unfolding wordTurned
+  word-out o n = rw (ne-eqb _ _ n) (sym (turnedIn-none (wordOctets * w) wordOctets (ofWord slot w) f o))
 
--- a speech bit's own bit of the slot
-pub keyBit-speech : (slot : ℕ → ℕ) (mask w j : ℕ) → j < speechBits → inMask mask w ≡ true → keyBit slot mask (wordBits * w + j) ≡ slot (speechBits * w + j)
-unfolding keyBit
-keyBit-speech slot mask w j h e =
-    let q : (wordBits * w + j) / wordBits ≡ w = omega arith in
-    let r : (wordBits * w + j) % wordBits ≡ j = omega arith in
-    rw (q, r, e, lt-ltb j speechBits h)
+  pub word-in : (m : List ℕ) (ks : ℕ → ℕ) → mask / 2 ^ w % 2 ≡ 1 → ((n : ℕ) → ks n ≡ ofWord slot w n)
+      → m ≡ turned speechBits ks (take (wordOctets * w + wordOctets - wordOctets * w) (drop (wordOctets * w) f))
+      → putMid (wordOctets * w) (wordOctets * w + wordOctets - wordOctets * w) f m ≡ wordTurned slot mask w f
+  unfolding wordTurned
+  word-in m ks e same q = rw (eq-eqb _ _ e) (put-turned (wordOctets * w) wordOctets speechBits (ofWord slot w) f m (q ∙ turned-same speechBits ks (ofWord slot w) same _))

@@ -1,5 +1,4 @@
 pub mod FrameLaws
-pub mod WordLaws
 pub mod CallLaws
 pub mod OpeningLaws
 pub mod SlotLaws

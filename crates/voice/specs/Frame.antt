@@ -1,14 +1,14 @@
 -- The protected voice frame (001, 5.4.2, 5.4.4.1 and 5.4.6): four words in 28 octets, each with its speech bits first and spare bits after them.
 use mathlib.Core.Path.{_≡_}
 use mathlib.Core.List.{List}
-use mathlib.Core.Bool.{Bool, _&&_}
+use mathlib.Core.Bool.{Bool}
 use Prim.Native.Nat.{ℕ, _+_, _*_, _/_, _%_, _^_}
-use lib.Dec.{ltb, eqb}
+use lib.Dec.{eqb}
 use lib.ListN.{length, take, drop}
 use Rattle.octets.specs.Tests.{pick}
-use Rattle.octets.specs.Bits.{bit, flip, octetsFrom, Octets}
+use Rattle.octets.specs.Bits.{Octets}
 use Rattle.octets.specs.Turn.{turnedIn}
-use Rattle.sizes.specs.Frame.{wordOctets, wordBits, speechBits, frameOctets, slotBits}
+use Rattle.sizes.specs.Frame.{wordOctets, speechBits, frameOctets, slotBits}
 
 -- 28 octets
 pub record IsFrame (frame : List ℕ) : Type 0 where
@@ -27,18 +27,18 @@ inMask mask w = eqb (mask / 2 ^ w % 2) 1
 abbrev pub ofSlot : (ℕ → ℕ) → ℕ → ℕ → ℕ
 ofSlot ks p n = ks (slotBits * p + n)
 
--- what bit k of a frame is turned over by, given the slot's bits: bit j of word w by bit 49 w + j, where it is speech and the mask has the word
-unfoldable pub keyBit : (ℕ → ℕ) → ℕ → ℕ → ℕ
-keyBit slot mask k =
-    let w = k / wordBits in
-    let j = k % wordBits in
-    pick (ltb j speechBits && inMask mask w) (slot (speechBits * w + j)) 0
+-- the bits of a word that are turned: its speech, where the mask has it, and else none
+abbrev pub turnedBits : ℕ → ℕ → ℕ
+turnedBits mask w = pick (inMask mask w) speechBits 0
 
--- a frame protected, or opened: the one turning of voice
-unfoldable pub protect : (ℕ → ℕ) → ℕ → List ℕ → List ℕ
-protect slot mask frame = octetsFrom frameOctets (λ k. flip (bit frame k) (keyBit slot mask k))
+-- the slot's bits for word w: bit 49 w + j for its bit j
+abbrev pub ofWord : (ℕ → ℕ) → ℕ → ℕ → ℕ
+ofWord slot w j = slot (speechBits * w + j)
 
--- the frame with word w turned where it stands, if the mask has it
+-- the frame with word w turned where it stands
 unfoldable pub wordTurned : (ℕ → ℕ) → ℕ → ℕ → List ℕ → List ℕ
-wordTurned slot mask w frame =
-    pick (inMask mask w) (turnedIn (wordOctets * w) wordOctets speechBits (λ j. slot (speechBits * w + j)) frame) frame
+wordTurned slot mask w frame = turnedIn (wordOctets * w) wordOctets (turnedBits mask w) (ofWord slot w) frame
+
+-- a frame protected, or opened: its four words turned, one after the other
+unfoldable pub protect : (ℕ → ℕ) → ℕ → List ℕ → List ℕ
+protect slot mask frame = wordTurned slot mask 3 (wordTurned slot mask 2 (wordTurned slot mask 1 (wordTurned slot mask 0 frame)))

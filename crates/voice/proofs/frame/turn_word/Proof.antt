@@ -1,7 +1,8 @@
 -- `voice::frame::turn_word` meets its contract.
 use native.Mathlib.Nat.{add-assoc}
+use native.Mathlib.Omega.{arith}
 use borrow.Author.Needs.{needs}
-use Rattle.voice.proofs.WordLaws.{word-out, word-in}
+use Rattle.voice.proofs.FrameLaws.{word-out, word-in}
 use Rattle.voice.proofs.frame.turn_word.Statement.{statement}
 use Rattle.voice.proofs.frame.turn_word.Tie as tie
 
@@ -11,7 +12,7 @@ turn-word-spec =
     (tie.spec
     (λ c. search needs)
     (λ c. search needs)
-    (λ c. word-out _ _ _ _ (c .if1 .taken))
+    (λ c. word-out _ _ _ _ (λ j. omega (arith, c .before .before .slice-known .given j)) (c .if1 .taken))
     (λ c. search needs)
     (λ c. search needs)
     (λ c. search needs)
