@@ -100,10 +100,14 @@ protect-same one two mask same =
 module _ (slot : ℕ → ℕ) (mask w : ℕ) (f : List ℕ) where
   pub word-out : Octets f → (mask / 2 ^ w % 2 ≡ 1 → ⊥) → f ≡ wordTurned slot mask w f
   unfolding wordTurned
-  word-out o n = rw (ne-eqb _ _ n) (sym (turnedIn-none (wordOctets * w) wordOctets (ofWord slot w) f o))
+  word-out o n =
+      let out : inMask mask w ≡ false = ne-eqb _ _ n in
+      rw out (sym (turnedIn-none (wordOctets * w) wordOctets (ofWord slot w) f o))
 
   pub word-in : (m : List ℕ) (ks : ℕ → ℕ) → mask / 2 ^ w % 2 ≡ 1 → ((n : ℕ) → ks n ≡ ofWord slot w n)
       → m ≡ turned speechBits ks (take (wordOctets * w + wordOctets - wordOctets * w) (drop (wordOctets * w) f))
       → putMid (wordOctets * w) (wordOctets * w + wordOctets - wordOctets * w) f m ≡ wordTurned slot mask w f
   unfolding wordTurned
-  word-in m ks e same q = rw (eq-eqb _ _ e) (put-turned (wordOctets * w) wordOctets speechBits (ofWord slot w) f m (q ∙ turned-same speechBits ks (ofWord slot w) same _))
+  word-in m ks e same q =
+      let its : inMask mask w ≡ true = eq-eqb _ _ e in
+      rw its (put-turned (wordOctets * w) wordOctets speechBits (ofWord slot w) f m (q ∙ turned-same speechBits ks (ofWord slot w) same _))
