@@ -16,23 +16,9 @@ use Rattle.demands.specs.Talk.{Slot, OnAir, SlotKept}
 pub word-bits : (w : ℕ) (f g : List ℕ) → word w f ≡ word w g → (j : ℕ) → j < 56 → bit f (56 * w + j) ≡ bit g (56 * w + j)
 word-bits w f g e j l = sym (word-bit w f j l) ∙ ap (λ (xs : List ℕ). bit xs j) e ∙ word-bit w g j l
 
-sum : (a b n : ℕ) → a + b + n ≡ a + (b + n)
-sum a b n = omega arith
-
 module _ (ks : ℕ → ℕ) (p : ℕ) (x : Slot) where
   abbrev slot : ℕ → ℕ
   slot = ofSlot ks p
-
-  module _ (w : ℕ) (hw : w < 4) (m : inMask (x .mask) w ≡ true) (frame : List ℕ) (long : length frame ≡ 28) where
-    -- a speech bit of a word in the mask is turned by its own bit of the session
-    turned : (j : ℕ) → j < 49 → bit (protect slot (x .mask) frame) (56 * w + j) ≡ flip (bit frame (56 * w + j)) (ks (196 * p + 49 * w + j))
-    turned j l =
-        speech-bit slot (x .mask) frame long w hw j (omega arith) l m
-        ∙ ap (λ (n : ℕ). flip (bit frame (56 * w + j)) (ks n)) (sym (sum (196 * p) (49 * w) j))
-
-    -- and a spare one is not
-    spare : (j : ℕ) → 49 ≤ j → j < 56 → bit (protect slot (x .mask) frame) (56 * w + j) ≡ bit frame (56 * w + j)
-    spare j l h = other-bit slot (x .mask) frame long w hw j h (inl l)
 
   pub opened-word : SlotKept ks p x → (w : ℕ) → w < 4 → inMask (x .mask) w ≡ true → word w (protect slot (x .mask) (x .sent)) ≡ word w (x .spoken)
   opened-word s w hw m =
@@ -40,16 +26,16 @@ module _ (ks : ℕ → ℕ) (p : ℕ) (x : Slot) where
     where
       go : (j : ℕ) → j < 56 → Dec (j < 49) → bit (protect slot (x .mask) (x .sent)) (56 * w + j) ≡ bit (x .spoken) (56 * w + j)
       go j h (yes l) =
-          turned w hw m (x .sent) (s .sent .long) j l
+          speech-bit ks p (x .mask) (x .sent) (s .sent .long) w hw j l m
           ∙ ap (λ (n : ℕ). flip n (ks (196 * p + 49 * w + j))) (s .air .speech w j hw l m)
           ∙ flip-flip (bit (x .spoken) (56 * w + j)) (ks (196 * p + 49 * w + j)) (bit-lt (x .spoken) (56 * w + j))
-      go j h (no l) = spare w hw m (x .sent) (s .sent .long) j (omega arith) h ∙ s .air .spare w j hw (omega arith) h m
+      go j h (no l) = other-bit slot (x .mask) (x .sent) (s .sent .long) w hw j h (inl (omega arith)) ∙ s .air .spare w j hw (omega arith) h m
 
   pub protected-air : length (x .spoken) ≡ 28 → x .sent ≡ protect slot (x .mask) (x .spoken) → OnAir ks p x
   protected-air l e =
       record {
-        speech = λ w j hw hj m. at (56 * w + j) ∙ turned w hw m (x .spoken) l j hj;
-        spare = λ w j hw lj hj m. at (56 * w + j) ∙ spare w hw m (x .spoken) l j lj hj;
+        speech = λ w j hw hj m. at (56 * w + j) ∙ speech-bit ks p (x .mask) (x .spoken) l w hw j hj m;
+        spare = λ w j hw lj hj m. at (56 * w + j) ∙ other-bit slot (x .mask) (x .spoken) l w hw j hj (inl lj);
       }
     where
       at : (k : ℕ) → bit (x .sent) k ≡ bit (protect slot (x .mask) (x .spoken)) k

@@ -4,7 +4,7 @@ use mathlib.Core.List.{List}
 use mathlib.Core.Bool.{Bool, true, false}
 use mathlib.Core.Logic.{_⊎_, inl, inr}
 use Prim.Native.Nat.{ℕ, _+_, _-_, _*_, _/_, _%_, _^_, _≤_, _<_}
-use native.Mathlib.Nat.{zero-div}
+use native.Mathlib.Nat.{zero-div, add-assoc}
 use native.Mathlib.Omega.{arith}
 use borrow.Author.Tests.{eq-eqb, ne-eqb}
 use borrow.Rule.Slice.PartMut.{putMid}
@@ -17,7 +17,7 @@ use Rattle.octets.proofs.Turning.{within-in, within-out, turned-none, turned-sa
 use Rattle.octets.proofs.Parts.{part-octets, put-turned, turnedIn-none}
 use Rattle.octets.proofs.Words as any
 use Rattle.sizes.specs.Frame.{words, wordOctets, wordBits, speechBits, frameOctets, slotBits}
-use Rattle.voice.specs.Frame.{IsFrame, word, inMask, turnedBits, ofWord, wordTurned, protect}
+use Rattle.voice.specs.Frame.{IsFrame, word, inMask, ofSlot, turnedBits, ofWord, wordTurned, protect}
 
 -- bits of a word are bits of the frame
 pub word-bit : (w : ℕ) (frame : List ℕ) (j : ℕ) → j < wordBits → bit (word w frame) j ≡ bit frame (wordBits * w + j)
@@ -56,10 +56,6 @@ module _ (slot : ℕ → ℕ) (mask : ℕ) (frame : List ℕ) (long : length fra
       unfolding protect wordTurned
       protect-bit = any.turned-bit wordOctets (turnedBits mask) (ofWord slot) words frame long w low j h
 
-      -- a speech bit of a word in the mask is turned by its own bit of the slot
-      pub speech-bit : j < speechBits → inMask mask w ≡ true → bit (protect slot mask frame) (wordBits * w + j) ≡ flip (bit frame (wordBits * w + j)) (slot (speechBits * w + j))
-      speech-bit l e = protect-bit ∙ ap (flip (bit frame (wordBits * w + j))) (rw e (within-in speechBits (ofWord slot w) j l))
-
       -- a spare bit stays as it came, and so does a bit of a word outside the mask
       pub other-bit : (speechBits ≤ j) ⊎ (inMask mask w ≡ false) → bit (protect slot mask frame) (wordBits * w + j) ≡ bit frame (wordBits * w + j)
       other-bit o =
@@ -70,6 +66,13 @@ module _ (slot : ℕ → ℕ) (mask : ℕ) (frame : List ℕ) (long : length fra
           past : (speechBits ≤ j) ⊎ (inMask mask w ≡ false) → turnedBits mask w ≤ j
           past (inl l) = omega (arith, at-most mask w)
           past (inr e) = rw e (omega arith)
+
+-- in slot p of a session a speech bit of a word in the mask is turned by stream bit 196 p + 49 w + j
+pub speech-bit : (ks : ℕ → ℕ) (p mask : ℕ) (frame : List ℕ) → length frame ≡ frameOctets → (w : ℕ) → w < words → (j : ℕ) → j < speechBits → inMask mask w ≡ true
+    → bit (protect (ofSlot ks p) mask frame) (wordBits * w + j) ≡ flip (bit frame (wordBits * w + j)) (ks (slotBits * p + speechBits * w + j))
+speech-bit ks p mask frame long w low j l e =
+    protect-bit (ofSlot ks p) mask frame long w low j (omega arith)
+    ∙ ap (flip (bit frame (wordBits * w + j))) (rw (e, add-assoc (slotBits * p) (speechBits * w) j) (within-in speechBits (ofWord (ofSlot ks p) w) j l))
 
 -- a word outside the mask stays as it came
 pub word-stays : (slot : ℕ → ℕ) (mask w : ℕ) (frame : List ℕ) → IsFrame frame → w < words → inMask mask w ≡ false → word w (protect slot mask frame) ≡ word w frame

@@ -16,9 +16,6 @@ use Rattle.voice.specs.Slot.{voiceOf}
 use Rattle.voice.proofs.FrameLaws.{protect-frame, speech-bit, other-bit}
 use Rattle.voice.proofs.SlotLaws.{none-long, voice-taken, done-turned, undone-stays}
 
-sum : (a b n : ℕ) → a + (b + n) ≡ a + b + n
-sum a b n = omega arith
-
 module _ (c : Call) (mask : ℕ) (frame : List ℕ) where
   -- the frame afterwards
   abbrev pub after : List ℕ
@@ -43,8 +40,7 @@ module _ (c : Call) (mask : ℕ) (frame : List ℕ) where
         → bit after (wordBits * w + j) ≡ flip (bit frame (wordBits * w + j)) (stream (c .cipher) (c .key) (c .vector) (slotBits * c .position + speechBits * w + j))
     speech-turned w j hw hj e =
         ap (λ (f : List ℕ). bit f (wordBits * w + j)) turned
-        ∙ speech-bit slot mask frame long w hw j (omega arith) hj e
-        ∙ ap (λ (n : ℕ). flip (bit frame (wordBits * w + j)) (stream (c .cipher) (c .key) (c .vector) n)) (sum (slotBits * c .position) (speechBits * w) j)
+        ∙ speech-bit (stream (c .cipher) (c .key) (c .vector)) (c .position) mask frame long w hw j hj e
 
     -- every other bit is as it came: the last seven of each word, and the words outside the mask
     pub rest-stays : (w j : ℕ) → w < words → j < wordBits → (speechBits ≤ j) ⊎ (inMask mask w ≡ false) → bit after (wordBits * w + j) ≡ bit frame (wordBits * w + j)

@@ -27,7 +27,7 @@ inMask mask w = eqb (mask / 2 ^ w % 2) 1
 abbrev pub ofSlot : (ℕ → ℕ) → ℕ → ℕ → ℕ
 ofSlot ks p n = ks (slotBits * p + n)
 
--- the bits of a word that are turned: its speech, where the mask has it, and else none
+-- how many bits of word w are turned: its speech, where the mask has the word, and else none
 abbrev pub turnedBits : ℕ → ℕ → ℕ
 turnedBits mask w = pick (inMask mask w) speechBits 0
 
