@@ -18,7 +18,7 @@ use Rattle.text.proofs.DecimalLaws.{decimal-back, decimal-most}
 use Rattle.text.proofs.HexLaws.{hex-size, hex-back, octets-hexOctets, length-hexOctets}
 use Rattle.sizes.specs.Ciphers.{keyRoom, vectorOctets}
 use Rattle.sizes.specs.Frame.{frameOctets}
-use Rattle.lines.specs.Record.{Record, Load, Open, Join, Voice, Announce, Lost, End, Malformed, lineOctets, fieldAt, areFields, isName, isNumber, isKey, octetsIn, load, opened, join, voice, announce, alone, byLetter, ofParts, lineOf, printed, Fine}
+use Rattle.lines.specs.Record.{Record, Load, Open, Join, Voice, Announce, Lost, End, Malformed, mostNumber, lineOctets, fieldAt, areFields, isName, isNumber, isKey, octetsIn, load, opened, join, voice, announce, alone, byLetter, ofParts, lineOf, printed, Fine}
 
 -- r is fine, and its line is l
 record Of (r : Record) (l : List ℕ) : Type 0 where
@@ -118,14 +118,14 @@ module _ (fs : List (List ℕ)) where
       rw t
       (record {
         fine = (
-          decimal-most f₀ (first-number name),
-          decimal-most f₁ (second-number name),
+          decimal-most mostNumber f₀ (first-number name),
+          decimal-most mostNumber f₁ (second-number name),
           omega (arith, size .0, size-is f₂ (length f₂ / 2) hex),
           omega (arith, size .1, size-is f₂ (length f₂ / 2) hex),
           octets-are f₂ (length f₂ / 2) hex,
         );
         line =
-            rw (decimal-back f₀ (first-number name), decimal-back f₁ (second-number name), back-is f₂ (length f₂ / 2) hex)
+            rw (decimal-back mostNumber f₀ (first-number name), decimal-back mostNumber f₁ (second-number name), back-is f₂ (length f₂ / 2) hex)
             (ap (lineWith 0x4B) (sym (three fs (count-is 3 (isName fs && isKey f₂) t))));
       })
 
@@ -139,13 +139,13 @@ module _ (fs : List (List ℕ)) where
       rw t
       (record {
         fine = (
-          decimal-most f₀ (first-number name),
-          decimal-most f₁ (second-number name),
+          decimal-most mostNumber f₀ (first-number name),
+          decimal-most mostNumber f₁ (second-number name),
           size-is f₂ vectorOctets hex,
           octets-are f₂ vectorOctets hex,
         );
         line =
-            rw (decimal-back f₀ (first-number name), decimal-back f₁ (second-number name), back-is f₂ vectorOctets hex)
+            rw (decimal-back mostNumber f₀ (first-number name), decimal-back mostNumber f₁ (second-number name), back-is f₂ vectorOctets hex)
             (ap (lineWith 0x4F) (sym (three fs (count-is 3 (isName fs && isHex vectorOctets f₂) t))));
       })
 
@@ -156,9 +156,9 @@ module _ (fs : List (List ℕ)) where
       let name = and-right (areFields 2 fs) (isName fs) t in
       rw t
       (record {
-        fine = (decimal-most f₀ (first-number name), decimal-most f₁ (second-number name));
+        fine = (decimal-most mostNumber f₀ (first-number name), decimal-most mostNumber f₁ (second-number name));
         line =
-            rw (decimal-back f₀ (first-number name), decimal-back f₁ (second-number name)) (ap (lineWith 0x4A) (sym (two fs (count-is 2 (isName fs) t))));
+            rw (decimal-back mostNumber f₀ (first-number name), decimal-back mostNumber f₁ (second-number name)) (ap (lineWith 0x4A) (sym (two fs (count-is 2 (isName fs) t))));
       })
 
   voice-of : (voice fs ≡ Malformed → ⊥) → Of (voice fs) (lineWith 0x56 fs)
@@ -170,9 +170,9 @@ module _ (fs : List (List ℕ)) where
       let hex = and-right (isNumber f₀) (isHex frameOctets f₁) u in
       rw t
       (record {
-        fine = (decimal-most f₀ mask, size-is f₁ frameOctets hex, octets-are f₁ frameOctets hex);
+        fine = (decimal-most mostNumber f₀ mask, size-is f₁ frameOctets hex, octets-are f₁ frameOctets hex);
         line =
-            rw (decimal-back f₀ mask, back-is f₁ frameOctets hex) (ap (lineWith 0x56) (sym (two fs (count-is 2 (isNumber f₀ && isHex frameOctets f₁) t))));
+            rw (decimal-back mostNumber f₀ mask, back-is f₁ frameOctets hex) (ap (lineWith 0x56) (sym (two fs (count-is 2 (isNumber f₀ && isHex frameOctets f₁) t))));
       })
 
   announce-of : (announce fs ≡ Malformed → ⊥) → Of (announce fs) (lineWith 0x49 fs)

@@ -19,7 +19,7 @@ use Rattle.text.proofs.DecimalLaws.{number-of, number-not}
 use Rattle.text.proofs.HexLaws.{read-of, hex-lacks}
 use Rattle.lines.specs.declared.field.Cursor.{Cursor}
 use Rattle.lines.specs.declared.field.Named.the-variants as Named
-use Rattle.lines.specs.Record.{fieldAt, areFields, isName}
+use Rattle.lines.specs.Record.{mostNumber, fieldAt, areFields, isName}
 use Rattle.lines.specs.Fields.{left, partOf, IsField, IsNamed, lastHex}
 
 -- ---- one field
@@ -117,9 +117,9 @@ module _ (line : List ℕ) (cursor : Cursor) where
 -- ---- two numbers
 
 module _ (line : List ℕ) (cursor : Cursor) where
-  pub name-not-first : numberIn (fieldAt (left line cursor) 0) ≡ Not → IsNamed line (left line cursor) Named.Not
+  pub name-not-first : numberIn mostNumber (fieldAt (left line cursor) 0) ≡ Not → IsNamed line (left line cursor) Named.Not
   unfolding isName IsNamed
-  name-not-first e = rw (number-not (fieldAt (left line cursor) 0) e)
+  name-not-first e = rw (number-not mostNumber (fieldAt (left line cursor) 0) e)
 
   -- where the first number was read
   module _ (after : Cursor) (others : left line after ≡ drop 1 (left line cursor)) where
@@ -127,14 +127,14 @@ module _ (line : List ℕ) (cursor : Cursor) where
     unfolding fieldAt
     second = rw others (getD-drop 1 (left line cursor) 0 [])
 
-    pub name-not-second : numberIn (fieldAt (left line after) 0) ≡ Not → IsNamed line (left line cursor) Named.Not
+    pub name-not-second : numberIn mostNumber (fieldAt (left line after) 0) ≡ Not → IsNamed line (left line cursor) Named.Not
     unfolding isName IsNamed
-    name-not-second e = rw (number-not (fieldAt (left line cursor) 1) (rw second at e), and-false-r)
+    name-not-second e = rw (number-not mostNumber (fieldAt (left line cursor) 1) (rw second at e), and-false-r)
 
-    pub named-by : (next : Cursor) (c i : ℕ) → numberIn (fieldAt (left line cursor) 0) ≡ Of c → numberIn (fieldAt (left line after) 0) ≡ Of i
+    pub named-by : (next : Cursor) (c i : ℕ) → numberIn mostNumber (fieldAt (left line cursor) 0) ≡ Of c → numberIn mostNumber (fieldAt (left line after) 0) ≡ Of i
         → left line next ≡ drop 1 (left line after) → next .at ≤ length line → IsNamed line (left line cursor) (Named.By c i next)
     unfolding isName IsNamed
     named-by next c i e f g h =
-        let a = number-of (fieldAt (left line cursor) 0) c e in
-        let b = number-of (fieldAt (left line cursor) 1) i (rw second at f) in
+        let a = number-of mostNumber (fieldAt (left line cursor) 0) c e in
+        let b = number-of mostNumber (fieldAt (left line cursor) 1) i (rw second at f) in
         (rw (a .0, b .0), a .1, b .1, g ∙ ap (drop 1) others ∙ drop-drop 1 1 (left line cursor), h)

@@ -9,14 +9,14 @@ use lib.ListN.{length, length-append}
 use borrow.Author.Tests.{le-ltb, le-leb}
 use Rattle.octets.specs.Bits.{Octets}
 use Rattle.text.specs.Parted.{tabOctet}
-use Rattle.text.specs.Decimal.{mostNumber, decimal}
+use Rattle.text.specs.Decimal.{decimal}
 use Rattle.text.specs.Hex.{isHex, hexOctets, hexText}
 use Rattle.text.proofs.PartedLaws.{Lacks, AllLack, joined, parted-joined}
 use Rattle.text.proofs.DecimalLaws.{decimal-is, decimal-round, decimal-size, decimal-lacks}
 use Rattle.text.proofs.HexLaws.{length-hexText, hexText-hex, hex-round, hex-lacks}
 use Rattle.sizes.specs.Ciphers.{keyRoom, vectorOctets}
 use Rattle.sizes.specs.Frame.{frameOctets}
-use Rattle.lines.specs.Record.{Record, Load, Open, Join, Voice, Announce, Lost, End, Malformed, lineOctets, fieldAt, isName, isKey, octetsIn, ofParts, lineOf, printed, Fine}
+use Rattle.lines.specs.Record.{Record, Load, Open, Join, Voice, Announce, Lost, End, Malformed, mostNumber, lineOctets, fieldAt, isName, isKey, octetsIn, ofParts, lineOf, printed, Fine}
 
 -- ---- the parts of a printed line lack a tab
 
@@ -25,7 +25,7 @@ letter-lacks x e zero l = e
 letter-lacks x e (suc k) l = absurd (omega arith)
 
 number-lacks : (n : ℕ) → n ≤ mostNumber → Lacks tabOctet (decimal n)
-number-lacks n h = decimal-lacks (decimal n) mostNumber tabOctet (omega arith) (decimal-is n h)
+number-lacks n h = decimal-lacks mostNumber (decimal n) (decimal-is mostNumber n h) tabOctet (omega arith)
 
 octets-lack : (xs : List ℕ) → Lacks tabOctet (hexText xs)
 octets-lack xs = hex-lacks (hexText xs) (length xs) tabOctet (omega arith) (hexText-hex xs)
@@ -68,20 +68,20 @@ pub printed-parses : (r : Record) → Fine r → lineOf (printed r) ≡ r
 unfolding printed fieldAt isName
 printed-parses (Load c i k) f =
     by-parts (0x4B ∷ []) (decimal c ∷ decimal i ∷ hexText k ∷ []) (letter-lacks 0x4B refl, (number-lacks c (f .0), (number-lacks i (f .1), (octets-lack k, tt))))
-    (omega (arith, three-size 0x4B (decimal c) (decimal i) (hexText k), decimal-size c .1, decimal-size i .1, length-hexText k, f .3))
-    ∙ rw (decimal-is c (f .0), decimal-is i (f .1), key-is k (f .2) (f .3), decimal-round c (f .0), decimal-round i (f .1), octets-back k (f .4))
+    (omega (arith, three-size 0x4B (decimal c) (decimal i) (hexText k), decimal-size 2 c (omega arith), decimal-size 2 i (omega arith), length-hexText k, f .3))
+    ∙ rw (decimal-is mostNumber c (f .0), decimal-is mostNumber i (f .1), key-is k (f .2) (f .3), decimal-round c, decimal-round i, octets-back k (f .4))
 printed-parses (Open c i v) f =
     by-parts (0x4F ∷ []) (decimal c ∷ decimal i ∷ hexText v ∷ []) (letter-lacks 0x4F refl, (number-lacks c (f .0), (number-lacks i (f .1), (octets-lack v, tt))))
-    (omega (arith, three-size 0x4F (decimal c) (decimal i) (hexText v), decimal-size c .1, decimal-size i .1, length-hexText v, f .2))
-    ∙ rw (decimal-is c (f .0), decimal-is i (f .1), hex-is v vectorOctets (f .2), decimal-round c (f .0), decimal-round i (f .1), octets-back v (f .3))
+    (omega (arith, three-size 0x4F (decimal c) (decimal i) (hexText v), decimal-size 2 c (omega arith), decimal-size 2 i (omega arith), length-hexText v, f .2))
+    ∙ rw (decimal-is mostNumber c (f .0), decimal-is mostNumber i (f .1), hex-is v vectorOctets (f .2), decimal-round c, decimal-round i, octets-back v (f .3))
 printed-parses (Join c i) f =
     by-parts (0x4A ∷ []) (decimal c ∷ decimal i ∷ []) (letter-lacks 0x4A refl, (number-lacks c (f .0), (number-lacks i (f .1), tt)))
-    (omega (arith, two-size 0x4A (decimal c) (decimal i), decimal-size c .1, decimal-size i .1))
-    ∙ rw (decimal-is c (f .0), decimal-is i (f .1), decimal-round c (f .0), decimal-round i (f .1))
+    (omega (arith, two-size 0x4A (decimal c) (decimal i), decimal-size 2 c (omega arith), decimal-size 2 i (omega arith)))
+    ∙ rw (decimal-is mostNumber c (f .0), decimal-is mostNumber i (f .1), decimal-round c, decimal-round i)
 printed-parses (Voice m v) f =
     by-parts (0x56 ∷ []) (decimal m ∷ hexText v ∷ []) (letter-lacks 0x56 refl, (number-lacks m (f .0), (octets-lack v, tt)))
-    (omega (arith, two-size 0x56 (decimal m) (hexText v), decimal-size m .1, length-hexText v, f .1))
-    ∙ rw (decimal-is m (f .0), hex-is v frameOctets (f .1), decimal-round m (f .0), octets-back v (f .2))
+    (omega (arith, two-size 0x56 (decimal m) (hexText v), decimal-size 2 m (omega arith), length-hexText v, f .1))
+    ∙ rw (decimal-is mostNumber m (f .0), hex-is v frameOctets (f .1), decimal-round m, octets-back v (f .2))
 printed-parses (Announce v) f =
     by-parts (0x49 ∷ []) (hexText v ∷ []) (letter-lacks 0x49 refl, (octets-lack v, tt))
     (omega (arith, one-size 0x49 (hexText v), length-hexText v, f .0))

@@ -23,7 +23,7 @@ use Rattle.lines.specs.declared.field.Named.{Named}
 use Rattle.lines.specs.declared.field.Named.the-variants as named
 use Rattle.lines.specs.declared.record.Parsed.{Parsed}
 use Rattle.lines.specs.declared.record.Parsed.the-variants as code
-use Rattle.lines.specs.Record.{Load, Open, Voice, Announce, Malformed, fieldAt, areFields, isName, isNumber, isKey, octetsIn, load, opened, join, voice, announce, alone, recordRoom, recordIn, countIn}
+use Rattle.lines.specs.Record.{Load, Open, Voice, Announce, Malformed, mostNumber, fieldAt, areFields, isName, isNumber, isKey, octetsIn, load, opened, join, voice, announce, alone, recordRoom, recordIn, countIn}
 use Rattle.lines.specs.Fields.{left, IsNamed, lastHex}
 use Rattle.lines.proofs.FieldLaws.{left-none, left-some, lone-rest}
 
@@ -112,14 +112,14 @@ module _ (line : List ℕ) (cursor : Cursor) (b : Bool) (m : List ℕ) (last : L
 -- ---- a mask and a frame
 
 module _ (line : List ℕ) (cursor : Cursor) where
-  pub voice-no-mask : numberIn (fieldAt (left line cursor) 0) ≡ Number.Not → Malformed ≡ voice (left line cursor)
-  voice-no-mask e = rw (number-not (fieldAt (left line cursor) 0) e, and-false-r)
+  pub voice-no-mask : numberIn mostNumber (fieldAt (left line cursor) 0) ≡ Number.Not → Malformed ≡ voice (left line cursor)
+  voice-no-mask e = rw (number-not mostNumber (fieldAt (left line cursor) 0) e, and-false-r)
 
   module _ (next : Cursor) (rest : left line next ≡ drop 1 (left line cursor)) (b : Bool) (m : List ℕ) (last : Last line next frameOctets b m) where
-    pub voice-done : (mask : ℕ) → numberIn (fieldAt (left line cursor) 0) ≡ Number.Of mask → b ≡ true → (tail : List ℕ)
+    pub voice-done : (mask : ℕ) → numberIn mostNumber (fieldAt (left line cursor) 0) ≡ Number.Of mask → b ≡ true → (tail : List ℕ)
         → Voice mask (take frameOctets (m ++ tail)) ≡ voice (left line cursor)
     voice-done mask n e tail =
-        let is = number-of (fieldAt (left line cursor) 0) mask n in
+        let is = number-of mostNumber (fieldAt (left line cursor) 0) mask n in
         rw (last-fields line (left line cursor) next 1 rest frameOctets b m last e, is .0, last-hex line (left line cursor) next 1 rest frameOctets b m last e, is .1)
         (ap (Voice (decimalValue (fieldAt (left line cursor) 0))) (last-kept line (left line cursor) next 1 rest frameOctets b m last e tail))
 

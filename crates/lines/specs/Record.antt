@@ -8,7 +8,7 @@ use lib.ListN.{length, getD, take, drop}
 use Rattle.octets.specs.Tests.{pick}
 use Rattle.octets.specs.Bits.{Octets}
 use Rattle.text.specs.Parted.{tabOctet, parted}
-use Rattle.text.specs.Decimal.{mostNumber, isDecimal, decimalValue, decimal}
+use Rattle.text.specs.Decimal.{isDecimal, decimalValue, decimal}
 use Rattle.text.specs.Hex.{isHex, hexOctets, hexText}
 use Rattle.sizes.specs.Ciphers.{keyRoom, vectorOctets}
 use Rattle.sizes.specs.Frame.{frameOctets}
@@ -34,6 +34,10 @@ pub data Record : Type 0 where
   Lost End Malformed : Record
 
 -- ---- read
+
+-- the most that a number is
+abbrev pub mostNumber : ℕ
+mostNumber = 255
 
 abbrev pub isNumber : List ℕ → Bool
 isNumber = isDecimal mostNumber

@@ -66,16 +66,19 @@ pub struct Numbered {
     pub next: Cursor,
 }
 
-pub fn next_number(line: &[u8], cursor: Cursor) -> Numbered
+// The most that a number of a record is.
+pub const MOST_NUMBER: u32 = 255;
+
+pub fn next_number(line: &[u8], cursor: Cursor, most: u32) -> Numbered
     requires { ⌜ cursor .at ≤ length (now line) ⌝ }
-    ensures { λ r. ⌜ r .number ≡ numberIn (fieldAt (left (now (line .entry)) cursor) 0) ⌝ }
+    ensures { λ r. ⌜ r .number ≡ numberIn most (fieldAt (left (now (line .entry)) cursor) 0) ⌝ }
     ensures { λ r. ⌜ (left (now (line .entry)) (r .next) ≡ drop 1 (left (now (line .entry)) cursor)) × (r .next .at ≤ length (now (line .entry))) ⌝ }
 {
     let field = next_field(line, cursor);
     let start = field.start;
     let end = field.end;
     let next = field.next;
-    let number = read_number(&line[start..end]);
+    let number = read_number(&line[start..end], most);
     Numbered { number, next }
 }
 
@@ -89,9 +92,9 @@ pub fn name(line: &[u8], cursor: Cursor) -> Named
     requires { ⌜ cursor .at ≤ length (now line) ⌝ }
     ensures { λ r. ⌜ IsNamed (now (line .entry)) (left (now (line .entry)) cursor) r ⌝ }
 {
-    let first = next_number(line, cursor);
+    let first = next_number(line, cursor, MOST_NUMBER);
     let after = first.next;
-    let second = next_number(line, after);
+    let second = next_number(line, after, MOST_NUMBER);
     let next = second.next;
     let cipher_field = first.number;
     let id_field = second.number;
@@ -101,7 +104,11 @@ pub fn name(line: &[u8], cursor: Cursor) -> Named
     let Number::Of(id) = id_field else {
         return Named::Not;
     };
-    Named::By { cipher, id, next }
+    Named::By {
+        cipher: cipher as u8,
+        id: id as u8,
+        next,
+    }
 }
 
 // Reads the last field into lent octets, and answers whether it is the hex of as many. It is the rest of the line, which is no hex where

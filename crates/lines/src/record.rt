@@ -7,6 +7,7 @@ ghost use Rattle.octets.specs.Tests.{pick};
 ghost use Rattle.lines.specs.Fields.{left};
 ghost use Rattle.lines.specs.Record.{recordRoom, countIn, recordIn, load, opened, join, voice, announce, lineOf};
 use crate::field::Cursor;
+use crate::field::MOST_NUMBER;
 use crate::field::Named;
 use crate::field::last_hex;
 use crate::field::name;
@@ -101,14 +102,14 @@ fn voice(line: &[u8], cursor: Cursor, octets: &mut [u8]) -> Parsed
     ensures { λ r. ⌜ recordIn r (now (octets .exit)) ≡ voice (left (now (line .entry)) cursor) ⌝ }
     ensures { λ r. ⌜ countIn r ≤ recordRoom ⌝ }
 {
-    let first = next_number(line, cursor);
+    let first = next_number(line, cursor, MOST_NUMBER);
     let mask_field = first.number;
     let next = first.next;
     let Number::Of(mask) = mask_field else {
         return Parsed::Malformed;
     };
     if last_hex(line, next, &mut octets[..FRAME_OCTETS]) {
-        return Parsed::Voice { mask };
+        return Parsed::Voice { mask: mask as u8 };
     }
     Parsed::Malformed
 }

@@ -1,7 +1,7 @@
 -- An output line, written part after part over lent octets.
 use mathlib.Core.Path.{_≡_, refl, sym, ap, _∙_}
 use mathlib.Core.List.{List, [], _∷_, _++_, append-assoc, append-nil}
-use Prim.Native.Nat.{ℕ, _+_, _-_, _*_, _≤_}
+use Prim.Native.Nat.{ℕ, _+_, _-_, _*_, _≤_, _<_}
 use native.Mathlib.Nat.{zero-add}
 use native.Mathlib.Omega.{arith}
 use lib.ListN.{length, take, drop, length-append, length-drop}
@@ -59,14 +59,14 @@ module _ (d : List ℕ) (at : ℕ) (p : List ℕ) where
   pub laid-text : (text : List ℕ) → p ≡ text → Laid (length text) d at text (putMid at (at + length text - at) d p) (at + length text)
   laid-text text e = record { within = omega arith; ends = refl; octets = put-replaced d p at (length text) ∙ rw e }
 
-  pub laid-number : (n r : ℕ) → at ≤ length d → r ≡ length (decimal n)
+  pub laid-number : (n r : ℕ) → n < 1000 → at ≤ length d → r ≡ length (decimal n)
       → p ≡ replaced (midOf at (length d - at) d) 0 (length (decimal n)) (decimal n) → Laid numberRoom d at (decimal n) (putMid at (length d - at) d p) (at + r)
   unfolding replaced
-  laid-number n r h q e =
+  laid-number n r m h q e =
       let rest : take (length d - at) (drop at d) ≡ drop at d = take-all (length d - at) (drop at d) (omega (arith, length-drop at d)) in
       let none : drop (length d - at) (drop at d) ≡ [] = post-is at (length d) d h ∙ drop-length d in
       record {
-        within = decimal-size n .1;
+        within = decimal-size 2 n m;
         ends = ap (λ (k : ℕ). at + k) q;
         octets = rw (e, none, rest, zero-add (length (decimal n)), drop-drop (length (decimal n)) at d, append-nil);
       }

@@ -27,7 +27,7 @@ fn put_number(out: &mut [u8], at: usize, n: u8) -> usize
     requires { ⌜ at + numberRoom ≤ length (now out) ⌝ }
     ensures { λ r. ⌜ Laid numberRoom (now (out .entry)) at (decimal n) (now (out .exit)) r ⌝ }
 {
-    at + put_decimal(&mut out[at..], n)
+    at + put_decimal(&mut out[at..], n as u32)
 }
 
 fn put_octets(out: &mut [u8], at: usize, octets: &[u8]) -> usize

@@ -1,51 +1,35 @@
--- Decimal numbers: read digit by digit, written, and that reading takes back what writing made.
-use mathlib.Core.Path.{_≡_, refl, sym, _∙_}
+-- Decimal numbers: read digit by digit, written from the last digit on, and that reading takes back what writing made.
+use mathlib.Core.Path.{_≡_, refl, sym, ap, _∙_}
 use mathlib.Core.Bool.{Bool, true, false, _||_, or-true, not, true≢false}
-use mathlib.Core.List.{List, [], _∷_}
-use Prim.Native.Nat.{ℕ, zero, suc, _+_, _-_, _*_, _/_, _%_, _≤_, _<_}
-use native.Mathlib.Nat.{mod-eq-of-lt}
-use native.Mathlib.Decide.{ℕ-discrete}
+use mathlib.Core.List.{List, [], _∷_, _++_}
+use Prim.Native.Nat.{ℕ, zero, suc, _+_, _-_, _*_, _/_, _%_, _^_, _≤_, _<_}
+use native.Mathlib.Nat.{mod-eq-of-lt, pow-suc}
+use native.Mathlib.Decide.{ℕ-discrete, decLt}
 use native.Mathlib.Numerals.{add-one}
 use native.Mathlib.Omega.{arith}
 use lib.Dec.{ltb, leb, eqb}
-use lib.ListN.{length, getD, set}
+use lib.ListN.{length, getD, set, take, length-append, length-set, List·getD-append}
+use lib.Seq.{take-at, take-take, take-suc, take-length, getD-at, getD-take, getD-set-same, getD-set-other, length-take-le, ext-getD}
 use borrow.Author.Tests.{lt-ltb, le-ltb, le-leb, lt-leb, leb-true, eq-eqb, ne-eqb}
 use Rattle.octets.specs.Tests.{pick, allBelow}
 use Rattle.octets.specs.Lists.{replaced}
-use Rattle.octets.proofs.TestLaws.{every-fails, every-at, all-none, all-at, all-more, all-fails, agree}
+use Rattle.octets.proofs.TestLaws.{every-fails, every-at, all-none, all-at, all-more, all-fails, all-intro}
+use Rattle.octets.proofs.Parts.{replaced-length, replaced-in, replaced-after}
 use Rattle.text.specs.declared.decimal.Number.the-variants.{Of, Not}
-use Rattle.text.specs.Decimal.{isDigit, valueTo, decimalValue, isDecimal, mostNumber, numberIn, decimal}
+use Rattle.text.specs.Decimal.{isDigit, valueTo, decimalValue, isDecimal, numberIn, lastDigits, decimal}
 use Rattle.text.proofs.PartedLaws.{Lacks}
 use Rattle.text.proofs.RangeLaws.{inside, below, above, least, most}
 
 -- ---- a number read
 
 -- a loop that has read the first i digits, worth v
-pub record Reading (xs : List ℕ) (i v : ℕ) : Type 0 where
+pub record Reading (limit : ℕ) (xs : List ℕ) (i v : ℕ) : Type 0 where
   pub within : i ≤ length xs
   pub digits : allBelow (λ k. isDigit (getD xs k 0)) i ≡ true
   pub worth : v ≡ valueTo xs i
-  pub small : v ≤ 255
+  pub small : v ≤ limit
 
 module _ (xs : List ℕ) where
-  pub reading-start : Reading xs 0 0
-  unfolding valueTo
-  reading-start = record { within = omega arith; digits = all-none (λ k. isDigit (getD xs k 0)); worth = refl; small = omega arith }
-
-  module _ (i v : ℕ) (r : Reading xs i v) where
-    more-worth : 10 * v + (getD xs i 0 - 48) ≡ valueTo xs (i + 1)
-    unfolding valueTo
-    more-worth = rw (add-one, r .worth)
-
-    pub reading-more : i < length xs → 48 ≤ getD xs i 0 → getD xs i 0 ≤ 57 → 10 * v + (getD xs i 0 - 48) ≤ 255 → Reading xs (i + 1) (10 * v + (getD xs i 0 - 48))
-    reading-more l a b m =
-        record {
-          within = omega arith;
-          digits = all-more (λ k. isDigit (getD xs k 0)) i (r .digits) (inside 48 57 (getD xs i 0) a b);
-          worth = more-worth;
-          small = m;
-        }
-
   -- more digits are worth no less
   value-grows : (i k : ℕ) → valueTo xs i ≤ valueTo xs (k + i)
   unfolding valueTo
@@ -55,197 +39,356 @@ module _ (xs : List ℕ) where
   abbrev digitAt : ℕ → Bool
   digitAt i = isDigit (getD xs i 0)
 
-  abbrev tests : ℕ → List Bool
-  tests most = leb 1 (length xs) ∷ allBelow digitAt (length xs) ∷ (eqb (length xs) 1 || not (eqb (getD xs 0 0) 48)) ∷ leb (decimalValue xs) most ∷ []
-
-  refused : (n : ℕ) → getD (tests mostNumber) n true ≡ false → Not ≡ numberIn xs
-  unfolding numberIn isDecimal
-  refused n e = rw (sym (every-fails (tests mostNumber) n e))
-
-  pub refused-empty : length xs ≡ 0 → Not ≡ numberIn xs
-  refused-empty e = refused 0 (lt-leb 1 (length xs) (omega arith))
-
-  pub refused-zero : 1 < length xs → getD xs 0 0 ≡ 48 → Not ≡ numberIn xs
-  refused-zero l e = refused 2 (rw (ne-eqb (length xs) 1 (λ q. omega arith), eq-eqb (getD xs 0 0) 48 e))
-
-  pub refused-low : (i : ℕ) → i < length xs → getD xs i 0 < 48 → Not ≡ numberIn xs
-  refused-low i l h = refused 1 (all-fails digitAt (length xs) i l (below 48 57 (getD xs i 0) h))
-
-  pub refused-high : (i : ℕ) → i < length xs → 57 < getD xs i 0 → Not ≡ numberIn xs
-  refused-high i l h = refused 1 (all-fails digitAt (length xs) i l (above 48 57 (getD xs i 0) h))
-
-  pub refused-large : (i v : ℕ) → Reading xs i v → i < length xs → 255 < 10 * v + (getD xs i 0 - 48) → Not ≡ numberIn xs
-  refused-large i v r l h =
-      let e : length xs - (i + 1) + (i + 1) ≡ length xs = omega arith in
-      let g : valueTo xs (i + 1) ≤ valueTo xs (length xs) = rw e at (value-grows (i + 1) (length xs - (i + 1))) in
-      refused 3 (lt-leb (decimalValue xs) 255 (omega (arith, more-worth i v r)))
-
   -- a first digit that is alone, or not 0
-  pub alone : length xs ≤ 1 → 1 ≤ length xs → (eqb (length xs) 1 || not (eqb (getD xs 0 0) 48)) ≡ true
+  abbrev pub fewest : Bool
+  fewest = eqb (length xs) 1 || not (eqb (getD xs 0 0) 48)
+
+  pub alone : length xs ≤ 1 → 1 ≤ length xs → fewest ≡ true
   alone h l = rw (eq-eqb (length xs) 1 (omega arith))
 
-  pub leading : (getD xs 0 0 ≡ 48 → ⊥) → (eqb (length xs) 1 || not (eqb (getD xs 0 0) 48)) ≡ true
+  pub leading : (getD xs 0 0 ≡ 48 → ⊥) → fewest ≡ true
   leading h = rw (ne-eqb (getD xs 0 0) 48 h) (or-true (eqb (length xs) 1))
 
-  pub taken : (i v : ℕ) → Reading xs i v → length xs ≤ i → 1 ≤ length xs → (eqb (length xs) 1 || not (eqb (getD xs 0 0) 48)) ≡ true → Of v ≡ numberIn xs
+module _ (limit : ℕ) (xs : List ℕ) where
+  abbrev tests : List Bool
+  tests = leb 1 (length xs) ∷ allBelow (digitAt xs) (length xs) ∷ fewest xs ∷ leb (decimalValue xs) limit ∷ []
+
+  pub reading-start : Reading limit xs 0 0
+  unfolding valueTo
+  reading-start = record { within = omega arith; digits = all-none (digitAt xs); worth = refl; small = omega arith }
+
+  module _ (i v : ℕ) (r : Reading limit xs i v) where
+    more-worth : 10 * v + (getD xs i 0 - 48) ≡ valueTo xs (i + 1)
+    unfolding valueTo
+    more-worth = rw (add-one, r .worth)
+
+    pub reading-more : i < length xs → 48 ≤ getD xs i 0 → getD xs i 0 ≤ 57 → 10 * v + (getD xs i 0 - 48) ≤ limit
+        → Reading limit xs (i + 1) (10 * v + (getD xs i 0 - 48))
+    reading-more l a b m =
+        record {
+          within = omega arith;
+          digits = all-more (digitAt xs) i (r .digits) (inside 48 57 (getD xs i 0) a b);
+          worth = more-worth;
+          small = m;
+        }
+
+  refused : (n : ℕ) → getD tests n true ≡ false → Not ≡ numberIn limit xs
   unfolding numberIn isDecimal
+  refused n e = rw (sym (every-fails tests n e))
+
+  pub refused-empty : length xs ≡ 0 → Not ≡ numberIn limit xs
+  refused-empty e = refused 0 (lt-leb 1 (length xs) (omega arith))
+
+  pub refused-zero : 1 < length xs → getD xs 0 0 ≡ 48 → Not ≡ numberIn limit xs
+  refused-zero l e = refused 2 (rw (ne-eqb (length xs) 1 (λ q. omega arith), eq-eqb (getD xs 0 0) 48 e))
+
+  pub refused-low : (i : ℕ) → i < length xs → getD xs i 0 < 48 → Not ≡ numberIn limit xs
+  refused-low i l h = refused 1 (all-fails (digitAt xs) (length xs) i l (below 48 57 (getD xs i 0) h))
+
+  pub refused-high : (i : ℕ) → i < length xs → 57 < getD xs i 0 → Not ≡ numberIn limit xs
+  refused-high i l h = refused 1 (all-fails (digitAt xs) (length xs) i l (above 48 57 (getD xs i 0) h))
+
+  pub refused-large : (i v : ℕ) → Reading limit xs i v → i < length xs → limit < 10 * v + (getD xs i 0 - 48) → Not ≡ numberIn limit xs
+  refused-large i v r l h =
+      let e : length xs - (i + 1) + (i + 1) ≡ length xs = omega arith in
+      let g : valueTo xs (i + 1) ≤ valueTo xs (length xs) = rw e at (value-grows xs (i + 1) (length xs - (i + 1))) in
+      refused 3 (lt-leb (decimalValue xs) limit (omega (arith, more-worth i v r)))
+
+  -- digits with no needless 0 before them, worth no more than the limit
+  pub is-decimal : 1 ≤ length xs → allBelow (digitAt xs) (length xs) ≡ true → fewest xs ≡ true → decimalValue xs ≤ limit → isDecimal limit xs ≡ true
+  unfolding isDecimal
+  is-decimal l d z m = rw (le-leb 1 (length xs) l, d, z, le-leb (decimalValue xs) limit m)
+
+  pub taken : (i v : ℕ) → Reading limit xs i v → length xs ≤ i → 1 ≤ length xs → fewest xs ≡ true → Of v ≡ numberIn limit xs
+  unfolding numberIn
   taken i v r h l z =
       let q : i ≡ length xs = omega (arith, r .within) in
       let w : v ≡ decimalValue xs = rw q at (r .worth) in
-      rw (le-leb 1 (length xs) l, rw q at (r .digits), z, le-leb (decimalValue xs) 255 (omega (arith, r .small)), w)
+      rw (is-decimal l (rw q at (r .digits)) z (omega (arith, r .small)), w)
 
-  pub decimal-lacks : (most sep : ℕ) → sep < 48 → isDecimal most xs ≡ true → Lacks sep xs
-  unfolding isDecimal
-  decimal-lacks most sep h e k l =
-      let digit = all-at digitAt (length xs) k l (every-at (tests most) 1 e) in
-      ne-eqb (getD xs k 0) sep (λ q. omega (arith, least 48 57 (getD xs k 0) digit))
-
-module _ (xs : List ℕ) where
-  by-test : (b : Bool) → isDecimal mostNumber xs ≡ b → numberIn xs ≡ pick b (Of (decimalValue xs)) Not
+  by-test : (b : Bool) → isDecimal limit xs ≡ b → numberIn limit xs ≡ pick b (Of (decimalValue xs)) Not
   unfolding numberIn
   by-test b e = rw e
 
   -- what an answer tells of a field
-  pub number-of : (v : ℕ) → numberIn xs ≡ Of v → (isDecimal mostNumber xs ≡ true) × (v ≡ decimalValue xs)
-  number-of v n = go (isDecimal mostNumber xs) refl
+  pub number-of : (v : ℕ) → numberIn limit xs ≡ Of v → (isDecimal limit xs ≡ true) × (v ≡ decimalValue xs)
+  number-of v n = go (isDecimal limit xs) refl
     where
-      go : (b : Bool) → isDecimal mostNumber xs ≡ b → (isDecimal mostNumber xs ≡ true) × (v ≡ decimalValue xs)
+      go : (b : Bool) → isDecimal limit xs ≡ b → (isDecimal limit xs ≡ true) × (v ≡ decimalValue xs)
       go true e = let m = by-test true e in (e, cc)
       go false e = let m = by-test false e in absurd (let z : _≡_ {A = ℕ} 0 1 = cc in omega arith)
 
-  pub number-not : numberIn xs ≡ Not → isDecimal mostNumber xs ≡ false
-  number-not n = go (isDecimal mostNumber xs) refl
+  pub number-not : numberIn limit xs ≡ Not → isDecimal limit xs ≡ false
+  number-not n = go (isDecimal limit xs) refl
     where
-      go : (b : Bool) → isDecimal mostNumber xs ≡ b → isDecimal mostNumber xs ≡ false
+      go : (b : Bool) → isDecimal limit xs ≡ b → isDecimal limit xs ≡ false
       go true e = let m = by-test true e in absurd (let z : _≡_ {A = ℕ} 0 1 = cc in omega arith)
       go false e = e
 
--- ---- a number written
+  module _ (is : isDecimal limit xs ≡ true) where
+    is-digit : (k : ℕ) → k < length xs → (48 ≤ getD xs k 0) × (getD xs k 0 ≤ 57)
+    unfolding isDecimal
+    is-digit k l =
+        let d = all-at (digitAt xs) (length xs) k l (every-at tests 1 is) in
+        (least 48 57 (getD xs k 0) d, most 48 57 (getD xs k 0) d)
 
-pub decimal-one : (n : ℕ) → n < 10 → decimal n ≡ (48 + n) ∷ []
-unfolding decimal
-decimal-one n h = rw (lt-ltb n 10 h, mod-eq-of-lt h)
+    some-digit : 1 ≤ length xs
+    unfolding isDecimal
+    some-digit = leb-true 1 (length xs) (every-at tests 0 is)
 
-pub decimal-two : (n : ℕ) → 10 ≤ n → n < 100 → decimal n ≡ (48 + n / 10) ∷ (48 + n % 10) ∷ []
-unfolding decimal
-decimal-two n h l = let e : n / 10 % 10 ≡ n / 10 = omega arith in rw (le-ltb n 10 h, lt-ltb n 100 l, e)
+    no-zero : 1 < length xs → getD xs 0 0 ≡ 48 → ⊥
+    unfolding isDecimal
+    no-zero l e = true≢false (sym (every-at tests 2 is) ∙ rw (ne-eqb (length xs) 1 (λ q. omega arith), eq-eqb (getD xs 0 0) 48 e))
 
-pub decimal-three : (n : ℕ) → 100 ≤ n → n < 1000 → decimal n ≡ (48 + n / 100) ∷ (48 + n / 10 % 10) ∷ (48 + n % 10) ∷ []
-unfolding decimal
-decimal-three n h l =
-    let e : n / 100 % 10 ≡ n / 100 = omega arith in
-    rw (le-ltb n 10 (omega arith), le-ltb n 100 h, e)
+    pub decimal-most : decimalValue xs ≤ limit
+    unfolding isDecimal
+    decimal-most = leb-true (decimalValue xs) limit (every-at tests 3 is)
 
--- a run of stores at the start of a list
-pub stored-one : (out : List ℕ) (a : ℕ) → 1 ≤ length out → set out 0 a ≡ replaced out 0 1 (a ∷ [])
-unfolding replaced
-stored-one [] a l = absurd (omega arith)
-stored-one (x ∷ out) a l = refl
+    pub decimal-lacks : (sep : ℕ) → sep < 48 → Lacks sep xs
+    decimal-lacks sep h k l = ne-eqb (getD xs k 0) sep (λ q. omega (arith, is-digit k l))
 
-pub stored-two : (out : List ℕ) (a b : ℕ) → 2 ≤ length out → set (set out 0 a) 1 b ≡ replaced out 0 2 (a ∷ b ∷ [])
-unfolding replaced
-stored-two [] a b l = absurd (omega arith)
-stored-two (x ∷ []) a b l = absurd (omega arith)
-stored-two (x ∷ y ∷ out) a b l = refl
+-- a number that was read is within the limit
+pub number-most : (limit : ℕ) (xs : List ℕ) (v : ℕ) → Of v ≡ numberIn limit xs → v ≤ limit
+number-most limit xs v e = let is = number-of limit xs v (sym e) in omega (arith, decimal-most limit xs (is .0))
 
-pub stored-three : (out : List ℕ) (a b c : ℕ) → 3 ≤ length out → set (set (set out 0 a) 1 b) 2 c ≡ replaced out 0 3 (a ∷ b ∷ c ∷ [])
-unfolding replaced
-stored-three [] a b c l = absurd (omega arith)
-stored-three (x ∷ []) a b c l = absurd (omega arith)
-stored-three (x ∷ y ∷ []) a b c l = absurd (omega arith)
-stored-three (x ∷ y ∷ z ∷ out) a b c l = refl
+-- ---- a number written: the digits of its tenth part, where there are any, and its remainder
 
-pub written : (n : ℕ) (xs out d : List ℕ) → decimal n ≡ xs → d ≡ replaced out 0 (length xs) xs
-    → (length xs ≡ length (decimal n)) × (d ≡ replaced out 0 (length (decimal n)) (decimal n))
-written n xs out d e p = rw e (refl, p)
+-- more than enough digits are no more
+enough : (j k n : ℕ) → n < j → n < k → lastDigits j n ≡ lastDigits k n
+unfolding lastDigits
+enough zero k n h l = absurd (omega arith)
+enough (suc j) zero n h l = absurd (omega arith)
+enough (suc j) (suc k) n h l = go (decLt n 10) (λ s. enough j k (n / 10) (omega arith) (omega arith))
+  where
+    go : Dec (n < 10) → (10 ≤ n → lastDigits j (n / 10) ≡ lastDigits k (n / 10)) → pick (ltb n 10) [] (lastDigits j (n / 10)) ++ ((48 + n % 10) ∷ []) ≡ pick (ltb n 10) [] (lastDigits k (n / 10)) ++ ((48 + n % 10) ∷ [])
+    go (yes s) tenth = rw (lt-ltb n 10 s)
+    go (no s) tenth = let l : 10 ≤ n = omega arith in rw (le-ltb n 10 l, tenth l)
+
+module _ (n : ℕ) where
+  pub decimal-one : n < 10 → decimal n ≡ (48 + n) ∷ []
+  unfolding decimal lastDigits
+  decimal-one h = rw (lt-ltb n 10 h, mod-eq-of-lt h)
+
+  pub decimal-more : 10 ≤ n → decimal n ≡ decimal (n / 10) ++ ((48 + n % 10) ∷ [])
+  unfolding decimal lastDigits
+  decimal-more h = rw (le-ltb n 10 h, enough n (suc (n / 10)) (n / 10) (omega arith) (omega arith))
+
+  longer : 10 ≤ n → length (decimal n) ≡ length (decimal (n / 10)) + 1
+  longer h = rw (decimal-more h) (length-append (decimal (n / 10)) ((48 + n % 10) ∷ []))
+
+-- what holds of one digit, and of a number where it holds of its tenth part, holds of each
+module _ (P : ℕ → Type 0) (one : (n : ℕ) → n < 10 → P n) (more : (n : ℕ) → 10 ≤ n → P (n / 10) → P n) where
+  below-bound : (k n : ℕ) → n < k → P n
+  below-bound zero n h = absurd (omega arith)
+  below-bound (suc k) n h = go (decLt n 10) (λ s. below-bound k (n / 10) (omega arith))
+    where
+      go : Dec (n < 10) → (10 ≤ n → P (n / 10)) → P n
+      go (yes s) tenth = one n s
+      go (no s) tenth = let l : 10 ≤ n = omega arith in more n l (tenth l)
+
+  by-digits : (n : ℕ) → P n
+  by-digits n = below-bound (suc n) n (omega arith)
+
+-- ---- how many digits
+
+pub decimal-some : (n : ℕ) → 1 ≤ length (decimal n)
+decimal-some n = go (decLt n 10)
+  where
+    go : Dec (n < 10) → 1 ≤ length (decimal n)
+    go (yes s) = rw (decimal-one n s) (omega arith)
+    go (no s) = omega (arith, longer n (omega arith))
+
+-- a number below 10, 100, 1,000 .. has at most 1, 2, 3 .. digits
+pub decimal-size : (k n : ℕ) → n < 10 ^ suc k → length (decimal n) ≤ suc k
+decimal-size zero n h = rw (decimal-one n h) (omega arith)
+decimal-size (suc k) n h = go (decLt n 10) (decimal-size k (n / 10) (omega (arith, pow-suc 10 (suc k))))
+  where
+    go : Dec (n < 10) → length (decimal (n / 10)) ≤ suc k → length (decimal n) ≤ suc (suc k)
+    go (yes s) tenth = rw (decimal-one n s) (omega arith)
+    go (no s) tenth = omega (arith, longer n (omega arith))
+
+many-digits : (n : ℕ) → 2 ≤ length (decimal n) → 10 ≤ n
+many-digits n h = go (decLt n 10)
+  where
+    go : Dec (n < 10) → 10 ≤ n
+    go (yes s) = absurd (omega (arith, ap length (decimal-one n s)))
+    go (no s) = omega arith
+
+-- the last one
+last-digit : (n k : ℕ) → length (decimal n) ≡ suc k → getD (decimal n) k 0 ≡ 48 + n % 10
+last-digit n k e = go (decLt n 10)
+  where
+    go : Dec (n < 10) → getD (decimal n) k 0 ≡ 48 + n % 10
+    go (yes s) = let z : k ≡ 0 = omega (arith, ap length (decimal-one n s)) in rw (z, decimal-one n s, mod-eq-of-lt s)
+    go (no s) =
+        let l : 10 ≤ n = omega arith in
+        rw (decimal-more n l) (getD-at (decimal (n / 10)) (48 + n % 10) [] 0 k (omega (arith, longer n l)))
+
+-- a loop that has taken digits off
+pub record Counting (n count rest : ℕ) : Type 0 where
+  pub counted : count + length (decimal rest) ≡ length (decimal n) + 1
+
+pub counting-start : (n : ℕ) → Counting n 1 n
+counting-start n = record { counted = omega arith }
+
+pub counting-more : {n count rest : ℕ} → Counting n count rest → 9 < rest → Counting n (count + 1) (rest / 10)
+counting-more {n} {count} {rest} c h = record { counted = omega (arith, c .counted, longer rest (omega arith)) }
+
+pub counting-few : {n count rest : ℕ} → Counting n count rest → n < 4294967296 → count ≤ 10
+counting-few {n} {count} {rest} c h = omega (arith, c .counted, decimal-some rest, decimal-size 9 n (omega arith))
+
+pub counting-done : {n count rest : ℕ} → Counting n count rest → rest ≤ 9 → count ≡ length (decimal n)
+counting-done {n} {count} {rest} c h = omega (arith, c .counted, ap length (decimal-one rest (omega arith)))
+
+-- ---- from the last digit on
+
+-- a loop that has written the digits from a place on; those before it are the rest's
+pub record Writing (n : ℕ) (d₀ d : List ℕ) (at rest : ℕ) : Type 0 where
+  pub within : at ≤ length (decimal n)
+  pub size : length d ≡ length d₀
+  pub before : 1 ≤ at → take at (decimal n) ≡ decimal rest
+  pub done : (j : ℕ) → at ≤ j → j < length (decimal n) → getD d j 0 ≡ getD (decimal n) j 0
+  pub after : (j : ℕ) → length (decimal n) ≤ j → getD d j 0 ≡ getD d₀ j 0
+
+module _ (n : ℕ) (d₀ : List ℕ) where
+  pub writing-start : Writing n d₀ d₀ (length (decimal n)) n
+  writing-start =
+      record { within = omega arith; size = refl; before = λ h. take-length (decimal n); done = λ j h l. absurd (omega arith); after = λ j h. refl }
+
+  module _ (d : List ℕ) (at rest : ℕ) (fits : length (decimal n) ≤ length d₀) (w : Writing n d₀ d at rest) where
+    pub writing-more : 0 < at → Writing n d₀ (set d (at - 1) (48 + rest % 10)) (at - 1) (rest / 10)
+    writing-more h =
+        record {
+          within = omega (arith, w .within);
+          size = length-set d (at - 1) (48 + rest % 10) ∙ w .size;
+          before = λ l. tenth l;
+          done = λ j l m. here j l m (ℕ-discrete j (at - 1));
+          after = λ j l. getD-set-other d (at - 1) j (48 + rest % 10) 0 (λ q. omega (arith, w .within)) ∙ w .after j l;
+        }
+      where
+        long : length (decimal rest) ≡ at
+        long = ap length (sym (w .before h)) ∙ length-take-le at (decimal n) (w .within)
+
+        tenth : 1 ≤ at - 1 → take (at - 1) (decimal n) ≡ decimal (rest / 10)
+        tenth l =
+            let many = many-digits rest (omega (arith, long)) in
+            sym (take-take (at - 1) at (decimal n) (omega arith))
+            ∙ rw (w .before h, decimal-more rest many) (take-at (decimal (rest / 10)) ((48 + rest % 10) ∷ []) (at - 1) (omega (arith, long, longer rest many)))
+
+        here : (j : ℕ) → at - 1 ≤ j → j < length (decimal n) → Dec (j ≡ at - 1) → getD (set d (at - 1) (48 + rest % 10)) j 0 ≡ getD (decimal n) j 0
+        here j l m (yes e) =
+            rw e
+            (getD-set-same d (at - 1) (48 + rest % 10) 0 (omega (arith, w .within, w .size))
+            ∙ sym (sym (getD-take at (decimal n) (at - 1) 0 (omega arith)) ∙ rw (w .before h) (last-digit rest (at - 1) (omega (arith, long)))))
+        here j l m (no e) = getD-set-other d (at - 1) j (48 + rest % 10) 0 e ∙ w .done j (omega arith) m
+
+    pub writing-done : at ≤ 0 → d ≡ replaced d₀ 0 (length (decimal n)) (decimal n)
+    writing-done h = ext-getD 0 d (replaced d₀ 0 (length (decimal n)) (decimal n)) (w .size ∙ sym size) (λ j l. by j (decLt j (length (decimal n))))
+      where
+        size : length (replaced d₀ 0 (length (decimal n)) (decimal n)) ≡ length d₀
+        size = replaced-length d₀ (decimal n) 0 (length (decimal n)) refl (omega arith)
+
+        by : (j : ℕ) → Dec (j < length (decimal n)) → getD d j 0 ≡ getD (replaced d₀ 0 (length (decimal n)) (decimal n)) j 0
+        by j (yes l) = let z : 0 + j ≡ j = omega arith in w .done j (omega arith) l ∙ sym (rw z at (replaced-in d₀ (decimal n) 0 (length (decimal n)) refl (omega arith) j l))
+        by j (no l) = w .after j (omega arith) ∙ sym (replaced-after d₀ (decimal n) 0 (length (decimal n)) refl (omega arith) j (omega arith))
 
 -- ---- what was written is read
 
-pub decimal-is : (n : ℕ) → n ≤ 255 → isDecimal mostNumber (decimal n) ≡ true
-unfolding isDecimal valueTo decimal allBelow
-decimal-is n h = all-at (λ n. isDecimal mostNumber (decimal n)) 256 n (omega arith) refl
+value-front : (xs ys : List ℕ) (n : ℕ) → n ≤ length xs → valueTo (xs ++ ys) n ≡ valueTo xs n
+unfolding valueTo
+value-front xs ys zero h = refl
+value-front xs ys (suc n) h = rw (value-front xs ys n (omega arith), List·getD-append xs ys 0 n (omega arith))
 
-pub decimal-round : (n : ℕ) → n ≤ 255 → decimalValue (decimal n) ≡ n
-unfolding valueTo decimal allBelow
-decimal-round n h = agree (λ n. decimalValue (decimal n)) (λ n. n) 256 refl n (omega arith)
+-- one digit more
+module _ (xs : List ℕ) (d : ℕ) where
+  snoc-long : length (xs ++ (d ∷ [])) ≡ suc (length xs)
+  snoc-long = length-append xs (d ∷ []) ∙ omega arith
 
-pub decimal-size : (n : ℕ) → (1 ≤ length (decimal n)) × (length (decimal n) ≤ 3)
-unfolding decimal
-decimal-size n = go (ltb n 10) (ltb n 100)
+  value-snoc : decimalValue (xs ++ (d ∷ [])) ≡ 10 * decimalValue xs + (d - 48)
+  unfolding valueTo
+  value-snoc = rw (snoc-long, value-front xs (d ∷ []) (length xs) (omega arith), getD-at xs d [] 0 (length xs) refl)
+
+value-one : (n : ℕ) → n < 10 → decimalValue (decimal n) ≡ n
+unfolding valueTo
+value-one n h = rw (decimal-one n h) (omega arith)
+
+pub decimal-round : (n : ℕ) → decimalValue (decimal n) ≡ n
+decimal-round =
+    by-digits (λ n. decimalValue (decimal n) ≡ n) value-one
+    (λ n h e. rw (decimal-more n h) (value-snoc (decimal (n / 10)) (48 + n % 10) ∙ omega arith))
+
+-- each is a digit
+abbrev AllDigits : ℕ → Type 0
+AllDigits n = (k : ℕ) → k < length (decimal n) → isDigit (getD (decimal n) k 0) ≡ true
+
+all-digits : (n : ℕ) → AllDigits n
+all-digits = by-digits AllDigits one more
   where
-    digit : ℕ → ℕ
-    digit d = 48 + d % 10
+    one : (n : ℕ) → n < 10 → AllDigits n
+    one n h k l =
+        let z : k ≡ 0 = omega (arith, ap length (decimal-one n h)) in
+        rw (z, decimal-one n h) (inside 48 57 (48 + n) (omega arith) (omega arith))
 
-    text : Bool → Bool → List ℕ
-    text a b = pick a (digit n ∷ []) (pick b (digit (n / 10) ∷ digit n ∷ []) (digit (n / 100) ∷ digit (n / 10) ∷ digit n ∷ []))
+    more : (n : ℕ) → 10 ≤ n → AllDigits (n / 10) → AllDigits n
+    more n h tenth k l = go (decLt k (length (decimal (n / 10))))
+      where
+        go : Dec (k < length (decimal (n / 10))) → isDigit (getD (decimal n) k 0) ≡ true
+        go (yes s) = rw (decimal-more n h, List·getD-append (decimal (n / 10)) ((48 + n % 10) ∷ []) 0 k s) (tenth k s)
+        go (no s) = rw (last-digit n k (omega (arith, longer n h))) (inside 48 57 (48 + n % 10) (omega arith) (omega arith))
 
-    go : (a b : Bool) → (1 ≤ length (text a b)) × (length (text a b) ≤ 3)
-    go true b = (omega arith, omega arith)
-    go false true = (omega arith, omega arith)
-    go false false = (omega arith, omega arith)
+-- the first is 0 only of 0
+first-digit : (n : ℕ) → 1 ≤ n → getD (decimal n) 0 0 ≡ 48 → ⊥
+first-digit = by-digits (λ n. 1 ≤ n → getD (decimal n) 0 0 ≡ 48 → ⊥) one more
+  where
+    one : (n : ℕ) → n < 10 → 1 ≤ n → getD (decimal n) 0 0 ≡ 48 → ⊥
+    one n h l e = omega (arith, sym (ap (λ (xs : List ℕ). getD xs 0 0) (decimal-one n h)) ∙ e)
+
+    more : (n : ℕ) → 10 ≤ n → (1 ≤ n / 10 → getD (decimal (n / 10)) 0 0 ≡ 48 → ⊥) → 1 ≤ n → getD (decimal n) 0 0 ≡ 48 → ⊥
+    more n h tenth l e =
+        tenth (omega arith)
+        (sym (List·getD-append (decimal (n / 10)) ((48 + n % 10) ∷ []) 0 0 (decimal-some (n / 10))) ∙ sym (ap (λ (xs : List ℕ). getD xs 0 0) (decimal-more n h)) ∙ e)
+
+pub decimal-is : (limit n : ℕ) → n ≤ limit → isDecimal limit (decimal n) ≡ true
+decimal-is limit n h =
+    is-decimal limit (decimal n) (decimal-some n) (all-intro (digitAt (decimal n)) (length (decimal n)) (all-digits n)) (go (decLt n 10)) (omega (arith, decimal-round n))
+  where
+    go : Dec (n < 10) → fewest (decimal n) ≡ true
+    go (yes s) = alone (decimal n) (omega (arith, ap length (decimal-one n s))) (decimal-some n)
+    go (no s) = leading (decimal n) (first-digit n (omega arith))
 
 -- ---- and a number has one way to be written
 
-module _ (xs : List ℕ) (is : isDecimal mostNumber xs ≡ true) where
-  is-digit : (k : ℕ) → k < length xs → (48 ≤ getD xs k 0) × (getD xs k 0 ≤ 57)
-  unfolding isDecimal
-  is-digit k l =
-      let d = all-at (digitAt xs) (length xs) k l (every-at (tests xs mostNumber) 1 is) in
-      (least 48 57 (getD xs k 0) d, most 48 57 (getD xs k 0) d)
-
-  some-digit : 1 ≤ length xs
-  unfolding isDecimal
-  some-digit = leb-true 1 (length xs) (every-at (tests xs mostNumber) 0 is)
-
-  no-zero : 1 < length xs → getD xs 0 0 ≡ 48 → ⊥
-  unfolding isDecimal
-  no-zero l e = true≢false (sym (every-at (tests xs mostNumber) 2 is) ∙ rw (ne-eqb (length xs) 1 (λ q. omega arith), eq-eqb (getD xs 0 0) 48 e))
-
-  pub decimal-most : decimalValue xs ≤ 255
-  unfolding isDecimal
-  decimal-most = leb-true (decimalValue xs) 255 (every-at (tests xs mostNumber) 3 is)
-
-first : (a : ℕ) → 48 ≤ a → (a ≡ 48 → ⊥) → 48 < a
-first a h n = go (ℕ-discrete a 48)
+first-above : (a : ℕ) → 48 ≤ a → (a ≡ 48 → ⊥) → 48 < a
+first-above a h n = go (ℕ-discrete a 48)
   where
     go : Dec (a ≡ 48) → 48 < a
     go (yes e) = absurd (n e)
     go (no e) = omega arith
 
-two-back : (a b v : ℕ) → 48 < a → a ≤ 57 → 48 ≤ b → b ≤ 57 → v ≡ 10 * (a - 48) + (b - 48) → decimal v ≡ a ∷ b ∷ []
-two-back a b v ha la hb lb e =
-    let p : 48 + v / 10 ≡ a = omega arith in
-    let q : 48 + v % 10 ≡ b = omega arith in
-    decimal-two v (omega arith) (omega arith) ∙ rw (p, q)
+module _ (limit : ℕ) (xs : List ℕ) (is : isDecimal limit xs ≡ true) where
+  -- with more digits after the first, that is worth something
+  some-worth : (i : ℕ) → 1 ≤ i → 1 < length xs → 1 ≤ valueTo xs i
+  unfolding valueTo
+  some-worth i h l =
+      let e : i - 1 + 1 ≡ i = omega arith in
+      let first = first-above (getD xs 0 0) (is-digit limit xs is 0 (omega arith) .0) (no-zero limit xs is l) in
+      omega (arith, rw e at (value-grows xs 1 (i - 1)))
 
-three-back : (a b c v : ℕ) → 48 < a → a ≤ 57 → 48 ≤ b → b ≤ 57 → 48 ≤ c → c ≤ 57 → v ≡ 10 * (10 * (a - 48) + (b - 48)) + (c - 48) → decimal v ≡ a ∷ b ∷ c ∷ []
-three-back a b c v ha la hb lb hc lc e =
-    let p : 48 + v / 100 ≡ a = omega arith in
-    let q : 48 + v / 10 % 10 ≡ b = omega arith in
-    let r : 48 + v % 10 ≡ c = omega arith in
-    decimal-three v (omega arith) (omega arith) ∙ rw (p, q, r)
+  back-to : (i : ℕ) → i < length xs → decimal (valueTo xs (suc i)) ≡ take (suc i) xs
+  unfolding valueTo
+  back-to zero l =
+      let d = is-digit limit xs is 0 l in
+      let v : 48 + (10 * 0 + (getD xs 0 0 - 48)) ≡ getD xs 0 0 = omega arith in
+      decimal-one (10 * 0 + (getD xs 0 0 - 48)) (omega arith) ∙ rw (v, take-suc xs 0 0 l)
+  back-to (suc i) l =
+      let d = is-digit limit xs is (suc i) l in
+      let worth = some-worth (suc i) (omega arith) (omega arith) in
+      let v = 10 * valueTo xs (suc i) + (getD xs (suc i) 0 - 48) in
+      let tenth : v / 10 ≡ valueTo xs (suc i) = omega arith in
+      let last : 48 + v % 10 ≡ getD xs (suc i) 0 = omega arith in
+      decimal-more v (omega arith) ∙ rw (tenth, last, back-to i (omega arith), take-suc xs (suc i) 0 l)
 
-pub decimal-back : (xs : List ℕ) → isDecimal mostNumber xs ≡ true → decimal (decimalValue xs) ≡ xs
-unfolding valueTo
-decimal-back [] e = absurd (omega (arith, some-digit [] e))
-decimal-back (a ∷ []) e =
-    let d = is-digit (a ∷ []) e 0 (omega arith) in
-    let v : 48 + (10 * 0 + (a - 48)) ≡ a = omega arith in
-    decimal-one (10 * 0 + (a - 48)) (omega arith) ∙ rw v
-decimal-back (a ∷ b ∷ []) e =
-    let xs = a ∷ b ∷ [] in
-    let p = is-digit xs e 0 (omega arith) in
-    let q = is-digit xs e 1 (omega arith) in
-    two-back a b (decimalValue xs) (first a (p .0) (no-zero xs e (omega arith))) (p .1) (q .0) (q .1) (omega arith)
-decimal-back (a ∷ b ∷ c ∷ []) e =
-    let xs = a ∷ b ∷ c ∷ [] in
-    let p = is-digit xs e 0 (omega arith) in
-    let q = is-digit xs e 1 (omega arith) in
-    let r = is-digit xs e 2 (omega arith) in
-    three-back a b c (decimalValue xs) (first a (p .0) (no-zero xs e (omega arith))) (p .1) (q .0) (q .1) (r .0) (r .1) (omega arith)
-decimal-back (a ∷ b ∷ c ∷ d ∷ rest) e =
-    let xs = a ∷ b ∷ c ∷ d ∷ rest in
-    let p = first a (is-digit xs e 0 (omega arith) .0) (no-zero xs e (omega arith)) in
-    let size : length rest + 4 ≡ length xs = omega arith in
-    let most : valueTo xs (length rest + 4) ≤ 255 = rw size (decimal-most xs e) in
-    absurd (omega (arith, value-grows xs 4 (length rest)))
+  pub decimal-back : decimal (decimalValue xs) ≡ xs
+  decimal-back =
+      let e : suc (length xs - 1) ≡ length xs = omega (arith, some-digit limit xs is) in
+      rw e at (back-to (length xs - 1) (omega arith)) ∙ take-length xs

@@ -1,5 +1,5 @@
 -- Decimal numbers without leading zeros (document 01, "The receiver program").
-use mathlib.Core.List.{List, [], _∷_}
+use mathlib.Core.List.{List, [], _∷_, _++_}
 use mathlib.Core.Bool.{Bool, _&&_, _||_, not}
 use Prim.Native.Nat.{ℕ, zero, suc, _+_, _-_, _*_, _/_, _%_}
 use lib.Dec.{ltb, leb, eqb}
@@ -30,16 +30,15 @@ isDecimal most xs =
     (leb 1 (length xs) ∷ allBelow (λ i. isDigit (getD xs i 0)) (length xs) ∷ (eqb (length xs) 1 || not (eqb (getD xs 0 0) digitZero))
     ∷ leb (decimalValue xs) most ∷ [])
 
--- the most that a number of a record is
-abbrev pub mostNumber : ℕ
-mostNumber = 255
+-- the number of a field, at most `most`, or that it is none
+unfoldable pub numberIn : ℕ → List ℕ → Number
+numberIn most xs = pick (isDecimal most xs) (Of (decimalValue xs)) Not
 
--- the number of a field, or that it is none
-unfoldable pub numberIn : List ℕ → Number
-numberIn xs = pick (isDecimal mostNumber xs) (Of (decimalValue xs)) Not
+-- the last digits of a number, as many as it has and no more than k: those of its tenth part, and its remainder
+unfoldable pub lastDigits : ℕ → ℕ → List ℕ
+lastDigits zero n = []
+lastDigits (suc k) n = pick (ltb n 10) [] (lastDigits k (n / 10)) ++ ((digitZero + n % 10) ∷ [])
 
--- a number below 1,000 as text
+-- a number as text; it has no more than n + 1 digits
 unfoldable pub decimal : ℕ → List ℕ
-decimal n =
-    let digit : ℕ → ℕ = λ d. digitZero + d % 10 in
-    pick (ltb n 10) (digit n ∷ []) (pick (ltb n 100) (digit (n / 10) ∷ digit n ∷ []) (digit (n / 100) ∷ digit (n / 10) ∷ digit n ∷ []))
+decimal n = lastDigits (suc n) n

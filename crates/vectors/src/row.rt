@@ -39,10 +39,13 @@ pub fn is_row(line: &[u8]) -> bool {
     line[0] != b'#'
 }
 
+// The most that a number of a row is.
+const MOST_NUMBER: u32 = 255;
+
 // The number that is field n of a row, or 0 where that is none.
 pub fn number(row: &[u8], n: usize) -> u8 {
-    match read_number(field(row, n)) {
-        Number::Of(value) => value,
+    match read_number(field(row, n), MOST_NUMBER) {
+        Number::Of(value) => value as u8,
         Number::Not => 0,
     }
 }

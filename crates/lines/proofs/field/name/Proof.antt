@@ -1,6 +1,8 @@
 -- `lines::field::name` meets its contract.
 use mathlib.Core.Path.{sym, _∙_}
+use native.Mathlib.Omega.{arith}
 use borrow.Author.Needs.{needs}
+use Rattle.text.proofs.DecimalLaws.{number-most}
 use Rattle.lines.proofs.FieldLaws.{name-not-first, name-not-second, named-by}
 use Rattle.lines.proofs.field.name.Statement.{statement}
 use Rattle.lines.proofs.field.name.Tie as tie
@@ -32,4 +34,10 @@ name-spec =
     (λ c. search needs)
     (λ c. search needs)
     returns-2
+    (λ c.
+    let first = c .before .before .before .before .before .before .before .before .before .next-number .ensures in
+    omega (arith, number-most _ _ _ (sym (c .before .before .before .before .cipher-field .given .1) ∙ first .0)))
+    (λ c.
+    let then = c .before .before .before .before .before .before .before .next-number2 .ensures in
+    omega (arith, number-most _ _ _ (sym (c .before .id-field .given .1) ∙ then .0)))
     returns-3)

@@ -8,7 +8,7 @@ use Rattle.lines.proofs.field.next_number.Tie as tie
 returns : tie.Need-returns
 returns c =
     let is = c .before .before .before .next-field .ensures in
-    (c .read-number .ensures ∙ ap numberIn (is .text), (is .others, is .after))
+    (c .read-number .ensures ∙ ap (numberIn _) (is .text), (is .others, is .after))
 
 pub next-number-spec : {M : Type 1} → statement M
 next-number-spec =

@@ -2,6 +2,7 @@
 use mathlib.Core.Path.{sym, _∙_}
 use native.Mathlib.Omega.{arith}
 use borrow.Author.Needs.{needs}
+use Rattle.text.proofs.DecimalLaws.{number-most}
 use Rattle.sizes.specs.Frame.{frameOctets}
 use Rattle.lines.proofs.RecordLaws.{part-size, part-some, part-most, last-lent, voice-no-mask, voice-done, voice-not}
 use Rattle.lines.proofs.record.voice.Statement.{statement}
@@ -18,6 +19,9 @@ voice-spec =
     (λ c. search needs)
     (λ c. part-size (c .before .before .before .before .before .before .before .before .args .octets .now) frameOctets (search needs) (omega arith))
     (λ c κs. (search needs, part-some (c .before .before .before .before .before .before .before .before .args .octets .now) frameOctets (search needs) (omega arith) (omega arith), part-most (c .before .before .before .before .before .before .before .before .args .octets .now) frameOctets (search needs) (omega arith)))
+    (λ c.
+    let number = c .before .before .before .before .before .before .before .before .before .next-number .ensures in
+    omega (arith, number-most _ _ _ (sym (c .before .before .before .before .before .before .mask-field .given .1) ∙ number .0)))
     (λ c. search needs)
     (λ c.
     let number = c .before .before .before .before .before .before .before .before .before .next-number .ensures in (

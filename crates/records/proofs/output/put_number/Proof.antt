@@ -7,10 +7,10 @@ use Rattle.records.proofs.output.put_number.Statement.{statement}
 use Rattle.records.proofs.output.put_number.Tie as tie
 
 add-result : tie.Need-add-result
-add-result c = omega (arith, c .before .before .put-decimal .ensures .0, decimal-size (c .before .before .before .before .before .args .n))
+add-result c = omega (arith, c .before .before .put-decimal .ensures .0, decimal-size 2 (c .before .before .before .before .before .args .n) (omega arith))
 
 returns : tie.Need-returns
-returns c = laid-number _ _ _ _ _ (search needs) (c .before .before .put-decimal .ensures .0) (c .before .before .put-decimal .ensures .1)
+returns c = laid-number _ _ _ _ _ (omega arith) (search needs) (c .before .before .put-decimal .ensures .0) (c .before .before .put-decimal .ensures .1)
 
 pub put-number-spec : {M : Type 1} → statement M
 put-number-spec =
@@ -19,7 +19,7 @@ put-number-spec =
     (λ c. search needs)
     (λ c. search needs)
     (λ c. search needs)
-    (λ c κs. search needs)
+    (λ c κs. omega (arith, decimal-size 2 (c .before .before .args .n) (omega arith)))
     add-result
     (λ c. search needs)
     returns)

@@ -9,10 +9,10 @@ use Rattle.text.proofs.decimal.read_number.Statement.{statement}
 use Rattle.text.proofs.decimal.read_number.Tie as tie
 
 abbrev Inv-loop : tie.InvT-loop
-Inv-loop field value₀ i₀ value i = Reading field i value
+Inv-loop field most value₀ i₀ value i = Reading most field i value
 
 abbrev μ-loop : tie.MeasureT-loop
-μ-loop field value₀ i₀ value i = length field - i
+μ-loop field most value₀ i₀ value i = length field - i
 
 pub read-number-spec : {M : Type 1} → statement M
 read-number-spec =
@@ -20,22 +20,22 @@ read-number-spec =
     (tie.spec
     Inv-loop
     μ-loop
-    (λ c. refused-empty _ (search needs))
+    (λ c. refused-empty _ _ (search needs))
     (λ c. search needs)
-    (λ c. refused-zero _ (search needs) (search needs))
-    (λ c. reading-start _)
+    (λ c. refused-zero _ _ (search needs) (search needs))
+    (λ c. reading-start _ _)
     (λ c. search needs)
-    (λ c. refused-low _ (c .before .before .before .loop .i) (search needs) (search needs))
-    (λ c. refused-high _ (c .before .before .before .before .loop .i) (search needs) (search needs))
-    (λ c. search needs)
-    (λ c. search needs)
-    (λ c. search needs)
-    (λ c. refused-large _ _ _ (c .before .before .before .before .before .loop .inv) (search needs) (search needs))
+    (λ c. refused-low _ _ (c .before .before .before .loop .i) (search needs) (search needs))
+    (λ c. refused-high _ _ (c .before .before .before .before .loop .i) (search needs) (search needs))
     (λ c. search needs)
     (λ c. search needs)
-    (λ c. reading-more _ _ _ (c .before .before .before .before .before .loop .inv) (search needs) (search needs) (search needs) (search needs))
+    (λ c. search needs)
+    (λ c. refused-large _ _ _ _ (c .before .before .before .before .before .loop .inv) (search needs) (search needs))
+    (λ c. search needs)
+    (λ c. search needs)
+    (λ c. reading-more _ _ _ _ (c .before .before .before .before .before .loop .inv) (search needs) (search needs) (search needs) (search needs))
     (λ c. search needs)
     (λ c.
     let xs = c .before .before .before .before .args .field .now in
-    taken xs _ _ (c .before .loop .inv) (search needs) (omega arith)
+    taken _ xs _ _ (c .before .loop .inv) (search needs) (omega arith)
     (⊎-elim (λ w. leading xs (w .2 .left)) (λ w. alone xs (w .left) (omega arith)) (c .before .before .if2 .came))))
