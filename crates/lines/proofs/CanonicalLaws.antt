@@ -12,13 +12,14 @@ use Rattle.octets.specs.Bits.{Octets}
 use Rattle.octets.proofs.TestLaws.{and-left, and-right}
 use Rattle.text.specs.Parted.{tabOctet, parted}
 use Rattle.text.specs.Decimal.{decimalValue}
-use Rattle.text.specs.Hex.{isHex, hexText}
+use Rattle.text.specs.Hex.{isHex, octetsIn, hexText}
+use Rattle.text.specs.Fields.{fieldAt, areFields}
 use Rattle.text.proofs.PartedLaws.{joined, joined-parted}
 use Rattle.text.proofs.DecimalLaws.{decimal-back, decimal-most}
 use Rattle.text.proofs.HexLaws.{hex-size, hex-back, octets-hexOctets, length-hexOctets}
 use Rattle.sizes.specs.Ciphers.{keyRoom, vectorOctets}
 use Rattle.sizes.specs.Frame.{frameOctets}
-use Rattle.lines.specs.Record.{Record, Load, Open, Join, Voice, Announce, Lost, End, Malformed, mostNumber, lineOctets, fieldAt, areFields, isName, isNumber, isKey, octetsIn, load, opened, join, voice, announce, alone, byLetter, ofParts, lineOf, printed, Fine}
+use Rattle.lines.specs.Record.{Record, Load, Open, Join, Voice, Announce, Lost, End, Malformed, mostNumber, lineOctets, isPair, isNumber, isKey, loadRecord, openRecord, joinRecord, voiceRecord, announceRecord, alone, byLetter, ofParts, lineOf, printed, Fine}
 
 -- r is fine, and its line is l
 record Of (r : Record) (l : List ℕ) : Type 0 where
@@ -98,70 +99,70 @@ module _ (fs : List (List ℕ)) where
   count-is : (n : ℕ) (b : Bool) → (areFields n fs && b) ≡ true → length fs ≡ n
   count-is n b t = eqb-true (length fs) n (and-left (areFields n fs) b t)
 
-  first-number : isName fs ≡ true → isNumber f₀ ≡ true
-  unfolding isName
+  first-number : isPair fs ≡ true → isNumber f₀ ≡ true
+  unfolding isPair
   first-number e = and-left (isNumber f₀) (isNumber f₁) e
 
-  second-number : isName fs ≡ true → isNumber f₁ ≡ true
-  unfolding isName
+  second-number : isPair fs ≡ true → isNumber f₁ ≡ true
+  unfolding isPair
   second-number e = and-right (isNumber f₀) (isNumber f₁) e
 
-  load-of : (load fs ≡ Malformed → ⊥) → Of (load fs) (lineWith 0x4B fs)
+  load-of : (loadRecord fs ≡ Malformed → ⊥) → Of (loadRecord fs) (lineWith 0x4B fs)
   unfolding printed
   load-of n =
-      let t = passed (areFields 3 fs && (isName fs && isKey f₂)) (Load (decimalValue f₀) (decimalValue f₁) (octetsIn f₂)) n in
-      let u = and-right (areFields 3 fs) (isName fs && isKey f₂) t in
-      let name = and-left (isName fs) (isKey f₂) u in
-      let key = and-right (isName fs) (isKey f₂) u in
+      let t = passed (areFields 3 fs && (isPair fs && isKey f₂)) (Load (decimalValue f₀) (decimalValue f₁) (octetsIn f₂)) n in
+      let u = and-right (areFields 3 fs) (isPair fs && isKey f₂) t in
+      let pair = and-left (isPair fs) (isKey f₂) u in
+      let key = and-right (isPair fs) (isKey f₂) u in
       let hex = key-hex f₂ key in
       let size = key-size f₂ key in
       rw t
       (record {
         fine = (
-          decimal-most mostNumber f₀ (first-number name),
-          decimal-most mostNumber f₁ (second-number name),
+          decimal-most mostNumber f₀ (first-number pair),
+          decimal-most mostNumber f₁ (second-number pair),
           omega (arith, size .0, size-is f₂ (length f₂ / 2) hex),
           omega (arith, size .1, size-is f₂ (length f₂ / 2) hex),
           octets-are f₂ (length f₂ / 2) hex,
         );
         line =
-            rw (decimal-back mostNumber f₀ (first-number name), decimal-back mostNumber f₁ (second-number name), back-is f₂ (length f₂ / 2) hex)
-            (ap (lineWith 0x4B) (sym (three fs (count-is 3 (isName fs && isKey f₂) t))));
+            rw (decimal-back mostNumber f₀ (first-number pair), decimal-back mostNumber f₁ (second-number pair), back-is f₂ (length f₂ / 2) hex)
+            (ap (lineWith 0x4B) (sym (three fs (count-is 3 (isPair fs && isKey f₂) t))));
       })
 
-  open-of : (opened fs ≡ Malformed → ⊥) → Of (opened fs) (lineWith 0x4F fs)
+  open-of : (openRecord fs ≡ Malformed → ⊥) → Of (openRecord fs) (lineWith 0x4F fs)
   unfolding printed
   open-of n =
-      let t = passed (areFields 3 fs && (isName fs && isHex vectorOctets f₂)) (Open (decimalValue f₀) (decimalValue f₁) (octetsIn f₂)) n in
-      let u = and-right (areFields 3 fs) (isName fs && isHex vectorOctets f₂) t in
-      let name = and-left (isName fs) (isHex vectorOctets f₂) u in
-      let hex = and-right (isName fs) (isHex vectorOctets f₂) u in
+      let t = passed (areFields 3 fs && (isPair fs && isHex vectorOctets f₂)) (Open (decimalValue f₀) (decimalValue f₁) (octetsIn f₂)) n in
+      let u = and-right (areFields 3 fs) (isPair fs && isHex vectorOctets f₂) t in
+      let pair = and-left (isPair fs) (isHex vectorOctets f₂) u in
+      let hex = and-right (isPair fs) (isHex vectorOctets f₂) u in
       rw t
       (record {
         fine = (
-          decimal-most mostNumber f₀ (first-number name),
-          decimal-most mostNumber f₁ (second-number name),
+          decimal-most mostNumber f₀ (first-number pair),
+          decimal-most mostNumber f₁ (second-number pair),
           size-is f₂ vectorOctets hex,
           octets-are f₂ vectorOctets hex,
         );
         line =
-            rw (decimal-back mostNumber f₀ (first-number name), decimal-back mostNumber f₁ (second-number name), back-is f₂ vectorOctets hex)
-            (ap (lineWith 0x4F) (sym (three fs (count-is 3 (isName fs && isHex vectorOctets f₂) t))));
+            rw (decimal-back mostNumber f₀ (first-number pair), decimal-back mostNumber f₁ (second-number pair), back-is f₂ vectorOctets hex)
+            (ap (lineWith 0x4F) (sym (three fs (count-is 3 (isPair fs && isHex vectorOctets f₂) t))));
       })
 
-  join-of : (join fs ≡ Malformed → ⊥) → Of (join fs) (lineWith 0x4A fs)
+  join-of : (joinRecord fs ≡ Malformed → ⊥) → Of (joinRecord fs) (lineWith 0x4A fs)
   unfolding printed
   join-of n =
-      let t = passed (areFields 2 fs && isName fs) (Join (decimalValue f₀) (decimalValue f₁)) n in
-      let name = and-right (areFields 2 fs) (isName fs) t in
+      let t = passed (areFields 2 fs && isPair fs) (Join (decimalValue f₀) (decimalValue f₁)) n in
+      let pair = and-right (areFields 2 fs) (isPair fs) t in
       rw t
       (record {
-        fine = (decimal-most mostNumber f₀ (first-number name), decimal-most mostNumber f₁ (second-number name));
+        fine = (decimal-most mostNumber f₀ (first-number pair), decimal-most mostNumber f₁ (second-number pair));
         line =
-            rw (decimal-back mostNumber f₀ (first-number name), decimal-back mostNumber f₁ (second-number name)) (ap (lineWith 0x4A) (sym (two fs (count-is 2 (isName fs) t))));
+            rw (decimal-back mostNumber f₀ (first-number pair), decimal-back mostNumber f₁ (second-number pair)) (ap (lineWith 0x4A) (sym (two fs (count-is 2 (isPair fs) t))));
       })
 
-  voice-of : (voice fs ≡ Malformed → ⊥) → Of (voice fs) (lineWith 0x56 fs)
+  voice-of : (voiceRecord fs ≡ Malformed → ⊥) → Of (voiceRecord fs) (lineWith 0x56 fs)
   unfolding printed
   voice-of n =
       let t = passed (areFields 2 fs && (isNumber f₀ && isHex frameOctets f₁)) (Voice (decimalValue f₀) (octetsIn f₁)) n in
@@ -175,7 +176,7 @@ module _ (fs : List (List ℕ)) where
             rw (decimal-back mostNumber f₀ mask, back-is f₁ frameOctets hex) (ap (lineWith 0x56) (sym (two fs (count-is 2 (isNumber f₀ && isHex frameOctets f₁) t))));
       })
 
-  announce-of : (announce fs ≡ Malformed → ⊥) → Of (announce fs) (lineWith 0x49 fs)
+  announce-of : (announceRecord fs ≡ Malformed → ⊥) → Of (announceRecord fs) (lineWith 0x49 fs)
   unfolding printed
   announce-of n =
       let t = passed (areFields 1 fs && isHex vectorOctets f₀) (Announce (octetsIn f₀)) n in

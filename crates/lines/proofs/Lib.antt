@@ -1,4 +1,4 @@
-pub mod FieldLaws
+pub mod PairLaws
 pub mod RecordLaws
 pub mod LineLaws
 pub mod PrintedLaws

@@ -8,9 +8,10 @@ use lib.ListN.{length, getD, drop, length-drop}
 use lib.Seq.{getD-drop, getD-take, length-take-le}
 use borrow.Author.Tests.{lt-ltb, le-ltb, eq-eqb, ne-eqb}
 use Rattle.text.specs.Parted.{tabOctet, parted}
-use Rattle.lines.specs.declared.field.Field.{Field}
-use Rattle.lines.specs.Record.{Lost, End, Malformed, lineOctets, fieldAt, load, opened, join, voice, announce, alone, byLetter, lineOf}
-use Rattle.lines.specs.Fields.{left, partOf, IsField}
+use Rattle.text.specs.declared.field.Field.{Field}
+use Rattle.text.specs.Fields.{fieldAt}
+use Rattle.text.specs.Walked.{left, partOf, IsField}
+use Rattle.lines.specs.Record.{Lost, End, Malformed, lineOctets, loadRecord, openRecord, joinRecord, voiceRecord, announceRecord, alone, byLetter, lineOf}
 
 pub line-long : (line : List ℕ) → lineOctets < length line → Malformed ≡ lineOf line
 unfolding lineOf
@@ -50,19 +51,19 @@ module _ (line : List ℕ) (short : length line ≤ lineOctets) (f : Field) (is 
   line-is =
       rw (le-ltb lineOctets (length line) short, first line short f is, eq-eqb (length (partOf line (f .start) (f .end))) 1 (size line short f is ∙ one), at-start, ← others line short f is)
 
-  pub by-load : letter ≡ 0x4B → load rest ≡ lineOf line
+  pub by-load : letter ≡ 0x4B → loadRecord rest ≡ lineOf line
   by-load e = sym (line-is ∙ rw e)
 
-  pub by-open : letter ≡ 0x4F → opened rest ≡ lineOf line
+  pub by-open : letter ≡ 0x4F → openRecord rest ≡ lineOf line
   by-open e = sym (line-is ∙ rw e)
 
-  pub by-join : letter ≡ 0x4A → join rest ≡ lineOf line
+  pub by-join : letter ≡ 0x4A → joinRecord rest ≡ lineOf line
   by-join e = sym (line-is ∙ rw e)
 
-  pub by-voice : letter ≡ 0x56 → voice rest ≡ lineOf line
+  pub by-voice : letter ≡ 0x56 → voiceRecord rest ≡ lineOf line
   by-voice e = sym (line-is ∙ rw e)
 
-  pub by-announce : letter ≡ 0x49 → announce rest ≡ lineOf line
+  pub by-announce : letter ≡ 0x49 → announceRecord rest ≡ lineOf line
   by-announce e = sym (line-is ∙ rw e)
 
   pub by-lost : letter ≡ 0x4C → alone Lost rest ≡ lineOf line

@@ -10,13 +10,14 @@ use borrow.Author.Tests.{le-ltb, le-leb}
 use Rattle.octets.specs.Bits.{Octets}
 use Rattle.text.specs.Parted.{tabOctet}
 use Rattle.text.specs.Decimal.{decimal}
-use Rattle.text.specs.Hex.{isHex, hexOctets, hexText}
+use Rattle.text.specs.Hex.{isHex, hexOctets, octetsIn, hexText}
+use Rattle.text.specs.Fields.{fieldAt}
 use Rattle.text.proofs.PartedLaws.{Lacks, AllLack, joined, parted-joined}
 use Rattle.text.proofs.DecimalLaws.{decimal-is, decimal-round, decimal-size, decimal-lacks}
 use Rattle.text.proofs.HexLaws.{length-hexText, hexText-hex, hex-round, hex-lacks}
 use Rattle.sizes.specs.Ciphers.{keyRoom, vectorOctets}
 use Rattle.sizes.specs.Frame.{frameOctets}
-use Rattle.lines.specs.Record.{Record, Load, Open, Join, Voice, Announce, Lost, End, Malformed, mostNumber, lineOctets, fieldAt, isName, isKey, octetsIn, ofParts, lineOf, printed, Fine}
+use Rattle.lines.specs.Record.{Record, Load, Open, Join, Voice, Announce, Lost, End, Malformed, mostNumber, lineOctets, isPair, isKey, ofParts, lineOf, printed, Fine}
 
 -- ---- the parts of a printed line lack a tab
 
@@ -65,7 +66,7 @@ module _ (x : ℕ) (a : List ℕ) where
 
 -- every fine record's line stands for it
 pub printed-parses : (r : Record) → Fine r → lineOf (printed r) ≡ r
-unfolding printed fieldAt isName
+unfolding printed fieldAt isPair
 printed-parses (Load c i k) f =
     by-parts (0x4B ∷ []) (decimal c ∷ decimal i ∷ hexText k ∷ []) (letter-lacks 0x4B refl, (number-lacks c (f .0), (number-lacks i (f .1), (octets-lack k, tt))))
     (omega (arith, three-size 0x4B (decimal c) (decimal i) (hexText k), decimal-size 2 c (omega arith), decimal-size 2 i (omega arith), length-hexText k, f .3))

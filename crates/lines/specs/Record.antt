@@ -2,14 +2,15 @@
 use mathlib.Core.List.{List, [], _∷_, _++_}
 use mathlib.Core.Bool.{Bool, _&&_}
 use mathlib.Core.Path.{_≡_}
-use Prim.Native.Nat.{ℕ, _/_, _≤_}
+use Prim.Native.Nat.{ℕ, _/_, _≤_, max}
 use lib.Dec.{ltb, leb, eqb}
 use lib.ListN.{length, getD, take, drop}
 use Rattle.octets.specs.Tests.{pick}
 use Rattle.octets.specs.Bits.{Octets}
 use Rattle.text.specs.Parted.{tabOctet, parted}
 use Rattle.text.specs.Decimal.{isDecimal, decimalValue, decimal}
-use Rattle.text.specs.Hex.{isHex, hexOctets, hexText}
+use Rattle.text.specs.Hex.{isHex, octetsIn, hexText}
+use Rattle.text.specs.Fields.{fieldAt, areFields}
 use Rattle.sizes.specs.Ciphers.{keyRoom, vectorOctets}
 use Rattle.sizes.specs.Frame.{frameOctets}
 use Rattle.lines.specs.declared.record.Parsed.{Parsed}
@@ -42,46 +43,34 @@ mostNumber = 255
 abbrev pub isNumber : List ℕ → Bool
 isNumber = isDecimal mostNumber
 
--- the octets that a field of hex stands for
-abbrev pub octetsIn : List ℕ → List ℕ
-octetsIn field = hexOctets field (length field / 2)
-
 -- hex of 1 to 32 octets
 abbrev pub isKey : List ℕ → Bool
 isKey field = isHex (length field / 2) field && (leb 1 (length field / 2) && leb (length field / 2) keyRoom)
 
--- field n
-unfoldable pub fieldAt : List (List ℕ) → ℕ → List ℕ
-fieldAt fields n = getD fields n []
-
--- there are n fields
-abbrev pub areFields : ℕ → List (List ℕ) → Bool
-areFields n fields = eqb (length fields) n
-
 -- the first two are a cipher and a key ID
-unfoldable pub isName : List (List ℕ) → Bool
-isName fields = isNumber (fieldAt fields 0) && isNumber (fieldAt fields 1)
+unfoldable pub isPair : List (List ℕ) → Bool
+isPair fields = isNumber (fieldAt fields 0) && isNumber (fieldAt fields 1)
 
-abbrev pub load : List (List ℕ) → Record
-load fields =
-    pick (areFields 3 fields && (isName fields && isKey (fieldAt fields 2)))
+abbrev pub loadRecord : List (List ℕ) → Record
+loadRecord fields =
+    pick (areFields 3 fields && (isPair fields && isKey (fieldAt fields 2)))
     (Load (decimalValue (fieldAt fields 0)) (decimalValue (fieldAt fields 1)) (octetsIn (fieldAt fields 2))) Malformed
 
-abbrev pub opened : List (List ℕ) → Record
-opened fields =
-    pick (areFields 3 fields && (isName fields && isHex vectorOctets (fieldAt fields 2)))
+abbrev pub openRecord : List (List ℕ) → Record
+openRecord fields =
+    pick (areFields 3 fields && (isPair fields && isHex vectorOctets (fieldAt fields 2)))
     (Open (decimalValue (fieldAt fields 0)) (decimalValue (fieldAt fields 1)) (octetsIn (fieldAt fields 2))) Malformed
 
-abbrev pub join : List (List ℕ) → Record
-join fields = pick (areFields 2 fields && isName fields) (Join (decimalValue (fieldAt fields 0)) (decimalValue (fieldAt fields 1))) Malformed
+abbrev pub joinRecord : List (List ℕ) → Record
+joinRecord fields = pick (areFields 2 fields && isPair fields) (Join (decimalValue (fieldAt fields 0)) (decimalValue (fieldAt fields 1))) Malformed
 
-abbrev pub voice : List (List ℕ) → Record
-voice fields =
+abbrev pub voiceRecord : List (List ℕ) → Record
+voiceRecord fields =
     pick (areFields 2 fields && (isNumber (fieldAt fields 0) && isHex frameOctets (fieldAt fields 1)))
     (Voice (decimalValue (fieldAt fields 0)) (octetsIn (fieldAt fields 1))) Malformed
 
-abbrev pub announce : List (List ℕ) → Record
-announce fields = pick (areFields 1 fields && isHex vectorOctets (fieldAt fields 0)) (Announce (octetsIn (fieldAt fields 0))) Malformed
+abbrev pub announceRecord : List (List ℕ) → Record
+announceRecord fields = pick (areFields 1 fields && isHex vectorOctets (fieldAt fields 0)) (Announce (octetsIn (fieldAt fields 0))) Malformed
 
 -- a record without fields
 abbrev pub alone : Record → List (List ℕ) → Record
@@ -90,13 +79,13 @@ alone r fields = pick (areFields 0 fields) r Malformed
 -- the seven letters
 abbrev pub byLetter : ℕ → List (List ℕ) → Record
 byLetter letter fields =
-    pick (eqb letter 0x4B) (load fields)
-    (pick (eqb letter 0x4F) (opened fields)
-    (pick (eqb letter 0x4A) (join fields)
-    (pick (eqb letter 0x56) (voice fields)
-    (pick (eqb letter 0x49) (announce fields)
-    (pick (eqb letter 0x4C) (alone Lost fields)
-    (pick (eqb letter 0x45) (alone End fields) Malformed))))))
+    pick (eqb letter 0x4B) (loadRecord fields)  -- K
+    (pick (eqb letter 0x4F) (openRecord fields)  -- O
+    (pick (eqb letter 0x4A) (joinRecord fields)  -- J
+    (pick (eqb letter 0x56) (voiceRecord fields)  -- V
+    (pick (eqb letter 0x49) (announceRecord fields)  -- I
+    (pick (eqb letter 0x4C) (alone Lost fields)  -- L
+    (pick (eqb letter 0x45) (alone End fields) Malformed))))))  -- E
 
 -- the letter stands alone in the first part
 abbrev pub ofParts : List (List ℕ) → Record
@@ -112,13 +101,13 @@ field xs = tabOctet ∷ xs
 
 -- a record as its line; what is malformed has none
 unfoldable pub printed : Record → List ℕ
-printed (Load c i k) = 0x4B ∷ (field (decimal c) ++ (field (decimal i) ++ field (hexText k)))
-printed (Open c i v) = 0x4F ∷ (field (decimal c) ++ (field (decimal i) ++ field (hexText v)))
-printed (Join c i) = 0x4A ∷ (field (decimal c) ++ field (decimal i))
-printed (Voice m f) = 0x56 ∷ (field (decimal m) ++ field (hexText f))
-printed (Announce v) = 0x49 ∷ field (hexText v)
-printed Lost = 0x4C ∷ []
-printed End = 0x45 ∷ []
+printed (Load c i k) = 0x4B ∷ (field (decimal c) ++ (field (decimal i) ++ field (hexText k)))  -- K
+printed (Open c i v) = 0x4F ∷ (field (decimal c) ++ (field (decimal i) ++ field (hexText v)))  -- O
+printed (Join c i) = 0x4A ∷ (field (decimal c) ++ field (decimal i))  -- J
+printed (Voice m f) = 0x56 ∷ (field (decimal m) ++ field (hexText f))  -- V
+printed (Announce v) = 0x49 ∷ field (hexText v)  -- I
+printed Lost = 0x4C ∷ []  -- L
+printed End = 0x45 ∷ []  -- E
 printed Malformed = []
 
 -- a record that a line can stand for
@@ -134,9 +123,9 @@ Fine Malformed = ⊥
 
 -- ---- a record as the code has it: its octets are the first of those that stand beside it
 
--- the room for a record's octets: a key's
+-- the room for a record's octets: the larger of a key's and a frame's
 abbrev pub recordRoom : ℕ
-recordRoom = keyRoom
+recordRoom = max keyRoom frameOctets
 
 abbrev pub recordIn : Parsed → List ℕ → Record
 recordIn (code.Load c i n) xs = Load c i (take n xs)

@@ -1,3 +1,3 @@
 // A line of text as a record, read by its fields.
-mod field;
+mod pair;
 pub mod record;

@@ -4,24 +4,28 @@ ghost use mathlib.Core.List.{List};
 ghost use Prim.Native.Nat.{ℕ, _≤_};
 ghost use lib.ListN.{length};
 ghost use Rattle.octets.specs.Tests.{pick};
-ghost use Rattle.lines.specs.Fields.{left};
-ghost use Rattle.lines.specs.Record.{recordRoom, countIn, recordIn, load, opened, join, voice, announce, lineOf};
-use crate::field::Cursor;
-use crate::field::MOST_NUMBER;
-use crate::field::Named;
-use crate::field::last_hex;
-use crate::field::name;
-use crate::field::next_field;
-use crate::field::next_number;
+ghost use Rattle.text.specs.Walked.{left};
+ghost use Rattle.lines.specs.Record.{recordRoom, countIn, recordIn, loadRecord, openRecord, joinRecord, voiceRecord, announceRecord, lineOf};
+use crate::pair::MOST_NUMBER;
+use crate::pair::Pair;
+use crate::pair::next_pair;
 use sizes::cipher::KEY_ROOM;
 use sizes::cipher::VECTOR_OCTETS;
 use sizes::frame::FRAME_OCTETS;
 use text::decimal::Number;
+use text::field::Cursor;
+use text::field::last_hex;
+use text::field::next_field;
+use text::field::next_number;
 
 pub const LINE_OCTETS: usize = 96;
 
-// The most octets of a record: a key's.
-pub const RECORD_ROOM: usize = KEY_ROOM;
+// The most octets of a record: the larger of a key's and a frame's.
+pub const RECORD_ROOM: usize = if KEY_ROOM < FRAME_OCTETS {
+    FRAME_OCTETS
+} else {
+    KEY_ROOM
+};
 
 // A record but for its octets, which stand beside it.
 pub enum Parsed {
@@ -46,13 +50,13 @@ fn alone(parsed: Parsed, cursor: Cursor) -> Parsed
     parsed
 }
 
-fn load(line: &[u8], cursor: Cursor, octets: &mut [u8]) -> Parsed
+fn load_record(line: &[u8], cursor: Cursor, octets: &mut [u8]) -> Parsed
     requires { ⌜ (cursor .at ≤ length (now line)) × (length (now octets) ≡ recordRoom) ⌝ }
-    ensures { λ r. ⌜ recordIn r (now (octets .exit)) ≡ load (left (now (line .entry)) cursor) ⌝ }
+    ensures { λ r. ⌜ recordIn r (now (octets .exit)) ≡ loadRecord (left (now (line .entry)) cursor) ⌝ }
     ensures { λ r. ⌜ countIn r ≤ recordRoom ⌝ }
 {
-    let named = name(line, cursor);
-    let Named::By { cipher, id, next } = named else {
+    let pair = next_pair(line, cursor);
+    let Pair::Of { cipher, id, next } = pair else {
         return Parsed::Malformed;
     };
     // The key is the rest of the line, two digits an octet.
@@ -70,13 +74,13 @@ fn load(line: &[u8], cursor: Cursor, octets: &mut [u8]) -> Parsed
     Parsed::Malformed
 }
 
-fn open(line: &[u8], cursor: Cursor, octets: &mut [u8]) -> Parsed
+fn open_record(line: &[u8], cursor: Cursor, octets: &mut [u8]) -> Parsed
     requires { ⌜ (cursor .at ≤ length (now line)) × (length (now octets) ≡ recordRoom) ⌝ }
-    ensures { λ r. ⌜ recordIn r (now (octets .exit)) ≡ opened (left (now (line .entry)) cursor) ⌝ }
+    ensures { λ r. ⌜ recordIn r (now (octets .exit)) ≡ openRecord (left (now (line .entry)) cursor) ⌝ }
     ensures { λ r. ⌜ countIn r ≤ recordRoom ⌝ }
 {
-    let named = name(line, cursor);
-    let Named::By { cipher, id, next } = named else {
+    let pair = next_pair(line, cursor);
+    let Pair::Of { cipher, id, next } = pair else {
         return Parsed::Malformed;
     };
     if last_hex(line, next, &mut octets[..VECTOR_OCTETS]) {
@@ -85,21 +89,21 @@ fn open(line: &[u8], cursor: Cursor, octets: &mut [u8]) -> Parsed
     Parsed::Malformed
 }
 
-fn join(line: &[u8], cursor: Cursor) -> Parsed
+fn join_record(line: &[u8], cursor: Cursor) -> Parsed
     requires { ⌜ cursor .at ≤ length (now line) ⌝ }
-    ensures { λ r. ⌜ ((xs : List ℕ) → recordIn r xs ≡ join (left (now (line .entry)) cursor)) ⌝ }
+    ensures { λ r. ⌜ ((xs : List ℕ) → recordIn r xs ≡ joinRecord (left (now (line .entry)) cursor)) ⌝ }
     ensures { λ r. ⌜ countIn r ≤ recordRoom ⌝ }
 {
-    let named = name(line, cursor);
-    let Named::By { cipher, id, next } = named else {
+    let pair = next_pair(line, cursor);
+    let Pair::Of { cipher, id, next } = pair else {
         return Parsed::Malformed;
     };
     alone(Parsed::Join { cipher, id }, next)
 }
 
-fn voice(line: &[u8], cursor: Cursor, octets: &mut [u8]) -> Parsed
+fn voice_record(line: &[u8], cursor: Cursor, octets: &mut [u8]) -> Parsed
     requires { ⌜ (cursor .at ≤ length (now line)) × (length (now octets) ≡ recordRoom) ⌝ }
-    ensures { λ r. ⌜ recordIn r (now (octets .exit)) ≡ voice (left (now (line .entry)) cursor) ⌝ }
+    ensures { λ r. ⌜ recordIn r (now (octets .exit)) ≡ voiceRecord (left (now (line .entry)) cursor) ⌝ }
     ensures { λ r. ⌜ countIn r ≤ recordRoom ⌝ }
 {
     let first = next_number(line, cursor, MOST_NUMBER);
@@ -114,9 +118,9 @@ fn voice(line: &[u8], cursor: Cursor, octets: &mut [u8]) -> Parsed
     Parsed::Malformed
 }
 
-fn announce(line: &[u8], cursor: Cursor, octets: &mut [u8]) -> Parsed
+fn announce_record(line: &[u8], cursor: Cursor, octets: &mut [u8]) -> Parsed
     requires { ⌜ (cursor .at ≤ length (now line)) × (length (now octets) ≡ recordRoom) ⌝ }
-    ensures { λ r. ⌜ recordIn r (now (octets .exit)) ≡ announce (left (now (line .entry)) cursor) ⌝ }
+    ensures { λ r. ⌜ recordIn r (now (octets .exit)) ≡ announceRecord (left (now (line .entry)) cursor) ⌝ }
     ensures { λ r. ⌜ countIn r ≤ recordRoom ⌝ }
 {
     if last_hex(line, cursor, &mut octets[..VECTOR_OCTETS]) {
@@ -143,11 +147,11 @@ pub fn read(line: &[u8], octets: &mut [u8]) -> Parsed
         return Parsed::Malformed;
     }
     match line[start] {
-        b'K' => load(line, next, octets),
-        b'O' => open(line, next, octets),
-        b'J' => join(line, next),
-        b'V' => voice(line, next, octets),
-        b'I' => announce(line, next, octets),
+        b'K' => load_record(line, next, octets),
+        b'O' => open_record(line, next, octets),
+        b'J' => join_record(line, next),
+        b'V' => voice_record(line, next, octets),
+        b'I' => announce_record(line, next, octets),
         b'L' => alone(Parsed::Lost, next),
         b'E' => alone(Parsed::End, next),
         _ => Parsed::Malformed,

@@ -2,3 +2,4 @@ pub mod RangeLaws
 pub mod PartedLaws
 pub mod DecimalLaws
 pub mod HexLaws
+pub mod FieldLaws

@@ -35,6 +35,10 @@ isHex n xs = eqb (length xs) (2 * n) && allBelow (λ i. isHexDigit (getD xs i 0)
 unfoldable pub hexOctets : List ℕ → ℕ → List ℕ
 hexOctets xs n = tab (λ i. 16 * hexValue (getD xs (2 * i) 0) + hexValue (getD xs (2 * i + 1) 0)) n
 
+-- the octets that a field of hex stands for
+abbrev pub octetsIn : List ℕ → List ℕ
+octetsIn field = hexOctets field (length field / 2)
+
 -- octets as text
 unfoldable pub hexText : List ℕ → List ℕ
 hexText xs = tab (λ k. hexDigit (getD xs (k / 2) 0 / pick (eqb (k % 2) 0) 16 1 % 16)) (2 * length xs)

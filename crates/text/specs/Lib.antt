@@ -1,3 +1,5 @@
 pub mod Parted
 pub mod Decimal
 pub mod Hex
+pub mod Fields
+pub mod Walked

@@ -11,6 +11,7 @@ use borrow.Author.Tests.{lt-ltb, le-ltb}
 use Rattle.octets.specs.Tests.{pick}
 use Rattle.octets.specs.Bits.{Octets}
 use Rattle.text.specs.Parted.{tabOctet, parted, partEnd}
+use Rattle.text.specs.Fields.{fieldAt}
 use Rattle.text.specs.Hex.{isHex, hexText, mostOctets, readHex}
 use Rattle.text.proofs.PartedLaws.{parted-step, end-within}
 use Rattle.text.proofs.HexLaws.{read-of, length-hexText, hex-back, hex-round, hexText-hex}
@@ -24,7 +25,7 @@ pub record Walked (row : List ℕ) (n k at : ℕ) : Type 0 where
 
 module _ (row : List ℕ) (n : ℕ) where
   pub walk-start : Walked row n 0 0
-  unfolding fieldOf
+  unfolding fieldOf fieldAt
   walk-start = record { inside = omega arith; few = omega arith; rest = rw sub-zero }
 
   -- the field that begins there ends at e

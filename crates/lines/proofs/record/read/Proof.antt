@@ -25,27 +25,27 @@ read-spec =
     (λ c κs. search needs)
     (λ c. search needs)
     (λ c. (
-      c .before .before .load .ensures .0 ∙ by-load _ (search needs) _ (c .before .before .before .before .before .before .before .before .next-field .ensures) (search needs) (c .before .before .before .before .match .keys1),
-      (search needs, c .before .before .load .ensures .1),
+      c .before .before .load-record .ensures .0 ∙ by-load _ (search needs) _ (c .before .before .before .before .before .before .before .before .next-field .ensures) (search needs) (c .before .before .before .before .match .keys1),
+      (search needs, c .before .before .load-record .ensures .1),
     ))
     (λ c. search needs)
     (λ c. (
-      c .before .before .«open» .ensures .0 ∙ by-open _ (search needs) _ (c .before .before .before .before .before .before .before .before .next-field .ensures) (search needs) (c .before .before .before .before .match .keys2),
-      (search needs, c .before .before .«open» .ensures .1),
+      c .before .before .open-record .ensures .0 ∙ by-open _ (search needs) _ (c .before .before .before .before .before .before .before .before .next-field .ensures) (search needs) (c .before .before .before .before .match .keys2),
+      (search needs, c .before .before .open-record .ensures .1),
     ))
     (λ c. (
-      c .join .ensures .0 _ ∙ by-join _ (search needs) _ (c .before .before .before .before .before .next-field .ensures) (search needs) (c .before .match .keys3),
-      (search needs, c .join .ensures .1),
-    ))
-    (λ c. search needs)
-    (λ c. (
-      c .before .before .voice .ensures .0 ∙ by-voice _ (search needs) _ (c .before .before .before .before .before .before .before .before .next-field .ensures) (search needs) (c .before .before .before .before .match .keys4),
-      (search needs, c .before .before .voice .ensures .1),
+      c .join-record .ensures .0 _ ∙ by-join _ (search needs) _ (c .before .before .before .before .before .next-field .ensures) (search needs) (c .before .match .keys3),
+      (search needs, c .join-record .ensures .1),
     ))
     (λ c. search needs)
     (λ c. (
-      c .before .before .announce .ensures .0 ∙ by-announce _ (search needs) _ (c .before .before .before .before .before .before .before .before .next-field .ensures) (search needs) (c .before .before .before .before .match .keys5),
-      (search needs, c .before .before .announce .ensures .1),
+      c .before .before .voice-record .ensures .0 ∙ by-voice _ (search needs) _ (c .before .before .before .before .before .before .before .before .next-field .ensures) (search needs) (c .before .before .before .before .match .keys4),
+      (search needs, c .before .before .voice-record .ensures .1),
+    ))
+    (λ c. search needs)
+    (λ c. (
+      c .before .before .announce-record .ensures .0 ∙ by-announce _ (search needs) _ (c .before .before .before .before .before .before .before .before .next-field .ensures) (search needs) (c .before .before .before .before .match .keys5),
+      (search needs, c .before .before .announce-record .ensures .1),
     ))
     (λ c. (
       alone-is _ _ code.Lost _ (c .alone .ensures) _ ∙ by-lost _ (search needs) _ (c .before .before .before .before .before .next-field .ensures) (search needs) (c .before .match .keys6),

@@ -1,12 +1,12 @@
--- `lines::field::last_hex` meets its contract.
+-- `text::field::last_hex` meets its contract.
 use mathlib.Core.Path.{sym, _∙_}
 use mathlib.Core.Bool.{false≢true}
 use lib.ListN.{length}
 use borrow.Author.Needs.{needs}
 use borrow.Author.Tests.{not-true, not-false}
-use Rattle.lines.proofs.FieldLaws.{no-last, is-last, last-read}
-use Rattle.lines.proofs.field.last_hex.Statement.{statement}
-use Rattle.lines.proofs.field.last_hex.Tie as tie
+use Rattle.text.proofs.FieldLaws.{no-last, is-last, last-read}
+use Rattle.text.proofs.field.last_hex.Statement.{statement}
+use Rattle.text.proofs.field.last_hex.Tie as tie
 
 returns-2 : tie.Need-returns-2
 returns-2 c =

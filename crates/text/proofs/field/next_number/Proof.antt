@@ -1,9 +1,9 @@
--- `lines::field::next_number` meets its contract.
+-- `text::field::next_number` meets its contract.
 use mathlib.Core.Path.{ap, _∙_}
 use borrow.Author.Needs.{needs}
 use Rattle.text.specs.Decimal.{numberIn}
-use Rattle.lines.proofs.field.next_number.Statement.{statement}
-use Rattle.lines.proofs.field.next_number.Tie as tie
+use Rattle.text.proofs.field.next_number.Statement.{statement}
+use Rattle.text.proofs.field.next_number.Tie as tie
 
 returns : tie.Need-returns
 returns c =

@@ -3,15 +3,15 @@ ghost use mathlib.Core.Path.{_≡_};
 ghost use mathlib.Core.Bool.{true};
 ghost use Prim.Native.Nat.{_≤_};
 ghost use lib.ListN.{length, drop};
 ghost use Rattle.text.specs.Decimal.{numberIn};
 ghost use Rattle.text.specs.Hex.{mostOctets, hexOctets};
-ghost use Rattle.lines.specs.Record.{fieldAt};
-ghost use Rattle.lines.specs.Fields.{left, IsField, IsNamed, lastHex};
-use text::decimal::Number;
-use text::decimal::read_number;
-use text::hex::read_hex;
-use text::part::TAB;
-use text::part::part_end;
+ghost use Rattle.text.specs.Fields.{fieldAt};
+ghost use Rattle.text.specs.Walked.{left, IsField, lastHex};
+use crate::decimal::Number;
+use crate::decimal::read_number;
+use crate::hex::read_hex;
+use crate::part::TAB;
+use crate::part::part_end;
 
 // A place in a line: where the next field begins, or that there is none.
 pub struct Cursor {
@@ -66,9 +66,6 @@ pub struct Numbered {
     pub next: Cursor,
 }
 
-// The most that a number of a record is.
-pub const MOST_NUMBER: u32 = 255;
-
 pub fn next_number(line: &[u8], cursor: Cursor, most: u32) -> Numbered
     requires { ⌜ cursor .at ≤ length (now line) ⌝ }
     ensures { λ r. ⌜ r .number ≡ numberIn most (fieldAt (left (now (line .entry)) cursor) 0) ⌝ }
@@ -80,35 +77,6 @@ pub fn next_number(line: &[u8], cursor: Cursor, most: u32) -> Numbered
     let next = field.next;
     let number = read_number(&line[start..end], most);
     Numbered { number, next }
-}
-
-// The cipher and key ID that name a key, and the place after them.
-pub enum Named {
-    By { cipher: u8, id: u8, next: Cursor },
-    Not,
-}
-
-pub fn name(line: &[u8], cursor: Cursor) -> Named
-    requires { ⌜ cursor .at ≤ length (now line) ⌝ }
-    ensures { λ r. ⌜ IsNamed (now (line .entry)) (left (now (line .entry)) cursor) r ⌝ }
-{
-    let first = next_number(line, cursor, MOST_NUMBER);
-    let after = first.next;
-    let second = next_number(line, after, MOST_NUMBER);
-    let next = second.next;
-    let cipher_field = first.number;
-    let id_field = second.number;
-    let Number::Of(cipher) = cipher_field else {
-        return Named::Not;
-    };
-    let Number::Of(id) = id_field else {
-        return Named::Not;
-    };
-    Named::By {
-        cipher: cipher as u8,
-        id: id as u8,
-        next,
-    }
 }
 
 // Reads the last field into lent octets, and answers whether it is the hex of as many. It is the rest of the line, which is no hex where

@@ -1,9 +1,9 @@
--- `lines::field::next_field` meets its contract.
+-- `text::field::next_field` meets its contract.
 use borrow.Author.Needs.{needs}
 use borrow.Author.Tests.{not-true, not-false}
-use Rattle.lines.proofs.FieldLaws.{field-none, field-more, field-last}
-use Rattle.lines.proofs.field.next_field.Statement.{statement}
-use Rattle.lines.proofs.field.next_field.Tie as tie
+use Rattle.text.proofs.FieldLaws.{field-none, field-more, field-last}
+use Rattle.text.proofs.field.next_field.Statement.{statement}
+use Rattle.text.proofs.field.next_field.Tie as tie
 
 pub next-field-spec : {M : Type 1} → statement M
 next-field-spec =
