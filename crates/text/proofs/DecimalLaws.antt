@@ -1,20 +1,19 @@
--- Decimal numbers: read digit by digit, written from the last digit on, and that reading takes back what writing made.
+-- Decimal numbers: read digit by digit, written with the digits of the tenth part first, and that reading takes back what writing made.
 use mathlib.Core.Path.{_≡_, refl, sym, ap, _∙_}
 use mathlib.Core.Bool.{Bool, true, false, _||_, or-true, not, true≢false}
 use mathlib.Core.List.{List, [], _∷_, _++_}
 use Prim.Native.Nat.{ℕ, zero, suc, _+_, _-_, _*_, _/_, _%_, _^_, _≤_, _<_}
-use native.Mathlib.Nat.{mod-eq-of-lt, pow-suc}
+use native.Mathlib.Nat.{mod-eq-of-lt, pow-suc, zero-add}
 use native.Mathlib.Decide.{ℕ-discrete, decLt}
 use native.Mathlib.Numerals.{add-one}
 use native.Mathlib.Omega.{arith}
 use lib.Dec.{ltb, leb, eqb}
-use lib.ListN.{length, getD, set, take, length-append, length-set, List·getD-append}
-use lib.Seq.{take-at, take-take, take-suc, take-length, getD-at, getD-take, getD-set-same, getD-set-other, length-take-le, ext-getD}
+use lib.ListN.{length, getD, set, take, drop, length-append, List·getD-append}
+use lib.Seq.{take-suc, take-length, drop-cons, append-snoc, getD-at, set-at, set-split}
 use borrow.Author.Tests.{lt-ltb, le-ltb, le-leb, lt-leb, leb-true, eq-eqb, ne-eqb}
 use Rattle.octets.specs.Tests.{pick, allBelow}
 use Rattle.octets.specs.Lists.{replaced}
 use Rattle.octets.proofs.TestLaws.{every-fails, every-at, all-none, all-at, all-more, all-fails, all-intro}
-use Rattle.octets.proofs.Parts.{replaced-length, replaced-in, replaced-after}
 use Rattle.text.specs.declared.decimal.Number.the-variants.{Of, Not}
 use Rattle.text.specs.Decimal.{isDigit, valueTo, decimalValue, isDecimal, numberIn, lastDigits, decimal}
 use Rattle.text.proofs.PartedLaws.{Lacks}
@@ -173,7 +172,7 @@ module _ (n : ℕ) where
   unfolding decimal lastDigits
   decimal-more h = rw (le-ltb n 10 h, enough n (suc (n / 10)) (n / 10) (omega arith) (omega arith))
 
-  longer : 10 ≤ n → length (decimal n) ≡ length (decimal (n / 10)) + 1
+  pub longer : 10 ≤ n → length (decimal n) ≡ length (decimal (n / 10)) + 1
   longer h = rw (decimal-more h) (length-append (decimal (n / 10)) ((48 + n % 10) ∷ []))
 
 -- what holds of one digit, and of a number where it holds of its tenth part, holds of each
@@ -207,90 +206,28 @@ decimal-size (suc k) n h = go (decLt n 10) (decimal-size k (n / 10) (omega (arit
     go (yes s) tenth = rw (decimal-one n s) (omega arith)
     go (no s) tenth = omega (arith, longer n (omega arith))
 
-many-digits : (n : ℕ) → 2 ≤ length (decimal n) → 10 ≤ n
-many-digits n h = go (decLt n 10)
-  where
-    go : Dec (n < 10) → 10 ≤ n
-    go (yes s) = absurd (omega (arith, ap length (decimal-one n s)))
-    go (no s) = omega arith
+-- ---- over lent octets
 
--- the last one
-last-digit : (n k : ℕ) → length (decimal n) ≡ suc k → getD (decimal n) k 0 ≡ 48 + n % 10
-last-digit n k e = go (decLt n 10)
-  where
-    go : Dec (n < 10) → getD (decimal n) k 0 ≡ 48 + n % 10
-    go (yes s) = let z : k ≡ 0 = omega (arith, ap length (decimal-one n s)) in rw (z, decimal-one n s, mod-eq-of-lt s)
-    go (no s) =
-        let l : 10 ≤ n = omega arith in
-        rw (decimal-more n l) (getD-at (decimal (n / 10)) (48 + n % 10) [] 0 k (omega (arith, longer n l)))
+module _ (n : ℕ) (out : List ℕ) (fits : length (decimal n) ≤ length out) where
+  pub written-one : n < 10 → (1 ≡ length (decimal n)) × (set out 0 (48 + n) ≡ replaced out 0 (length (decimal n)) (decimal n))
+  unfolding replaced
+  written-one h =
+      let l = ap length (decimal-one n h) in
+      (sym l, rw (decimal-one n h) (set-split out 0 (48 + n) (omega arith)))
 
--- a loop that has taken digits off
-pub record Counting (n count rest : ℕ) : Type 0 where
-  pub counted : count + length (decimal rest) ≡ length (decimal n) + 1
-
-pub counting-start : (n : ℕ) → Counting n 1 n
-counting-start n = record { counted = omega arith }
-
-pub counting-more : {n count rest : ℕ} → Counting n count rest → 9 < rest → Counting n (count + 1) (rest / 10)
-counting-more {n} {count} {rest} c h = record { counted = omega (arith, c .counted, longer rest (omega arith)) }
-
-pub counting-few : {n count rest : ℕ} → Counting n count rest → n < 4294967296 → count ≤ 10
-counting-few {n} {count} {rest} c h = omega (arith, c .counted, decimal-some rest, decimal-size 9 n (omega arith))
-
-pub counting-done : {n count rest : ℕ} → Counting n count rest → rest ≤ 9 → count ≡ length (decimal n)
-counting-done {n} {count} {rest} c h = omega (arith, c .counted, ap length (decimal-one rest (omega arith)))
-
--- ---- from the last digit on
-
--- a loop that has written the digits from a place on; those before it are the rest's
-pub record Writing (n : ℕ) (d₀ d : List ℕ) (at rest : ℕ) : Type 0 where
-  pub within : at ≤ length (decimal n)
-  pub size : length d ≡ length d₀
-  pub before : 1 ≤ at → take at (decimal n) ≡ decimal rest
-  pub done : (j : ℕ) → at ≤ j → j < length (decimal n) → getD d j 0 ≡ getD (decimal n) j 0
-  pub after : (j : ℕ) → length (decimal n) ≤ j → getD d j 0 ≡ getD d₀ j 0
-
-module _ (n : ℕ) (d₀ : List ℕ) where
-  pub writing-start : Writing n d₀ d₀ (length (decimal n)) n
-  writing-start =
-      record { within = omega arith; size = refl; before = λ h. take-length (decimal n); done = λ j h l. absurd (omega arith); after = λ j h. refl }
-
-  module _ (d : List ℕ) (at rest : ℕ) (fits : length (decimal n) ≤ length d₀) (w : Writing n d₀ d at rest) where
-    pub writing-more : 0 < at → Writing n d₀ (set d (at - 1) (48 + rest % 10)) (at - 1) (rest / 10)
-    writing-more h =
-        record {
-          within = omega (arith, w .within);
-          size = length-set d (at - 1) (48 + rest % 10) ∙ w .size;
-          before = λ l. tenth l;
-          done = λ j l m. here j l m (ℕ-discrete j (at - 1));
-          after = λ j l. getD-set-other d (at - 1) j (48 + rest % 10) 0 (λ q. omega (arith, w .within)) ∙ w .after j l;
-        }
-      where
-        long : length (decimal rest) ≡ at
-        long = ap length (sym (w .before h)) ∙ length-take-le at (decimal n) (w .within)
-
-        tenth : 1 ≤ at - 1 → take (at - 1) (decimal n) ≡ decimal (rest / 10)
-        tenth l =
-            let many = many-digits rest (omega (arith, long)) in
-            sym (take-take (at - 1) at (decimal n) (omega arith))
-            ∙ rw (w .before h, decimal-more rest many) (take-at (decimal (rest / 10)) ((48 + rest % 10) ∷ []) (at - 1) (omega (arith, long, longer rest many)))
-
-        here : (j : ℕ) → at - 1 ≤ j → j < length (decimal n) → Dec (j ≡ at - 1) → getD (set d (at - 1) (48 + rest % 10)) j 0 ≡ getD (decimal n) j 0
-        here j l m (yes e) =
-            rw e
-            (getD-set-same d (at - 1) (48 + rest % 10) 0 (omega (arith, w .within, w .size))
-            ∙ sym (sym (getD-take at (decimal n) (at - 1) 0 (omega arith)) ∙ rw (w .before h) (last-digit rest (at - 1) (omega (arith, long)))))
-        here j l m (no e) = getD-set-other d (at - 1) j (48 + rest % 10) 0 e ∙ w .done j (omega arith) m
-
-    pub writing-done : at ≤ 0 → d ≡ replaced d₀ 0 (length (decimal n)) (decimal n)
-    writing-done h = ext-getD 0 d (replaced d₀ 0 (length (decimal n)) (decimal n)) (w .size ∙ sym size) (λ j l. by j (decLt j (length (decimal n))))
-      where
-        size : length (replaced d₀ 0 (length (decimal n)) (decimal n)) ≡ length d₀
-        size = replaced-length d₀ (decimal n) 0 (length (decimal n)) refl (omega arith)
-
-        by : (j : ℕ) → Dec (j < length (decimal n)) → getD d j 0 ≡ getD (replaced d₀ 0 (length (decimal n)) (decimal n)) j 0
-        by j (yes l) = let z : 0 + j ≡ j = omega arith in w .done j (omega arith) l ∙ sym (rw z at (replaced-in d₀ (decimal n) 0 (length (decimal n)) refl (omega arith) j l))
-        by j (no l) = w .after j (omega arith) ∙ sym (replaced-after d₀ (decimal n) 0 (length (decimal n)) refl (omega arith) j (omega arith))
+  -- the last digit after those of the tenth part
+  pub written-more : 10 ≤ n → (at : ℕ) (d : List ℕ) → (at ≡ length (decimal (n / 10))) × (d ≡ replaced out 0 (length (decimal (n / 10))) (decimal (n / 10)))
+      → (at + 1 ≡ length (decimal n)) × (set d at (48 + n % 10) ≡ replaced out 0 (length (decimal n)) (decimal n))
+  unfolding replaced
+  written-more h at d w =
+      let tenth = decimal (n / 10) in
+      let k = length tenth in
+      let l : k < length out = omega (arith, longer n h) in
+      let long : length (decimal n) ≡ suc k = longer n h ∙ omega arith in (
+        omega (arith, w .0, longer n h),
+        rw (w .0, w .1, zero-add k, drop-cons out k 0 l, set-at tenth (getD out k 0) (drop (suc k) out) (48 + n % 10) k refl)
+            (sym (rw (long, decimal-more n h, zero-add (suc k), append-snoc tenth (48 + n % 10) (drop (suc k) out)) refl)),
+      )
 
 -- ---- what was written is read
 
@@ -334,7 +271,7 @@ all-digits = by-digits AllDigits one more
       where
         go : Dec (k < length (decimal (n / 10))) → isDigit (getD (decimal n) k 0) ≡ true
         go (yes s) = rw (decimal-more n h, List·getD-append (decimal (n / 10)) ((48 + n % 10) ∷ []) 0 k s) (tenth k s)
-        go (no s) = rw (last-digit n k (omega (arith, longer n h))) (inside 48 57 (48 + n % 10) (omega arith) (omega arith))
+        go (no s) = let at = getD-at (decimal (n / 10)) (48 + n % 10) [] 0 k (omega (arith, longer n h)) in rw (decimal-more n h, at) (inside 48 57 (48 + n % 10) (omega arith) (omega arith))
 
 -- the first is 0 only of 0
 first-digit : (n : ℕ) → 1 ≤ n → getD (decimal n) 0 0 ≡ 48 → ⊥

@@ -42,31 +42,16 @@ pub fn read_number(field: &[u8], most: u32) -> Number
     Number::Of(value as u32)
 }
 
-// How many digits a number has.
-fn digits(n: u32) -> usize
-    ensures { λ r. ⌜ r ≡ length (decimal n) ⌝ }
-{
-    let mut count = 1;
-    let mut rest = n;
-    while rest > 9 {
-        rest /= 10;
-        count += 1;
-    }
-    count
-}
-
-// Writes a number at the start of lent octets, and answers how many octets it took: at most ten.
+// Writes a number at the start of lent octets, the digits of its tenth part first, and answers how many octets it took: at most ten.
 pub fn put_decimal(out: &mut [u8], n: u32) -> usize
     requires { ⌜ length (decimal n) ≤ length (now out) ⌝ }
     ensures { λ r. ⌜ (r ≡ length (decimal n)) × (now (out .exit) ≡ replaced (now (out .entry)) 0 (length (decimal n)) (decimal n)) ⌝ }
 {
-    let count = digits(n);
-    let mut rest = n;
-    let mut at = count;
-    while at > 0 {
-        at -= 1;
-        out[at] = b'0' + (rest % 10) as u8;
-        rest /= 10;
+    if n < 10 {
+        out[0] = b'0' + n as u8;
+        return 1;
     }
-    count
+    let at = put_decimal(out, n / 10);
+    out[at] = b'0' + (n % 10) as u8;
+    at + 1
 }
