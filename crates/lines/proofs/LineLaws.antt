@@ -11,7 +11,7 @@ use Rattle.text.specs.Parted.{tabOctet, parted}
 use Rattle.text.specs.declared.field.Field.{Field}
 use Rattle.text.specs.Fields.{fieldAt}
 use Rattle.text.specs.Walked.{left, partOf, IsField}
-use Rattle.lines.specs.Record.{Lost, End, Malformed, lineOctets, loadRecord, openRecord, joinRecord, voiceRecord, announceRecord, alone, byLetter, lineOf}
+use Rattle.lines.specs.Record.{Malformed, lineOctets, byLetter, lineOf}
 
 pub line-long : (line : List ℕ) → lineOctets < length line → Malformed ≡ lineOf line
 unfolding lineOf
@@ -51,26 +51,8 @@ module _ (line : List ℕ) (short : length line ≤ lineOctets) (f : Field) (is 
   line-is =
       rw (le-ltb lineOctets (length line) short, first line short f is, eq-eqb (length (partOf line (f .start) (f .end))) 1 (size line short f is ∙ one), at-start, ← others line short f is)
 
-  pub by-load : letter ≡ 0x4B → loadRecord rest ≡ lineOf line
-  by-load e = sym (line-is ∙ rw e)
-
-  pub by-open : letter ≡ 0x4F → openRecord rest ≡ lineOf line
-  by-open e = sym (line-is ∙ rw e)
-
-  pub by-join : letter ≡ 0x4A → joinRecord rest ≡ lineOf line
-  by-join e = sym (line-is ∙ rw e)
-
-  pub by-voice : letter ≡ 0x56 → voiceRecord rest ≡ lineOf line
-  by-voice e = sym (line-is ∙ rw e)
-
-  pub by-announce : letter ≡ 0x49 → announceRecord rest ≡ lineOf line
-  by-announce e = sym (line-is ∙ rw e)
-
-  pub by-lost : letter ≡ 0x4C → alone Lost rest ≡ lineOf line
-  by-lost e = sym (line-is ∙ rw e)
-
-  pub by-end : letter ≡ 0x45 → alone End rest ≡ lineOf line
-  by-end e = sym (line-is ∙ rw e)
+  pub by-letter : (x : ℕ) → letter ≡ x → byLetter x rest ≡ lineOf line
+  by-letter x e = sym (line-is ∙ rw e)
 
   pub by-none : (letter ≡ 0x4B → ⊥) → (letter ≡ 0x4F → ⊥) → (letter ≡ 0x4A → ⊥) → (letter ≡ 0x56 → ⊥) → (letter ≡ 0x49 → ⊥) → (letter ≡ 0x4C → ⊥) → (letter ≡ 0x45 → ⊥) → Malformed ≡ lineOf line
   by-none a b c d e f g = sym (line-is ∙ rw (ne-eqb letter 0x4B a, ne-eqb letter 0x4F b, ne-eqb letter 0x4A c, ne-eqb letter 0x56 d, ne-eqb letter 0x49 e, ne-eqb letter 0x4C f, ne-eqb letter 0x45 g))

@@ -3,7 +3,7 @@ use mathlib.Core.Path.{_∙_}
 use borrow.Author.Needs.{needs}
 use Rattle.lines.specs.declared.record.Parsed.the-variants as code
 use Rattle.lines.proofs.RecordLaws.{alone-is, alone-count}
-use Rattle.lines.proofs.LineLaws.{line-long, line-no-letter, by-load, by-open, by-join, by-voice, by-announce, by-lost, by-end, by-none}
+use Rattle.lines.proofs.LineLaws.{line-long, line-no-letter, by-letter, by-none}
 use Rattle.lines.proofs.record.read.Statement.{statement}
 use Rattle.lines.proofs.record.read.Tie as tie
 
@@ -25,34 +25,34 @@ read-spec =
     (λ c κs. search needs)
     (λ c. search needs)
     (λ c. (
-      c .before .before .load-record .ensures .0 ∙ by-load _ (search needs) _ (c .before .before .before .before .before .before .before .before .next-field .ensures) (search needs) (c .before .before .before .before .match .keys1),
+      c .before .before .load-record .ensures .0 ∙ by-letter _ (search needs) _ (c .before .before .before .before .before .before .before .before .next-field .ensures) (search needs) _ (c .before .before .before .before .match .keys1),
       (search needs, c .before .before .load-record .ensures .1),
     ))
     (λ c. search needs)
     (λ c. (
-      c .before .before .open-record .ensures .0 ∙ by-open _ (search needs) _ (c .before .before .before .before .before .before .before .before .next-field .ensures) (search needs) (c .before .before .before .before .match .keys2),
+      c .before .before .open-record .ensures .0 ∙ by-letter _ (search needs) _ (c .before .before .before .before .before .before .before .before .next-field .ensures) (search needs) _ (c .before .before .before .before .match .keys2),
       (search needs, c .before .before .open-record .ensures .1),
     ))
     (λ c. (
-      c .join-record .ensures .0 _ ∙ by-join _ (search needs) _ (c .before .before .before .before .before .next-field .ensures) (search needs) (c .before .match .keys3),
+      c .join-record .ensures .0 _ ∙ by-letter _ (search needs) _ (c .before .before .before .before .before .next-field .ensures) (search needs) _ (c .before .match .keys3),
       (search needs, c .join-record .ensures .1),
     ))
     (λ c. search needs)
     (λ c. (
-      c .before .before .voice-record .ensures .0 ∙ by-voice _ (search needs) _ (c .before .before .before .before .before .before .before .before .next-field .ensures) (search needs) (c .before .before .before .before .match .keys4),
+      c .before .before .voice-record .ensures .0 ∙ by-letter _ (search needs) _ (c .before .before .before .before .before .before .before .before .next-field .ensures) (search needs) _ (c .before .before .before .before .match .keys4),
       (search needs, c .before .before .voice-record .ensures .1),
     ))
     (λ c. search needs)
     (λ c. (
-      c .before .before .announce-record .ensures .0 ∙ by-announce _ (search needs) _ (c .before .before .before .before .before .before .before .before .next-field .ensures) (search needs) (c .before .before .before .before .match .keys5),
+      c .before .before .announce-record .ensures .0 ∙ by-letter _ (search needs) _ (c .before .before .before .before .before .before .before .before .next-field .ensures) (search needs) _ (c .before .before .before .before .match .keys5),
       (search needs, c .before .before .announce-record .ensures .1),
     ))
     (λ c. (
-      alone-is _ _ code.Lost _ (c .alone .ensures) _ ∙ by-lost _ (search needs) _ (c .before .before .before .before .before .next-field .ensures) (search needs) (c .before .match .keys6),
+      alone-is _ _ code.Lost _ (c .alone .ensures) _ ∙ by-letter _ (search needs) _ (c .before .before .before .before .before .next-field .ensures) (search needs) _ (c .before .match .keys6),
       (search needs, alone-count (c .before .before .before .before .before .next-field .result .next .more) code.Lost _ (c .alone .ensures) (search needs)),
     ))
     (λ c. (
-      alone-is _ _ code.End _ (c .alone2 .ensures) _ ∙ by-end _ (search needs) _ (c .before .before .before .before .before .next-field .ensures) (search needs) (c .before .match .keys7),
+      alone-is _ _ code.End _ (c .alone2 .ensures) _ ∙ by-letter _ (search needs) _ (c .before .before .before .before .before .next-field .ensures) (search needs) _ (c .before .match .keys7),
       (search needs, alone-count (c .before .before .before .before .before .next-field .result .next .more) code.End _ (c .alone2 .ensures) (search needs)),
     ))
     (λ c. (
