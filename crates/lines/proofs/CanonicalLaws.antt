@@ -6,14 +6,14 @@ use Prim.Native.Nat.{ℕ, _/_, _≤_}
 use native.Mathlib.Omega.{arith}
 use lib.Dec.{ltb, leb, eqb}
 use lib.ListN.{length, getD}
-use borrow.Author.Tests.{eqb-true, leb-true}
+use borrow.Author.Tests.{eqb-true, ne-eqb, leb-true}
 use Rattle.octets.specs.Tests.{pick}
 use Rattle.octets.specs.Bits.{Octets}
 use Rattle.octets.proofs.TestLaws.{and-left, and-right}
 use Rattle.text.specs.Parted.{tabOctet, parted}
-use Rattle.text.specs.Decimal.{decimalValue}
+use Rattle.text.specs.Decimal.{decimalValue, decimal}
 use Rattle.text.specs.Hex.{isHex, octetsIn, hexText}
-use Rattle.text.specs.Fields.{fieldAt, areFields}
+use Rattle.text.specs.Fields.{fieldAt}
 use Rattle.text.proofs.PartedLaws.{joined, joined-parted}
 use Rattle.text.proofs.DecimalLaws.{decimal-back, decimal-most}
 use Rattle.text.proofs.HexLaws.{hex-size, hex-back, octets-hexOctets, length-hexOctets}
@@ -45,159 +45,107 @@ module _ (field : List ℕ) (n : ℕ) (h : isHex n field ≡ true) where
   back-is : hexText (octetsIn field) ≡ field
   back-is = rw half (hex-back field n h)
 
--- as many fields as there are
-three : (fs : List (List ℕ)) → length fs ≡ 3 → fs ≡ fieldAt fs 0 ∷ fieldAt fs 1 ∷ fieldAt fs 2 ∷ []
-unfolding fieldAt
-three [] e = absurd (omega arith)
-three (a ∷ []) e = absurd (omega arith)
-three (a ∷ b ∷ []) e = absurd (omega arith)
-three (a ∷ b ∷ c ∷ []) e = refl
-three (a ∷ b ∷ c ∷ d ∷ fs) e = absurd (omega arith)
+-- a number that was read from a field
+module _ (field : List ℕ) (h : isNumber field ≡ true) where
+  small-is : decimalValue field ≤ mostNumber
+  small-is = decimal-most mostNumber field h
 
-two : (fs : List (List ℕ)) → length fs ≡ 2 → fs ≡ fieldAt fs 0 ∷ fieldAt fs 1 ∷ []
-unfolding fieldAt
-two [] e = absurd (omega arith)
-two (a ∷ []) e = absurd (omega arith)
-two (a ∷ b ∷ []) e = refl
-two (a ∷ b ∷ c ∷ fs) e = absurd (omega arith)
-
-one : (fs : List (List ℕ)) → length fs ≡ 1 → fs ≡ fieldAt fs 0 ∷ []
-unfolding fieldAt
-one [] e = absurd (omega arith)
-one (a ∷ []) e = refl
-one (a ∷ b ∷ fs) e = absurd (omega arith)
-
-none : (fs : List (List ℕ)) → length fs ≡ 0 → fs ≡ []
-none [] e = refl
-none (a ∷ fs) e = absurd (omega arith)
+  number-is : decimal (decimalValue field) ≡ field
+  number-is = decimal-back mostNumber field h
 
 -- a line of a letter and fields
 abbrev lineWith : ℕ → List (List ℕ) → List ℕ
 lineWith x fs = joined tabOctet ((x ∷ []) ∷ fs)
 
--- ---- each kind of record
+-- ---- each kind of record, of as many fields as it has
 
--- a key is hex of its own size
-key-hex : (k : List ℕ) → isKey k ≡ true → isHex (length k / 2) k ≡ true
-key-hex k e = and-left (isHex (length k / 2) k) (leb 1 (length k / 2) && leb (length k / 2) keyRoom) e
+-- two tests, and three
+both : (a b : Bool) → (a && b) ≡ true → (a ≡ true) × (b ≡ true)
+both a b e = (and-left a b e, and-right a b e)
 
-key-size : (k : List ℕ) → isKey k ≡ true → (1 ≤ length k / 2) × (length k / 2 ≤ keyRoom)
-key-size k e =
-    let s = and-right (isHex (length k / 2) k) (leb 1 (length k / 2) && leb (length k / 2) keyRoom) e in
-    (leb-true 1 (length k / 2) (and-left (leb 1 (length k / 2)) (leb (length k / 2) keyRoom) s), leb-true (length k / 2) keyRoom (and-right (leb 1 (length k / 2)) (leb (length k / 2) keyRoom) s))
+all : (a b c : Bool) → ((a && b) && c) ≡ true → (a ≡ true) × (b ≡ true) × (c ≡ true)
+all a b c e = let p = and-left (a && b) c e in (and-left a b p, and-right a b p, and-right (a && b) c e)
 
-module _ (fs : List (List ℕ)) where
-  abbrev f₀ : List ℕ
-  f₀ = fieldAt fs 0
+load-of : (fs : List (List ℕ)) → (loadRecord fs ≡ Malformed → ⊥) → Of (loadRecord fs) (lineWith 0x4B fs)
+unfolding printed fieldAt isPair
+load-of [] n = absurd (n refl)
+load-of (c ∷ []) n = absurd (n refl)
+load-of (c ∷ i ∷ []) n = absurd (n refl)
+load-of (c ∷ i ∷ k ∷ []) n =
+    let t = passed ((isNumber c && isNumber i) && isKey k) (Load (decimalValue c) (decimalValue i) (octetsIn k)) n in
+    let is = all (isNumber c) (isNumber i) (isKey k) t in
+    let size = length k / 2 in
+    let key = both (isHex size k) (leb 1 size && leb size keyRoom) (is .2) in
+    let bounds = both (leb 1 size) (leb size keyRoom) (key .1) in
+    rw t
+    (record {
+      fine = (
+        small-is c (is .0),
+        small-is i (is .1),
+        omega (arith, leb-true 1 size (bounds .0), size-is k size (key .0)),
+        omega (arith, leb-true size keyRoom (bounds .1), size-is k size (key .0)),
+        octets-are k size (key .0),
+      );
+      line = rw (number-is c (is .0), number-is i (is .1), back-is k size (key .0));
+    })
+load-of (c ∷ i ∷ k ∷ f ∷ fs) n = absurd (n (rw (ne-eqb (length (c ∷ i ∷ k ∷ f ∷ fs)) 3 (λ e. omega arith))))
 
-  abbrev f₁ : List ℕ
-  f₁ = fieldAt fs 1
+open-of : (fs : List (List ℕ)) → (openRecord fs ≡ Malformed → ⊥) → Of (openRecord fs) (lineWith 0x4F fs)
+unfolding printed fieldAt isPair
+open-of [] n = absurd (n refl)
+open-of (c ∷ []) n = absurd (n refl)
+open-of (c ∷ i ∷ []) n = absurd (n refl)
+open-of (c ∷ i ∷ v ∷ []) n =
+    let t = passed ((isNumber c && isNumber i) && isHex vectorOctets v) (Open (decimalValue c) (decimalValue i) (octetsIn v)) n in
+    let is = all (isNumber c) (isNumber i) (isHex vectorOctets v) t in
+    rw t
+    (record {
+      fine = (small-is c (is .0), small-is i (is .1), size-is v vectorOctets (is .2), octets-are v vectorOctets (is .2));
+      line = rw (number-is c (is .0), number-is i (is .1), back-is v vectorOctets (is .2));
+    })
+open-of (c ∷ i ∷ v ∷ f ∷ fs) n = absurd (n (rw (ne-eqb (length (c ∷ i ∷ v ∷ f ∷ fs)) 3 (λ e. omega arith))))
 
-  abbrev f₂ : List ℕ
-  f₂ = fieldAt fs 2
+join-of : (fs : List (List ℕ)) → (joinRecord fs ≡ Malformed → ⊥) → Of (joinRecord fs) (lineWith 0x4A fs)
+unfolding printed fieldAt isPair
+join-of [] n = absurd (n refl)
+join-of (c ∷ []) n = absurd (n refl)
+join-of (c ∷ i ∷ []) n =
+    let t = passed (isNumber c && isNumber i) (Join (decimalValue c) (decimalValue i)) n in
+    let is = both (isNumber c) (isNumber i) t in
+    rw t (record { fine = (small-is c (is .0), small-is i (is .1)); line = rw (number-is c (is .0), number-is i (is .1)) })
+join-of (c ∷ i ∷ f ∷ fs) n = absurd (n (rw (ne-eqb (length (c ∷ i ∷ f ∷ fs)) 2 (λ e. omega arith))))
 
-  count-is : (n : ℕ) (b : Bool) → (areFields n fs && b) ≡ true → length fs ≡ n
-  count-is n b t = eqb-true (length fs) n (and-left (areFields n fs) b t)
+voice-of : (fs : List (List ℕ)) → (voiceRecord fs ≡ Malformed → ⊥) → Of (voiceRecord fs) (lineWith 0x56 fs)
+unfolding printed fieldAt
+voice-of [] n = absurd (n refl)
+voice-of (m ∷ []) n = absurd (n refl)
+voice-of (m ∷ v ∷ []) n =
+    let t = passed (isNumber m && isHex frameOctets v) (Voice (decimalValue m) (octetsIn v)) n in
+    let is = both (isNumber m) (isHex frameOctets v) t in
+    rw t
+    (record {
+      fine = (small-is m (is .0), size-is v frameOctets (is .1), octets-are v frameOctets (is .1));
+      line = rw (number-is m (is .0), back-is v frameOctets (is .1));
+    })
+voice-of (m ∷ v ∷ f ∷ fs) n = absurd (n (rw (ne-eqb (length (m ∷ v ∷ f ∷ fs)) 2 (λ e. omega arith))))
 
-  first-number : isPair fs ≡ true → isNumber f₀ ≡ true
-  unfolding isPair
-  first-number e = and-left (isNumber f₀) (isNumber f₁) e
+announce-of : (fs : List (List ℕ)) → (announceRecord fs ≡ Malformed → ⊥) → Of (announceRecord fs) (lineWith 0x49 fs)
+unfolding printed fieldAt
+announce-of [] n = absurd (n refl)
+announce-of (v ∷ []) n =
+    let t = passed (isHex vectorOctets v) (Announce (octetsIn v)) n in
+    rw t (record { fine = (size-is v vectorOctets t, octets-are v vectorOctets t); line = rw (back-is v vectorOctets t) })
+announce-of (v ∷ f ∷ fs) n = absurd (n (rw (ne-eqb (length (v ∷ f ∷ fs)) 1 (λ e. omega arith))))
 
-  second-number : isPair fs ≡ true → isNumber f₁ ≡ true
-  unfolding isPair
-  second-number e = and-right (isNumber f₀) (isNumber f₁) e
+lost-of : (fs : List (List ℕ)) → (alone Lost fs ≡ Malformed → ⊥) → Of (alone Lost fs) (lineWith 0x4C fs)
+unfolding printed
+lost-of [] n = record { fine = tt; line = refl }
+lost-of (f ∷ fs) n = absurd (n (rw (ne-eqb (length (f ∷ fs)) 0 (λ e. omega arith))))
 
-  load-of : (loadRecord fs ≡ Malformed → ⊥) → Of (loadRecord fs) (lineWith 0x4B fs)
-  unfolding printed
-  load-of n =
-      let t = passed (areFields 3 fs && (isPair fs && isKey f₂)) (Load (decimalValue f₀) (decimalValue f₁) (octetsIn f₂)) n in
-      let u = and-right (areFields 3 fs) (isPair fs && isKey f₂) t in
-      let pair = and-left (isPair fs) (isKey f₂) u in
-      let key = and-right (isPair fs) (isKey f₂) u in
-      let hex = key-hex f₂ key in
-      let size = key-size f₂ key in
-      rw t
-      (record {
-        fine = (
-          decimal-most mostNumber f₀ (first-number pair),
-          decimal-most mostNumber f₁ (second-number pair),
-          omega (arith, size .0, size-is f₂ (length f₂ / 2) hex),
-          omega (arith, size .1, size-is f₂ (length f₂ / 2) hex),
-          octets-are f₂ (length f₂ / 2) hex,
-        );
-        line =
-            rw (decimal-back mostNumber f₀ (first-number pair), decimal-back mostNumber f₁ (second-number pair), back-is f₂ (length f₂ / 2) hex)
-            (ap (lineWith 0x4B) (sym (three fs (count-is 3 (isPair fs && isKey f₂) t))));
-      })
-
-  open-of : (openRecord fs ≡ Malformed → ⊥) → Of (openRecord fs) (lineWith 0x4F fs)
-  unfolding printed
-  open-of n =
-      let t = passed (areFields 3 fs && (isPair fs && isHex vectorOctets f₂)) (Open (decimalValue f₀) (decimalValue f₁) (octetsIn f₂)) n in
-      let u = and-right (areFields 3 fs) (isPair fs && isHex vectorOctets f₂) t in
-      let pair = and-left (isPair fs) (isHex vectorOctets f₂) u in
-      let hex = and-right (isPair fs) (isHex vectorOctets f₂) u in
-      rw t
-      (record {
-        fine = (
-          decimal-most mostNumber f₀ (first-number pair),
-          decimal-most mostNumber f₁ (second-number pair),
-          size-is f₂ vectorOctets hex,
-          octets-are f₂ vectorOctets hex,
-        );
-        line =
-            rw (decimal-back mostNumber f₀ (first-number pair), decimal-back mostNumber f₁ (second-number pair), back-is f₂ vectorOctets hex)
-            (ap (lineWith 0x4F) (sym (three fs (count-is 3 (isPair fs && isHex vectorOctets f₂) t))));
-      })
-
-  join-of : (joinRecord fs ≡ Malformed → ⊥) → Of (joinRecord fs) (lineWith 0x4A fs)
-  unfolding printed
-  join-of n =
-      let t = passed (areFields 2 fs && isPair fs) (Join (decimalValue f₀) (decimalValue f₁)) n in
-      let pair = and-right (areFields 2 fs) (isPair fs) t in
-      rw t
-      (record {
-        fine = (decimal-most mostNumber f₀ (first-number pair), decimal-most mostNumber f₁ (second-number pair));
-        line =
-            rw (decimal-back mostNumber f₀ (first-number pair), decimal-back mostNumber f₁ (second-number pair)) (ap (lineWith 0x4A) (sym (two fs (count-is 2 (isPair fs) t))));
-      })
-
-  voice-of : (voiceRecord fs ≡ Malformed → ⊥) → Of (voiceRecord fs) (lineWith 0x56 fs)
-  unfolding printed
-  voice-of n =
-      let t = passed (areFields 2 fs && (isNumber f₀ && isHex frameOctets f₁)) (Voice (decimalValue f₀) (octetsIn f₁)) n in
-      let u = and-right (areFields 2 fs) (isNumber f₀ && isHex frameOctets f₁) t in
-      let mask = and-left (isNumber f₀) (isHex frameOctets f₁) u in
-      let hex = and-right (isNumber f₀) (isHex frameOctets f₁) u in
-      rw t
-      (record {
-        fine = (decimal-most mostNumber f₀ mask, size-is f₁ frameOctets hex, octets-are f₁ frameOctets hex);
-        line =
-            rw (decimal-back mostNumber f₀ mask, back-is f₁ frameOctets hex) (ap (lineWith 0x56) (sym (two fs (count-is 2 (isNumber f₀ && isHex frameOctets f₁) t))));
-      })
-
-  announce-of : (announceRecord fs ≡ Malformed → ⊥) → Of (announceRecord fs) (lineWith 0x49 fs)
-  unfolding printed
-  announce-of n =
-      let t = passed (areFields 1 fs && isHex vectorOctets f₀) (Announce (octetsIn f₀)) n in
-      let hex = and-right (areFields 1 fs) (isHex vectorOctets f₀) t in
-      rw t
-      (record {
-        fine = (size-is f₀ vectorOctets hex, octets-are f₀ vectorOctets hex);
-        line = rw (back-is f₀ vectorOctets hex) (ap (lineWith 0x49) (sym (one fs (count-is 1 (isHex vectorOctets f₀) t))));
-      })
-
-  lost-of : (alone Lost fs ≡ Malformed → ⊥) → Of (alone Lost fs) (lineWith 0x4C fs)
-  unfolding printed
-  lost-of n =
-      let t = passed (areFields 0 fs) Lost n in
-      rw t (record { fine = tt; line = ap (lineWith 0x4C) (sym (none fs (eqb-true (length fs) 0 t))) })
-
-  end-of : (alone End fs ≡ Malformed → ⊥) → Of (alone End fs) (lineWith 0x45 fs)
-  unfolding printed
-  end-of n =
-      let t = passed (areFields 0 fs) End n in
-      rw t (record { fine = tt; line = ap (lineWith 0x45) (sym (none fs (eqb-true (length fs) 0 t))) })
+end-of : (fs : List (List ℕ)) → (alone End fs ≡ Malformed → ⊥) → Of (alone End fs) (lineWith 0x45 fs)
+unfolding printed
+end-of [] n = record { fine = tt; line = refl }
+end-of (f ∷ fs) n = absurd (n (rw (ne-eqb (length (f ∷ fs)) 0 (λ e. omega arith))))
 
 -- ---- every line
 
