@@ -1,5 +1,5 @@
 -- Every operation on a device answers by the table, and where it refuses leaves book, calls, packets and lent octets as they were.
-use mathlib.Core.Path.{_≡_, refl, sym, ap, subst, _∙_}
+use mathlib.Core.Path.{_≡_, refl, sym, ap, _∙_}
 use mathlib.Core.Bool.{Bool, true, false}
 use mathlib.Core.List.{List, []}
 use Prim.Native.Nat.{ℕ, _<_}
@@ -13,25 +13,24 @@ use Rattle.answers.specs.Numbers.{numberOf, isOneOf, operationNumbers}
 use Rattle.answers.specs.Outcomes.{Refusals, answered}
 use Rattle.answers.proofs.OutcomeLaws.{Refusal, NoneHolds}
 use Rattle.answers.proofs.TableLaws.{Settles, settles}
-use Rattle.ciphers.specs.Keystream.{stream}
 use Rattle.keyentry.specs.Entry.{extendRefusals, completeRefusals, blank, extended, completed}
 use Rattle.keybook.specs.Book.{bookRefusals}
 use Rattle.keybook.specs.Operations as operations
 use Rattle.keybook.specs.History as book
 use Rattle.openings.specs.Ladder as ladder
-use Rattle.openings.specs.Ladder.{keyFor, vectorRefusals}
+use Rattle.openings.specs.Ladder.{sessionVector, keyFor, vectorRefusals}
 use Rattle.voice.specs.declared.call.Call.{Call}
-use Rattle.voice.specs.Call.{sendingEnd, receivingEnd, Standing, closed, bad, sending, receiving, standing, written, endRefusals, endOf}
+use Rattle.voice.specs.Call.{sendingEnd, receivingEnd, closed, standing, termsOf, written, knows, endRefusals, endOf}
 use Rattle.voice.specs.Opening.{joinRefusals, openRefusals, begun, openOf, startOf, joined, joinOf}
-use Rattle.voice.specs.Slot.{slotOn, lostRefusals, lostOf, voiceRefusals, voiceAfter, voiceBy}
-use Rattle.voice.specs.Vector.{told, announceRefusals, announceOf, following, nextRefusals, nextVectorOf}
-use Rattle.voice.proofs.SlotLaws.{voice-under-two}
+use Rattle.voice.specs.Slot.{slotOn, lostRefusals, lostOf, voiceRefusals, streamOf, voiceAfter, voiceBy}
+use Rattle.voice.specs.Vector.{withVector, announceRefusals, announceOf, following, nextRefusals, nextVectorOf}
+use Rattle.voice.proofs.SlotLaws.{taken-under-two}
 use Rattle.data.specs.declared.packet.Packet.{Packet}
 use Rattle.data.specs.Packet as packet
 use Rattle.data.specs.Opening as opening
 use Rattle.data.specs.Message as message
 use Rattle.demands.specs.Device.{withNone, Device, CallOperation, Open, Start, Join, Voice, Lost, End, Announce, NextVector, callStep, lentCall, PacketOperation, OpenPacket, Message, LostMessage, EndPacket, packetStep, lentPacket, Operation, OfBook, OfCall, OfPacket, withNumber, step}
-use Rattle.demands.specs.Refusals.{keyRefusals, callRefusals, packetRefusals, refusalsOf, slotAnswer, callUnrefused, unrefused}
+use Rattle.demands.specs.Refusals.{keyRefusals, callRefusals, packetRefusals, refusalsOf, callUnrefused, unrefused}
 use Rattle.demands.specs.Demand1.{Same, SameBeside}
 
 -- ---- on the book, a call, a packet
@@ -50,27 +49,17 @@ book-settles b (book.Erase c i) = settles b (operations.eraseRefusals b c i) (Do
 none-lent : {S : Type 0} {before : S} {rs : Refusals} {a : Answer} {o : Answer × S} → Settles before rs a o → Settles (before, []) rs a (withNone o)
 none-lent {S} s = record { number = s .number; answer = s .answer; none-holds = s .none-holds; keeps = λ h. ap (λ (x : S). (x, [])) (s .keeps h) }
 
--- a slot that nothing refuses
-slot-answer : (mask : ℕ) (frame : List ℕ) (s : Standing) → voiceAfter stream mask frame s .0 ≡ slotAnswer s
-slot-answer mask frame closed = refl
-slot-answer mask frame bad = refl
-slot-answer mask frame (sending c k p v) = refl
-slot-answer mask frame (receiving c k p true v) = refl
-slot-answer mask frame (receiving c k p false v) = refl
-
 pub call-settles : (b : List ℕ) (c : Call) (o : CallOperation) → Settles (c, lentCall o) (callRefusals b c o) (callUnrefused c o) (callStep b c o)
 unfolding callStep openOf startOf joinOf voiceBy lostOf endOf announceOf nextVectorOf openRefusals joinRefusals vectorRefusals ladder.keyRefusals
     voiceRefusals lostRefusals endRefusals announceRefusals nextRefusals
-call-settles b c (Open n i w) = none-lent (settles c (openRefusals (standing c) n i w b) (Done, begun receivingEnd n w (keyFor b n i)) refl (omega arith))
-call-settles b c (Start n i w) = none-lent (settles c (openRefusals (standing c) n i w b) (Done, begun sendingEnd n w (keyFor b n i)) refl (omega arith))
-call-settles b c (Join n i) = none-lent (settles c (joinRefusals (standing c) n i b) (Done, written (joined n (keyFor b n i))) refl (omega arith))
+call-settles b c (Open n i w) = none-lent (settles c (openRefusals (standing c) n i w b) (Done, written (begun receivingEnd (termsOf n (keyFor b n i)) (sessionVector n w))) refl (omega arith))
+call-settles b c (Start n i w) = none-lent (settles c (openRefusals (standing c) n i w b) (Done, written (begun sendingEnd (termsOf n (keyFor b n i)) (sessionVector n w))) refl (omega arith))
+call-settles b c (Join n i) = none-lent (settles c (joinRefusals (standing c) n i b) (Done, written (joined (termsOf n (keyFor b n i)))) refl (omega arith))
 call-settles b c (Voice mask frame) =
-    subst (λ (a : Answer). Settles (c, frame) (voiceRefusals (standing c) mask frame) a (voiceBy stream c mask frame)) (slot-answer mask frame (standing c))
-    (settles (c, frame) (voiceRefusals (standing c) mask frame) (voiceAfter stream mask frame (standing c)) refl
-    (voice-under-two stream c mask frame (standing c)))
+    settles (c, frame) (voiceRefusals (standing c) mask frame) (voiceAfter streamOf mask frame (standing c)) refl (taken-under-two (knows (standing c)))
 call-settles b c Lost = none-lent (settles c (lostRefusals (standing c)) (Done, written (slotOn (standing c))) refl (omega arith))
 call-settles b c End = none-lent (settles c (endRefusals (standing c)) (Done, written closed) refl (omega arith))
-call-settles b c (Announce w) = none-lent (settles c (announceRefusals (standing c) w) (Done, written (told w (standing c))) refl (omega arith))
+call-settles b c (Announce w) = none-lent (settles c (announceRefusals (standing c) w) (Done, written (withVector w (standing c))) refl (omega arith))
 call-settles b c (NextVector out) =
     let s = settles out (nextRefusals (standing c) out) (Done, following (standing c)) refl (omega arith) in
     record { number = s .number; answer = s .answer; none-holds = s .none-holds; keeps = λ h. ap (λ (x : List ℕ). (c, x)) (s .keeps h) }

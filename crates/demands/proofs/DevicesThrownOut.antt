@@ -13,7 +13,7 @@ use Rattle.octets.specs.Lists.{replaced, allZero}
 use Rattle.octets.proofs.TestLaws.{and-false-r}
 use Rattle.ciphers.specs.Keys.{oddOctet, scrambleKey, desKey, keyAllowed, keyRight}
 use Rattle.answers.specs.declared.Answer.{Answer}
-use Rattle.answers.specs.declared.Answer.the-variants.{Done}
+use Rattle.answers.specs.declared.Answer.the-variants.{Done, Held}
 use Rattle.answers.specs.Numbers.{numberOf, isDone}
 use Rattle.keyentry.specs.Entry as entry
 use Rattle.keybook.specs.Book as rules
@@ -23,11 +23,11 @@ use Rattle.sizes.specs.Ciphers.{noVector}
 use Rattle.openings.specs.Ladder.{keyRefusals, zeroFor, vectorRefusals}
 use Rattle.openings.specs.Samples.{seed, desABCD}
 use Rattle.voice.specs.declared.call.Call.{Call}
-use Rattle.voice.specs.Call.{vectorRight, closedTests, openTests, isClosed, isOpen, noCall, sending, receiving, standing, written}
+use Rattle.voice.specs.Call.{vectorRight, closedTests, openTests, isClosed, isOpen, unknown, told, Standing, sending, receiving, standing, termsOf, noCall, written, stands, knows}
 use Rattle.voice.specs.Opening.{openRefusals, joinRefusals}
-use Rattle.voice.specs.Slot.{zeroAfter, voiceOf}
+use Rattle.voice.specs.Slot.{zeroAfter, zeroNext, voiceOf}
 use Rattle.voice.specs.Vector.{announceRefusals}
-use Rattle.voice.proofs.SlotSteps.{voice-sent, voice-heard, voice-held}
+use Rattle.voice.proofs.SlotSteps.{voice-at}
 use Rattle.data.specs.Packet as packet
 use Rattle.demands.specs.Marked.{holding}
 use Rattle.demands.specs.Device.{Device, CallOperation, Open, Start, Join, Voice, Announce, callStep, Operation, OfBook, OfCall, OfPacket, Step, step, deviceAfter, history}
@@ -44,9 +44,9 @@ having b calls = record { book = b; calls = calls; packets = λ n. packet.noPack
 
 -- a DES receiver that joined
 abbrev listening : Call
-listening = written (receiving 2 desABCD 4 false noVector)
+listening = written (receiving (termsOf 2 desABCD) 4 unknown)
 
-listens : standing listening ≡ receiving 2 desABCD 4 false noVector
+listens : standing listening ≡ receiving (termsOf 2 desABCD) 4 unknown
 unfolding standing isClosed closedTests isOpen openTests keyRight vectorRight keyAllowed desKey oddOctet allZero allBelow
 listens = refl
 
@@ -56,7 +56,7 @@ noisy-thrown-out meets =
     let d = having [] (λ n. listening) in
     let o = OfCall 0 (Voice 15 silence) in
     let e : numberOf (step d o .0) ≡ 1 =
-    ap (λ (r : Answer × (Call × List ℕ)). numberOf (r .0)) (voice-held listening 15 silence (omega arith) refl 2 desABCD 4 noVector listens) in
+    ap (λ (r : Answer × (Call × List ℕ)). numberOf (r .0)) (voice-at listening 15 silence (omega arith) refl (receiving (termsOf 2 desABCD) 4 unknown) listens refl refl) in
     let u : pick (eqb (numberOf (step d o .0)) 1) noise (step d o .1 .1) ≡ silence = meets .untouched d o (λ z. omega arith) in
     let q : noise ≡ silence = rw e at u in
     let r = ap (λ (xs : List ℕ). getD xs 0 0) q in
@@ -70,7 +70,7 @@ filing-thrown-out meets =
     let d = having [] (λ n. listening) in
     let o = OfCall 0 (Voice 15 silence) in
     let e : numberOf (step d o .0) ≡ 1 =
-    ap (λ (r : Answer × (Call × List ℕ)). numberOf (r .0)) (voice-held listening 15 silence (omega arith) refl 2 desABCD 4 noVector listens) in
+    ap (λ (r : Answer × (Call × List ℕ)). numberOf (r .0)) (voice-at listening 15 silence (omega arith) refl (receiving (termsOf 2 desABCD) 4 unknown) listens refl refl) in
     let z : numberOf (filing d o .0) ≡ 0 = rw e in
     meets .unopened d o (slot 0 15 silence refl refl) z
 
@@ -167,17 +167,24 @@ unfolding book.step operations.beginOf operations.addOf operations.beginRefusals
     entry.lacks entry.newEntry entry.extendRefusals entry.extended allZero allBelow firstBelow replaced keyAllowed
 books = (refl, refl, refl, refl)
 
--- the calls are good
-stand : (standing (written (receiving 3 keptAes 0 true seed)) ≡ receiving 3 keptAes 0 true seed)
-    × (standing (written (sending 3 keptAes 0 seed)) ≡ sending 3 keptAes 0 seed)
-    × (standing (written (receiving 1 keptScramble 0 true noVector)) ≡ receiving 1 keptScramble 0 true noVector)
+-- the calls stand
+abbrev openedAes : Standing
+openedAes = receiving (termsOf 3 keptAes) 0 (told seed)
+
+abbrev startedAes : Standing
+startedAes = sending (termsOf 3 keptAes) 0 seed
+
+abbrev joinedScramble : Standing
+joinedScramble = receiving (termsOf 1 keptScramble) 0 (told noVector)
+
+stand : (standing (written openedAes) ≡ openedAes) × (standing (written startedAes) ≡ startedAes) × (standing (written joinedScramble) ≡ joinedScramble)
 unfolding standing isClosed closedTests isOpen openTests keyRight vectorRight keyAllowed scrambleKey allZero allBelow
 stand = (refl, refl, refl)
 
-heard : (c : ℕ) (k : List ℕ) (v : List ℕ) → standing (written (receiving c k 0 true v)) ≡ receiving c k 0 true v
-    → numberOf (voiceOf (written (receiving c k 0 true v)) 15 silence .0) ≡ 0
-heard c k v s =
-    ap (λ (r : Answer × (Call × List ℕ)). numberOf (r .0)) (voice-heard (written (receiving c k 0 true v)) 15 silence (omega arith) refl c k 0 v s)
+turns : (s : Standing) → standing (written s) ≡ s → stands s ≡ true → zeroNext s ≡ false → knows s ≡ true → numberOf (voiceOf (written s) 15 silence .0) ≡ 0
+turns s e o z k =
+    ap (λ (r : Answer × (Call × List ℕ)). numberOf (r .0)) (voice-at (written s) 15 silence (omega arith) refl s e o z)
+    ∙ ap (λ (t : Bool). numberOf (pick t Done Held)) k
 
 -- half a key of cipher c is added, a call is opened all the same, and its first slot is turned
 module _ (isHasty : CallOperation → Bool) where
@@ -210,19 +217,16 @@ module _ (isHasty : CallOperation → Bool) where
   unfolding openRefusals vectorRefusals keyRefusals zeroFor standing isClosed closedTests allZero allBelow firstBelow entry.inRange entry.isFor
       entry.entryRight entry.usedRight entry.readyRight entry.lacks rules.entryOf rules.findEntry rules.apart rules.goodBook
   hasty-open-thrown-out e =
-      half-key-fails 3 halfAes (books .0) (books .1) (Open 3 0 seed) (written (receiving 3 keptAes 0 true seed)) (rw e) (heard 3 keptAes seed (stand .0))
+      half-key-fails 3 halfAes (books .0) (books .1) (Open 3 0 seed) (written openedAes) (rw e) (turns openedAes (stand .0) refl refl refl)
 
   pub hasty-start-thrown-out : isHasty (Start 3 0 seed) ≡ true → Demand1 (hasty isHasty) → ⊥
   unfolding openRefusals vectorRefusals keyRefusals zeroFor standing isClosed closedTests allZero allBelow firstBelow entry.inRange entry.isFor
       entry.entryRight entry.usedRight entry.readyRight entry.lacks rules.entryOf rules.findEntry rules.apart rules.goodBook zeroAfter
   hasty-start-thrown-out e =
-      half-key-fails 3 halfAes (books .0) (books .1) (Start 3 0 seed) (written (sending 3 keptAes 0 seed)) (rw e)
-      (ap (λ (r : Answer × (Call × List ℕ)). numberOf (r .0))
-      (voice-sent (written (sending 3 keptAes 0 seed)) 15 silence (omega arith) refl 3 keptAes 0 seed (stand .1) refl))
+      half-key-fails 3 halfAes (books .0) (books .1) (Start 3 0 seed) (written startedAes) (rw e) (turns startedAes (stand .1) refl refl refl)
 
   pub hasty-join-thrown-out : isHasty (Join 1 0) ≡ true → Demand1 (hasty isHasty) → ⊥
   unfolding joinRefusals keyRefusals standing isClosed closedTests allZero allBelow firstBelow entry.inRange entry.isFor entry.entryRight entry.usedRight
       entry.readyRight entry.lacks rules.entryOf rules.findEntry rules.apart rules.goodBook
   hasty-join-thrown-out e =
-      half-key-fails 1 halfScramble (books .2) (books .3) (Join 1 0) (written (receiving 1 keptScramble 0 true noVector)) (rw e)
-      (heard 1 keptScramble noVector (stand .2))
+      half-key-fails 1 halfScramble (books .2) (books .3) (Join 1 0) (written joinedScramble) (rw e) (turns joinedScramble (stand .2) refl refl refl)

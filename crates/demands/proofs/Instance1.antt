@@ -1,7 +1,6 @@
 -- The premises of demand 1 can be met: a DES key that is begun, added in two parts and finished opens a call and a packet, and then a word and a
 -- message are turned, under it and no other.
 use mathlib.Core.Path.{_≡_, refl, sym, ap, _∙_}
-use mathlib.Core.Bool.{true}
 use mathlib.Core.List.{List, [], _∷_, _++_}
 use Prim.Native.Nat.{ℕ}
 use native.Mathlib.Omega.{arith}
@@ -19,10 +18,10 @@ use Rattle.keybook.specs.Operations as operations
 use Rattle.keybook.specs.History as book
 use Rattle.openings.specs.Ladder.{keyRefusals, zeroFor, vectorRefusals}
 use Rattle.voice.specs.declared.call.Call.{Call}
-use Rattle.voice.specs.Call.{vectorRight, closedTests, openTests, isClosed, isOpen, noCall, receiving, standing, written}
+use Rattle.voice.specs.Call.{vectorRight, closedTests, openTests, isClosed, isOpen, told, Standing, receiving, standing, termsOf, noCall, written}
 use Rattle.voice.specs.Opening.{openRefusals, openOf}
 use Rattle.voice.specs.Slot.{voiceOf}
-use Rattle.voice.proofs.SlotSteps.{voice-heard}
+use Rattle.voice.proofs.SlotSteps.{voice-at}
 use Rattle.data.specs.declared.packet.Packet.{Packet}
 use Rattle.data.specs.Kinds.{isKind}
 use Rattle.data.specs.Packet as packet
@@ -85,22 +84,22 @@ is-loaded =
 
 -- ---- it opens a call
 
-abbrev told : Call
-told = written (receiving 2 desABCD 0 true seed)
+abbrev heard : Standing
+heard = receiving (termsOf 2 desABCD) 0 (told seed)
 
-opens : openOf noCall 2 0 seed ready ≡ (Done, told)
+opens : openOf noCall 2 0 seed ready ≡ (Done, written heard)
 unfolding openOf openRefusals vectorRefusals keyRefusals zeroFor standing isClosed closedTests allZero allBelow firstBelow entry.inRange entry.isFor
     entry.entryRight entry.usedRight entry.readyRight entry.lacks rules.entryOf rules.findEntry rules.apart rules.goodBook keyAllowed desKey oddOctet
 opens = refl
 
-told-stands : standing told ≡ receiving 2 desABCD 0 true seed
+heard-stands : standing (written heard) ≡ heard
 unfolding standing isClosed closedTests isOpen openTests keyRight vectorRight keyAllowed desKey oddOctet allZero allBelow
-told-stands = refl
+heard-stands = refl
 
 abbrev pub opening-call : List Operation
 opening-call = OfCall 0 (Open 2 0 seed) ∷ loading
 
-is-open : deviceAfter step opening-call .calls 0 ≡ told
+is-open : deviceAfter step opening-call .calls 0 ≡ written heard
 unfolding deviceAfter step callStep
 is-open = ap (λ (d : Device). step d (OfCall 0 (Open 2 0 seed)) .1 .0 .calls 0) is-loaded ∙ ap (λ (r : Answer × Call). r .1) opens
 
@@ -109,14 +108,14 @@ pub word-done : numberOf (step (deviceAfter step opening-call) (OfCall 0 (Voice 
 unfolding step callStep
 word-done =
     ap (λ (c : Call). numberOf (voiceOf c 15 silence .0)) is-open
-    ∙ ap (λ (r : Answer × (Call × List ℕ)). numberOf (r .0)) (voice-heard told 15 silence (omega arith) refl 2 desABCD 0 seed told-stands)
+    ∙ ap (λ (r : Answer × (Call × List ℕ)). numberOf (r .0)) (voice-at (written heard) 15 silence (omega arith) refl heard heard-stands refl refl)
 
 pub word-turned : WordsTurned (history step opening-call) 0 (deviceAfter step opening-call .calls 0) 15 silence (step (deviceAfter step opening-call) (OfCall 0 (Voice 15 silence)) .1 .1)
 word-turned = ours-meets-1 .words opening-call 0 15 silence word-done
 
 -- and under this key
-pub word-key : deviceAfter step opening-call .calls 0 .key ≡ desABCD
-word-key = ap (λ (c : Call). c .key) is-open
+pub word-key : deviceAfter step opening-call .calls 0 .terms .key ≡ desABCD
+word-key = ap (λ (c : Call). c .terms .key) is-open
 
 -- ---- and a packet
 

@@ -9,7 +9,7 @@ use Rattle.voice.specs.Opening.{superframeSlots}
 use Rattle.octets.specs.Tests.{pick}
 use Rattle.demands.specs.Talk.{Slot, Session, Talk, WayIn, opening, joining}
 use Rattle.demands.specs.Arrivals.{Shown, shownIn, arriving, allSlots, slotsFrom, slotsAfter}
-use Rattle.demands.specs.Notices.{Notice, hear, join, announce, lost, voice, counts, slotNotice, slotNotices, startNotices, sessionNotices, firstNotices, noticesOf}
+use Rattle.demands.specs.Notices.{Notice, hear, join, announce, lost, voice, isReached, slotNotice, slotNotices, startNotices, sessionNotices, firstNotices, noticesOf}
 use Rattle.demands.specs.Log.{Receiver, Event, event, events, talkLog}
 
 -- ---- what notices bring
@@ -39,12 +39,12 @@ module _ (c : ℕ) where
   sessions-brought : (xs : List Session) → brought (sessionNotices c xs) ≡ arriving (allSlots xs)
   sessions-brought [] = refl
   sessions-brought (x ∷ xs) =
-      start-brought (not (scrambles c) && x .announced) (x .vector) (slotNotices (counts c (x .announced)) (x .slots) ++ sessionNotices c xs)
-      ∙ slots-brought (counts c (x .announced)) (x .slots) (allSlots xs) (sessionNotices c xs) (sessions-brought xs)
+      start-brought (not (scrambles c) && x .announced) (x .vector) (slotNotices (isReached c (x .announced)) (x .slots) ++ sessionNotices c xs)
+      ∙ slots-brought (isReached c (x .announced)) (x .slots) (allSlots xs) (sessionNotices c xs) (sessions-brought xs)
 
   first-brought : (told : Bool) (p : ℕ) (xs : List Session) → brought (firstNotices c told p xs) ≡ arriving (slotsFrom p xs)
   first-brought told p [] = refl
-  first-brought told p (x ∷ xs) = slots-brought (counts c told) (drop p (x .slots)) (allSlots xs) (sessionNotices c xs) (sessions-brought xs)
+  first-brought told p (x ∷ xs) = slots-brought (isReached c told) (drop p (x .slots)) (allSlots xs) (sessionNotices c xs) (sessions-brought xs)
 
 talk-brought : (t : Talk) (e : WayIn) → brought (noticesOf t e) ≡ arriving (slotsAfter t e)
 talk-brought t opening = opened (t .sessions)

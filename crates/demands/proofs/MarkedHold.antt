@@ -11,13 +11,13 @@ use Rattle.ciphers.specs.Keystream.{feedback, stream}
 use Rattle.keyentry.specs.Entry.{inRange, lacks, readyRight, usedRight, entryRight, isFor, completeRefusals}
 use Rattle.keybook.specs.Book.{entryOf, apart, goodBook, findEntry, bookRefusals}
 use Rattle.keybook.specs.Operations.{finishRefusals, finishOf}
-use Rattle.voice.specs.Slot.{received}
+use Rattle.voice.specs.Slot.{slotOn}
 use Rattle.demands.specs.Marked.{Marked, finishNumber}
 use Rattle.demands.proofs.MarkedVoice.{openings, example-2, held-on, after-four, after-three}
 use Rattle.demands.proofs.MarkedData.{example-3, example-10}
 
 pub marked : Marked
-unfolding stream feedback received finishNumber allBelow firstBelow oddOctet scrambleKey desKey keyAllowed allZero inRange lacks readyRight usedRight entryRight isFor completeRefusals entryOf apart goodBook findEntry bookRefusals finishRefusals finishOf
+unfolding stream feedback slotOn finishNumber allBelow firstBelow oddOctet scrambleKey desKey keyAllowed allZero inRange lacks readyRight usedRight entryRight isFor completeRefusals entryOf apart goodBook findEntry bookRefusals finishRefusals finishOf
 marked =
     record {
       example-1 = key-one;

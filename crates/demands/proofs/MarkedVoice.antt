@@ -1,8 +1,8 @@
 -- The marked examples of voice: 2, 11 and 12.
 use mathlib.Core.Path.{_≡_, refl, ap, _∙_}
-use mathlib.Core.Bool.{true, false}
+use mathlib.Core.Bool.{false}
 use mathlib.Core.List.{List}
-use Prim.Native.Nat.{ℕ, _+_, _≤_, _<_}
+use Prim.Native.Nat.{ℕ, _≤_, _<_}
 use native.Mathlib.Omega.{arith}
 use lib.ListN.{length, replicate}
 use borrow.Author.Tests.{eq-eqb, lt-ltb}
@@ -21,11 +21,11 @@ use Rattle.openings.specs.Ladder.{keyRefusals, zeroFor, vectorRefusals}
 use Rattle.openings.specs.Samples.{scramble0001, desABCD}
 use Rattle.sizes.specs.Frame.{frameOctets}
 use Rattle.voice.specs.Frame.{ofSlot, wordTurned, protect}
-use Rattle.voice.specs.Call.{vectorRight, closedTests, openTests, isClosed, isOpen, noCall, receiving, standing, written}
+use Rattle.voice.specs.Call.{vectorRight, closedTests, openTests, isClosed, isOpen, unknown, told, receiving, standing, termsOf, noCall, written}
 use Rattle.voice.specs.Opening.{joinRefusals, openRefusals, openOf, joinOf}
-use Rattle.voice.specs.Slot.{received, topMask, voiceOf}
+use Rattle.voice.specs.Slot.{slotOn, topMask, voiceOf}
 use Rattle.voice.specs.Vector.{announceRefusals, announceOf}
-use Rattle.voice.proofs.SlotSteps.{voice-heard, voice-held}
+use Rattle.voice.proofs.SlotSteps.{voice-at}
 use Rattle.demands.specs.Marked.{bookOfTwo, scrambling, waiting, frame8001}
 
 -- three openings over that book, without a call
@@ -41,25 +41,25 @@ frame-turned : protect (ofSlot (stream 1 scramble0001 noVector) 0) 3 (replicate 
 unfolding protect wordTurned turnedIn turned within replaced octetsFrom octet stream P iterate stepped keyNumber
 frame-turned = refl
 
-scrambling-stands : standing (scrambling 0) ≡ receiving 1 scramble0001 0 true noVector
+scrambling-stands : standing (scrambling 0) ≡ receiving (termsOf 1 scramble0001) 0 (told noVector)
 unfolding standing isClosed closedTests isOpen openTests keyRight vectorRight keyAllowed scrambleKey allZero allBelow
 scrambling-stands = refl
 
 pub example-2 : voiceOf (scrambling 0) 3 (replicate frameOctets 0) ≡ (Done, (scrambling 1, frame8001))
-unfolding received
+unfolding slotOn
 example-2 =
-    voice-heard (scrambling 0) 3 (replicate frameOctets 0) (omega arith) refl 1 scramble0001 0 noVector scrambling-stands
+    voice-at (scrambling 0) 3 (replicate frameOctets 0) (omega arith) refl (receiving (termsOf 1 scramble0001) 0 (told noVector)) scrambling-stands refl refl
     ∙ ap (λ (f : List ℕ). (Done, (scrambling 1, f))) frame-turned
 
-waiting-stands : (p : ℕ) → p < 8 → standing (waiting p) ≡ receiving 2 desABCD p false noVector
+waiting-stands : (p : ℕ) → p < 8 → standing (waiting p) ≡ receiving (termsOf 2 desABCD) p unknown
 unfolding standing isClosed closedTests isOpen openTests keyRight vectorRight keyAllowed desKey oddOctet allZero allBelow
 waiting-stands p h = rw (lt-ltb _ _ h)
 
 pub held-on : (p : ℕ) → p < 8 → (mask : ℕ) (frame : List ℕ) → mask ≤ topMask → length frame ≡ frameOctets
-    → voiceOf (waiting p) mask frame ≡ (Held, (written (received 2 desABCD (p + 1) false noVector), frame))
-held-on p h mask frame m l = voice-held (waiting p) mask frame m l 2 desABCD p noVector (waiting-stands p h)
+    → voiceOf (waiting p) mask frame ≡ (Held, (written (slotOn (receiving (termsOf 2 desABCD) p unknown)), frame))
+held-on p h mask frame m l = voice-at (waiting p) mask frame m l (receiving (termsOf 2 desABCD) p unknown) (waiting-stands p h) refl refl
 
-pub after-four : (w : List ℕ) → length w ≡ vectorOctets → allZero w ≡ false → announceOf (waiting 0) w ≡ (Done, written (receiving 2 desABCD 0 true w))
+pub after-four : (w : List ℕ) → length w ≡ vectorOctets → allZero w ≡ false → announceOf (waiting 0) w ≡ (Done, written (receiving (termsOf 2 desABCD) 0 (told w)))
 unfolding announceOf announceRefusals
 after-four w l z = rw (waiting-stands 0 (omega arith), eq-eqb _ _ l, z)
 

@@ -5,11 +5,11 @@ use Prim.Native.Nat.{ℕ, _≤_}
 use native.Mathlib.Omega.{arith}
 use lib.ListN.{replicate}
 use Rattle.answers.specs.Numbers.{numberOf}
-use Rattle.ciphers.specs.Keystream.{stream}
 use Rattle.sizes.specs.Ciphers.{keyRoom}
 use Rattle.keybook.specs.Operations.{noKey, readyKeyOf}
 use Rattle.keybook.proofs.Laws.{refused-ready-no-key}
 use Rattle.voice.specs.declared.call.Call.{Call}
+use Rattle.voice.specs.Slot.{streamOf}
 use Rattle.voice.proofs.SlotLaws.{done-turned, voice-taken, none-open}
 use Rattle.data.specs.declared.packet.Packet.{Packet}
 use Rattle.data.proofs.PacketLaws.{open-some}
@@ -33,8 +33,8 @@ unfolding step callStep
 words os n mask frame z =
     let c : Call = deviceAfter step os .calls n in
     record {
-      turned = done-turned stream c mask frame z;
-      loaded = calls-loaded os n (none-open c mask frame (voice-taken stream c mask frame (omega arith)));
+      turned = done-turned streamOf c mask frame z;
+      loaded = calls-loaded os n (none-open c mask frame (voice-taken streamOf c mask frame (omega arith)));
     }
 
 messages : (os : List Operation) (n : ℕ) (message : List ℕ) → numberOf (step (deviceAfter step os) (OfPacket n (Message message)) .0) ≡ 0

@@ -8,7 +8,7 @@ use Rattle.octets.specs.Bits.{bit, Octets}
 use Rattle.answers.specs.Numbers.{numberOf}
 use Rattle.generator.specs.Generator.{aesVector}
 use Rattle.ciphers.specs.Keystream.{usedBlock, feedback, stream}
-use Rattle.voice.specs.Slot.{voiceOf}
+use Rattle.voice.specs.Slot.{streamOf, voiceOf}
 use Rattle.voice.proofs.SlotLaws.{undone-stays}
 use Rattle.voice.proofs.VoiceBits.{speech-turned, rest-stays, whole-frame}
 use Rattle.data.specs.declared.packet.Packet.{Packet}
@@ -41,7 +41,7 @@ ours-meets-2 =
             turned = speech-turned call mask frame;
             stays = rest-stays call mask frame;
             whole = whole-frame call mask frame;
-            as-it-came = λ n. undone-stays stream call mask frame (λ z. omega arith);
+            as-it-came = λ n. undone-stays streamOf call mask frame (λ z. omega arith);
           };
       messages = λ packet message.
           record {

@@ -1,6 +1,6 @@
 -- Our receiver meets demand 3.
-use mathlib.Core.Path.{_≡_, refl, sym, _∙_}
-use mathlib.Core.Bool.{Bool, true, false, _&&_, _||_, not, true≢false}
+use mathlib.Core.Path.{_≡_, refl, sym, ap, _∙_}
+use mathlib.Core.Bool.{Bool, true, false, _&&_, _||_, not, or-true, true≢false}
 use mathlib.Core.Logic.{_⊎_, inl, inr}
 use mathlib.Core.List.{List, [], _∷_, _++_}
 use Prim.Native.Nat.{ℕ, zero, suc, _+_, _≤_, _<_}
@@ -9,19 +9,21 @@ use native.Mathlib.Numerals.{add-one}
 use native.Mathlib.Omega.{arith}
 use lib.ListN.{length, drop, length-drop}
 use Rattle.answers.specs.Numbers.{numberOf}
-use Rattle.sizes.specs.Ciphers.{keyOctets, sessionSlots, noVector, scrambles}
+use Rattle.sizes.specs.Ciphers.{keyOctets, sessionSlots, scrambles}
 use Rattle.ciphers.specs.Keystream.{stream}
+use Rattle.openings.specs.Ladder.{keyFor}
+use Rattle.voice.specs.declared.call.Terms.{Terms}
 use Rattle.voice.specs.declared.call.Call.{Call}
 use Rattle.voice.specs.Frame.{word, inMask}
-use Rattle.voice.specs.Call.{noCall}
+use Rattle.voice.specs.Call.{Standing, standing, termsOf, noCall}
 use Rattle.voice.specs.Opening.{superframeSlots}
 use Rattle.octets.specs.Lists.{Each}
 use Rattle.demands.specs.Talk.{Slot, Session, WayIn, opening, joining, SlotKept, SlotsKept, VectorKept, SessionKept, Full, slotCounts, HasKey}
-use Rattle.demands.specs.Notices.{Notice, join, counts, slotNotice, slotNotices, startNotices, sessionNotices, firstNotices}
+use Rattle.demands.specs.Notices.{Notice, join, isReached, slotNotice, slotNotices, startNotices, sessionNotices, firstNotices}
 use Rattle.demands.specs.Log.{Report, Event, event, events, talkLog}
 use Rattle.demands.specs.Demand3.{RightSlot, Right, Meets3, ours}
 use Rattle.demands.proofs.AirLaws.{opened-word}
-use Rattle.demands.proofs.Standing.{key-ranged, slots-some, place, fresh, place-end, place-lost, place-heard, place-held, place-opened, place-joined, place-announced, place-untold}
+use Rattle.demands.proofs.Standing.{key-ranged, slots-some, knowing, fresh, place, place-end, place-lost, place-voice, place-on, same-slot, place-opened, opened-stands, place-joined, joined-stands, place-announced, announced-stands, place-untold}
 
 each-drop : {A : Type 0} (P : A → Type 0) (n : ℕ) (xs : List A) → Each P xs → Each P (drop n xs)
 each-drop P zero xs h = h
@@ -54,63 +56,63 @@ right-held r e a f =
     record { opened = λ z. absurd (let q : 1 ≡ 0 = sym a ∙ z in omega arith); handed = λ n. absurd (true≢false (sym n ∙ e)); held = λ z. (a, f) }
 
 module _ (b : List ℕ) (c i : ℕ) (key : List ℕ) (h : HasKey b c i key) (long : length key ≡ keyOctets c) where
-  abbrev at : Bool → List ℕ → ℕ → Call
-  at = place b c i key h
+  abbrev t : Terms
+  t = termsOf c (keyFor b c i)
 
   abbrev log : Call → List Notice → List Event
   log = events ours b c i
 
+  -- from wherever it stands so, what it is told is answered right
+  abbrev RightFrom : Standing → List Notice → Type 0
+  RightFrom s ns = (d : Call) → standing d ≡ s → Each Right (log d ns)
+
   -- ---- the slots of a session
 
-  module _ (told : Bool) (v : List ℕ) (kept : VectorKept c v) where
-    abbrev known : Bool
-    known = counts c told
+  module _ (reached : Bool) (v : List ℕ) where
+    abbrev at : ℕ → Standing
+    at = place t (knowing c reached v)
 
-    module _ (p : ℕ) (l : p < sessionSlots c) (x : Slot) (s : SlotKept (stream c key v) p x) where
-      abbrev answer : Bool → Event × Call
-      answer arrived = event ours b c i (slotNotice known arrived x) (at known v p)
+  -- a slot is answered right, and it stands at the next one
+  abbrev Steps : Bool → List ℕ → ℕ → Event × Call → Type 0
+  Steps reached v p out = Right (out .0) × (standing (out .1) ≡ at reached v (p + 1))
 
-      abbrev Steps : Event × Call → Type 0
-      Steps out = Right (out .0) × (out .1 ≡ at known v (p + 1))
+  slot-steps : (reached : Bool) (v : List ℕ) (p : ℕ) → p < sessionSlots c → (x : Slot) → SlotKept (stream c key v) p x → (d : Call) → standing d ≡ at reached v p
+      → (arrived : Bool) → Steps reached v p (event ours b c i (slotNotice reached arrived x) d)
+  slot-steps true v p l x s d e true =
+      rw (place-voice t (knowing c true v) p l d e (x .mask) (x .sent) (s .mask) (s .sent .long), same-slot b c i key h long v p (x .mask) (x .sent))
+      (right-handed _ refl refl (opened-word (stream c key v) p x s), place-on t (knowing c true v) p l d e)
+  slot-steps false v p l x s d e true =
+      rw (place-voice t (knowing c false v) p l d e (x .mask) (x .sent) (s .mask) (s .sent .long))
+      (right-held _ refl refl refl, place-on t (knowing c false v) p l d e)
+  slot-steps reached v p l x s d e false = rw (place-lost t (knowing c reached v) p l d e) (refl, place-on t (knowing c reached v) p l d e)
 
-      slot-steps : (arrived : Bool) → Steps (answer arrived)
-      slot-steps true = go known refl
-        where
-          go : (t : Bool) → known ≡ t → Steps (answer true)
-          go true e =
-              let o = place-heard b c i key h long told v kept e p l x s in
-              rw o (right-handed _ e refl (opened-word (stream c key v) p x s), refl)
-          go false e =
-              let o = place-held b c i key h told v kept e p l (stream c key v) x s in
-              rw o (right-held _ e refl refl, refl)
-      slot-steps false = rw (place-lost b c i key h told v kept p l) (refl, refl)
-
+  module _ (reached : Bool) (v : List ℕ) where
     -- the slots from slot p on, and then whatever is right after them
     slots-right : (p : ℕ) (xs : List Slot) → p + length xs ≤ sessionSlots c → SlotsKept (stream c key v) p xs
-        → (ns : List Notice) → Each Right (log (at known v (p + length xs)) ns) → Each Right (log (at known v p) (slotNotices known xs ++ ns))
-    slots-right p [] l s ns r = rw add-zero at r
-    slots-right p (x ∷ xs) l s ns r =
-        let o = slot-steps p (omega arith) x (s .0) (x .arrived) in
-        let e : p + suc (length xs) ≡ suc p + length xs = omega arith in
-        (o .0, rw (o .1, add-one) (slots-right (suc p) xs (omega arith) (s .1) ns (rw e at r)))
+        → (ns : List Notice) → RightFrom (at reached v (p + length xs)) ns → RightFrom (at reached v p) (slotNotices reached xs ++ ns)
+    slots-right p [] l s ns r d e = r d (e ∙ ap (at reached v) (sym (add-zero p)))
+    slots-right p (x ∷ xs) l s ns r d e =
+        let o = slot-steps reached v p (omega arith) x (s .0) d e (x .arrived) in
+        let q : p + suc (length xs) ≡ suc p + length xs = omega arith in
+        (o .0, slots-right (suc p) xs (omega arith) (s .1) ns (rw q at r) _ (rw add-one at (o .1)))
 
     -- the rest of a session, whole or the call's last, and those after it
     part-right : (p : ℕ) (xs : List Slot) → p + length xs ≤ sessionSlots c → SlotsKept (stream c key v) p xs
-        → (ys : List Session) → ((ys ≡ []) ⊎ (p + length xs ≡ sessionSlots c)) → Each Right (log (fresh b c i key h) (sessionNotices c ys))
-        → Each Right (log (at known v p) (slotNotices known xs ++ sessionNotices c ys))
-    part-right p xs l s ys (inl e) r = rw e (slots-right p xs l s [] tt)
-    part-right p xs l s ys (inr e) r = slots-right p xs l s (sessionNotices c ys) (rw (place-end b c i key h known v (p + length xs) e) r)
+        → (ys : List Session) → ((ys ≡ []) ⊎ (p + length xs ≡ sessionSlots c)) → RightFrom (fresh t) (sessionNotices c ys)
+        → RightFrom (at reached v p) (slotNotices reached xs ++ sessionNotices c ys)
+    part-right p xs l s ys (inl e) r = rw e (slots-right p xs l s [] (λ d q. tt))
+    part-right p xs l s ys (inr e) r =
+        slots-right p xs l s (sessionNotices c ys) (λ d q. r d (q ∙ place-end t (knowing c reached v) (p + length xs) e))
 
   -- told of the vector as the session starts, if the announcement arrived
-  start-right : (told : Bool) (v : List ℕ) → VectorKept c v → (ns : List Notice) → Each Right (log (at (counts c told) v 0) ns)
-      → Each Right (log (fresh b c i key h) (startNotices (not (scrambles c) && told) v ++ ns))
-  start-right told v kept ns r = go (scrambles c) refl told r
+  start-right : (told : Bool) (v : List ℕ) → VectorKept c v → (ns : List Notice) → RightFrom (at (isReached c told) v 0) ns
+      → RightFrom (fresh t) (startNotices (not (scrambles c) && told) v ++ ns)
+  start-right told v kept ns r d q = go (scrambles c) refl told r
     where
-      go : (t : Bool) → scrambles c ≡ t → (told : Bool) → Each Right (log (at (t || told) v 0) ns)
-          → Each Right (log (fresh b c i key h) (startNotices (not t && told) v ++ ns))
-      go true e told r = rw (place-untold b c i key h v true e) r
-      go false e true r = rw (place-announced b c i key h v kept e) (refl, r)
-      go false e false r = rw (place-untold b c i key h v false e) r
+      go : (u : Bool) → scrambles c ≡ u → (told : Bool) → RightFrom (at (u || told) v 0) ns → Each Right (log d (startNotices (not u && told) v ++ ns))
+      go true e told r = r d (place-untold b c i key h d q v true e)
+      go false e true r = rw (place-announced b c i key h d q v kept e) (refl, r _ (announced-stands b c i key h d q v kept e))
+      go false e false r = r d (place-untold b c i key h d q v false e)
 
   -- ---- the sessions
 
@@ -125,37 +127,42 @@ module _ (b : List ℕ) (c i : ℕ) (key : List ℕ) (h : HasKey b c i key) (lon
 
   -- a session from slot p on, and then the sessions after it
   session-right : (told : Bool) (p : ℕ) → p ≤ sessionSlots c → (x : Session) (ys : List Session) → SessionKept c key x → Full c (slotCounts (x ∷ ys))
-      → Each Right (log (fresh b c i key h) (sessionNotices c ys)) → Each Right (log (at (counts c told) (x .vector) p) (firstNotices c told p (x ∷ ys)))
+      → RightFrom (fresh t) (sessionNotices c ys) → RightFrom (at (isReached c told) (x .vector) p) (firstNotices c told p (x ∷ ys))
   session-right told p l x ys k f r =
-      part-right told (x .vector) (k .vector) p (drop p (x .slots)) (omega (arith, length-drop p (x .slots), full-within x ys f))
+      part-right (isReached c told) (x .vector) p (drop p (x .slots)) (omega (arith, length-drop p (x .slots), full-within x ys f))
       (rw zero-add at (slots-drop (stream c key (x .vector)) p 0 (x .slots) (k .slots))) ys (last (full-or-last x ys f)) r
     where
       last : (ys ≡ []) ⊎ (length (x .slots) ≡ sessionSlots c) → (ys ≡ []) ⊎ (p + length (drop p (x .slots)) ≡ sessionSlots c)
       last (inl e) = inl e
       last (inr e) = inr (omega (arith, length-drop p (x .slots)))
 
-  sessions-right : (xs : List Session) → Each (SessionKept c key) xs → Full c (slotCounts xs) → Each Right (log (fresh b c i key h) (sessionNotices c xs))
-  sessions-right [] k f = tt
+  sessions-right : (xs : List Session) → Each (SessionKept c key) xs → Full c (slotCounts xs) → RightFrom (fresh t) (sessionNotices c xs)
+  sessions-right [] k f = λ d q. tt
   sessions-right (x ∷ ys) k f =
       start-right (x .announced) (x .vector) (k .0 .vector) (firstNotices c (x .announced) 0 (x ∷ ys))
       (session-right (x .announced) 0 (omega arith) x ys (k .0) f (sessions-right ys (k .1) (full-tail c x ys f)))
 
   -- the first session that is heard, from slot p on
   first-right : (told : Bool) (p : ℕ) → p ≤ sessionSlots c → (x : Session) (ys : List Session) → Each (SessionKept c key) (x ∷ ys)
-      → Full c (slotCounts (x ∷ ys)) → Each Right (log (at (counts c told) (x .vector) p) (firstNotices c told p (x ∷ ys)))
+      → Full c (slotCounts (x ∷ ys)) → RightFrom (at (isReached c told) (x .vector) p) (firstNotices c told p (x ∷ ys))
   first-right told p l x ys k f = session-right told p l x ys (k .0) f (sessions-right ys (k .1) (full-tail c x ys f))
 
   joined-right : (xs : List Session) → Each (SessionKept c key) xs → Full c (slotCounts xs)
       → Each Right (log noCall (join ∷ firstNotices c false superframeSlots xs))
-  joined-right [] k f = rw (place-joined b c i key h noVector) (refl, tt)
+  joined-right [] k f = rw (place-joined b c i key h) (refl, tt)
   joined-right (x ∷ xs) k f =
-      rw (place-joined b c i key h (x .vector)) (refl, first-right false superframeSlots (slots-some c (key-ranged b c i key h)) x xs k f)
+      rw (place-joined b c i key h)
+      (refl, first-right false superframeSlots (slots-some c (key-ranged b c i key h)) x xs k f _ (joined-stands b c i key h (x .vector)))
 
   talk-right : (e : WayIn) (xs : List Session) → Each (SessionKept c key) xs → Full c (slotCounts xs)
       → Each Right (talkLog ours b i (record { cipher = c; key = key; sessions = xs }) e)
   talk-right opening [] k f = tt
   talk-right opening (x ∷ xs) k f =
-      rw (place-opened b c i key h (x .vector) (k .0 .vector)) (refl, first-right true 0 (omega arith) x xs k f)
+      rw (place-opened b c i key h (x .vector) (k .0 .vector)) (
+        refl,
+        first-right true 0 (omega arith) x xs k f _
+            (opened-stands b c i key h (x .vector) (k .0 .vector) ∙ ap (λ (r : Bool). at r (x .vector) 0) (sym (or-true (scrambles c)))),
+      )
   talk-right (joining n) xs k f = joined-right (drop n xs) (each-drop (SessionKept c key) n xs k) (full-drop c n xs f)
 
 pub ours-meets-3 : Meets3 ours

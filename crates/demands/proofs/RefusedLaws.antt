@@ -7,7 +7,7 @@ use Prim.Native.Nat.{ℕ, zero, suc, _≤_, _<_}
 use native.Mathlib.Omega.{arith}
 use lib.Dec.{leb, eqb}
 use lib.ListN.{length, replicate}
-use borrow.Author.Tests.{eqb-true, ne-eqb, leb-true, ltb-false, not-false}
+use borrow.Author.Tests.{eq-eqb, eqb-true, ne-eqb, leb-true, ltb-false, not-false}
 use Rattle.octets.specs.Tests.{allBelow}
 use Rattle.octets.specs.Lists.{allZero}
 use Rattle.octets.proofs.TestLaws.{and-left, and-right}
@@ -23,15 +23,14 @@ use Rattle.keybook.specs.Operations.{beginRefusals, addRefusals, finishRefusals
 use Rattle.keybook.specs.History as book
 use Rattle.sizes.specs.Ciphers.{vectorOctets}
 use Rattle.openings.specs.Ladder as ladder
-use Rattle.ciphers.specs.Keystream.{stream}
 use Rattle.voice.specs.declared.call.Call.{Call}
-use Rattle.voice.specs.Call.{receivingEnd, goodCall, Standing, receiving, standing, endRefusals}
+use Rattle.voice.specs.Call.{receivingEnd, unknownVector, goodCall, standing, knows, endRefusals}
 use Rattle.voice.specs.Opening.{joinRefusals, openRefusals}
-use Rattle.voice.specs.Slot.{lostRefusals, voiceRefusals, voiceAfter, voiceOf}
+use Rattle.voice.specs.Slot.{lostRefusals, voiceRefusals, streamOf, voiceOf}
 use Rattle.voice.specs.Vector.{announceRefusals, following, nextRefusals, nextVectorOf}
-use Rattle.voice.proofs.CallLaws.{Stands, none, sender, receiver, good-by, good-stands}
-use Rattle.voice.proofs.SlotLaws.{by-voice, none-good, undone-stays}
-use Rattle.voice.proofs.Exactly.{done-exactly}
+use Rattle.voice.proofs.CallLaws.{good-by, is-sender, or-receiver, knows-no}
+use Rattle.voice.proofs.SlotLaws.{undone-stays}
+use Rattle.voice.proofs.Exactly.{done-exactly, held-exactly}
 use Rattle.data.specs.declared.packet.Packet.{Packet}
 use Rattle.data.specs.Kinds.{isKind, messageOctets}
 use Rattle.data.proofs.KindLaws.{kind-range}
@@ -40,7 +39,7 @@ use Rattle.data.specs.Opening as opening
 use Rattle.data.specs.Message as message
 use Rattle.demands.specs.Device.{Device, CallOperation, Open, Start, Join, Voice, Lost, End, Announce, NextVector, callStep, lentCall, PacketOperation, OpenPacket, Message, LostMessage, EndPacket, packetStep, lentPacket, Operation, OfBook, OfCall, OfPacket, step, lent}
 use Rattle.demands.specs.Refusals.{keyRefusals, callRefusals, packetRefusals, refusalsOf}
-use Rattle.demands.specs.Demand1.{Keyed, RightKey, RightVector, RightCall, RightPacket, RightInput, InTime, Unknown, slot}
+use Rattle.demands.specs.Demand1.{Keyed, RightBook, RightVector, RightCall, RightPacket, RightInput, InTime, Unknown, slot}
 use Rattle.demands.proofs.TimeLaws.{unrefused-in-time}
 use Rattle.demands.proofs.DeviceLaws.{book-settles, call-settles, packet-settles, unrefused-only}
 
@@ -62,7 +61,7 @@ keyed b c i own l n g =
       id = leb-true i 63 (and-right (leb c 3) (leb i 63) r);
     }
 
-key-right : (b : List ℕ) (o : book.Operation) → NoneHolds (keyRefusals b o) → RightKey b o
+key-right : (b : List ℕ) (o : book.Operation) → NoneHolds (keyRefusals b o) → RightBook b o
 unfolding beginRefusals addRefusals finishRefusals eraseRefusals bookRefusals
 key-right b (book.Begin c i) n = keyed b c i true (n .0) (n .1 .0) (n .1 .1 .0)
 key-right b (book.Add c i xs) n = (keyed b c i true (n .1 .0) (n .1 .1 .0) (n .1 .1 .1 .0), ltb-false 32 (length xs) (n .0))
@@ -140,7 +139,7 @@ unfolding callStep nextVectorOf
 call-untouched b c (Open m i w) n = refl
 call-untouched b c (Start m i w) n = refl
 call-untouched b c (Join m i) n = refl
-call-untouched b c (Voice mask frame) n = undone-stays stream c mask frame n
+call-untouched b c (Voice mask frame) n = undone-stays streamOf c mask frame n
 call-untouched b c Lost n = refl
 call-untouched b c End n = refl
 call-untouched b c (Announce w) n = refl
@@ -164,22 +163,11 @@ undone-untouched d (OfPacket m o) n = packet-untouched (d .book) (d .packets m) 
 not-held : {S : Type 0} {before : S} {rs : Refusals} {o : Answer × S} → Settles before rs Done o → numberOf (o .0) ≡ 1 → ⊥
 not-held {o = o} s z = let e = ap numberOf (not-refused s (omega arith)) in omega arith
 
-slot-held : (c : Call) (mask : ℕ) (frame : List ℕ) → numberOf (voiceOf c mask frame .0) ≡ 1 → (c .end ≡ receivingEnd) × (c .known ≡ false)
-slot-held c mask frame =
-    by-voice stream c mask frame (λ o. numberOf (o .0) ≡ 1 → (c .end ≡ receivingEnd) × (c .known ≡ false)) (λ a r z. absurd (omega arith))
-    (λ n z. go (good-stands c (none-good c mask frame n)) z)
-  where
-    known-not : (known : Bool) → numberOf (voiceAfter stream mask frame (receiving (c .cipher) (c .key) (c .position) known (c .vector)) .0) ≡ 1 → known ≡ false
-    known-not true z = absurd (omega arith)
-    known-not false z = refl
-
-    number : (s : Standing) → ℕ
-    number s = numberOf (voiceAfter stream mask frame s .0)
-
-    go : Stands c → number (standing c) ≡ 1 → (c .end ≡ receivingEnd) × (c .known ≡ false)
-    go (none o e s) z = let q : _≡_ {A = ℕ} 0 1 = sym (ap number s) ∙ z in absurd (omega arith)
-    go (sender o e s) z = let q : _≡_ {A = ℕ} 0 1 = sym (ap number s) ∙ z in absurd (omega arith)
-    go (receiver o e s) z = (e, known-not (c .known) (sym (ap number s) ∙ z))
+slot-held : (c : Call) (mask : ℕ) (frame : List ℕ) → numberOf (voiceOf c mask frame .0) ≡ 1 → (c .end ≡ receivingEnd) × (c .known ≡ unknownVector)
+slot-held c mask frame z =
+    let t = held-exactly c mask frame .0 z in
+    let u : c .known ≡ unknownVector = eqb-true _ _ (not-false _ (t .vector)) in
+    (or-receiver c (t .good) (t .stands) (λ e. true≢false (sym (ap knows (is-sender c (t .good) e)) ∙ knows-no c u)), u)
 
 call-held : (d : Device) (n : ℕ) (o : CallOperation) → numberOf (callStep (d .book) (d .calls n) o .0) ≡ 1 → Unknown d (OfCall n o)
 unfolding callStep
@@ -201,4 +189,4 @@ only-slots-held d (OfPacket n o) z = absurd (not-held (packet-settles (d .book) 
 -- and no such slot is done
 pub unknown-not-done : (d : Device) (o : Operation) → Unknown d o → numberOf (step d o .0) ≡ 0 → ⊥
 unfolding step callStep
-unknown-not-done d _ (slot n mask frame e k) z = true≢false (sym (done-exactly (d .calls n) mask frame .0 z .vector) ∙ k)
+unknown-not-done d _ (slot n mask frame e k) z = true≢false (sym (done-exactly (d .calls n) mask frame .0 z .vector) ∙ ap not (eq-eqb _ _ k))

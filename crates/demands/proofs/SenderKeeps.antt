@@ -6,6 +6,7 @@ use Prim.Native.Nat.{ℕ, suc, _+_, _*_, _≤_, _<_}
 use native.Mathlib.Nat.{add-zero}
 use native.Mathlib.Numerals.{add-one}
 use native.Mathlib.Omega.{arith}
+use lib.Dec.{ltb}
 use lib.ListN.{length}
 use borrow.Author.Tests.{eq-eqb, le-ltb, lt-ltb}
 use Rattle.octets.proofs.Zeros.{zeros-octets}
@@ -22,17 +23,18 @@ use Rattle.ciphers.specs.Keystream.{stream}
 use Rattle.answers.specs.declared.Answer.{Answer}
 use Rattle.answers.specs.declared.Answer.the-variants.{Done}
 use Rattle.keybook.proofs.GoodLaws.{good-sized}
+use Rattle.voice.specs.declared.call.Terms.{Terms}
 use Rattle.voice.specs.declared.call.Call.{Call}
 use Rattle.voice.specs.Frame.{ofSlot, protect}
 use Rattle.openings.specs.Ladder.{sessionVector, keyFor, keyRefusals, vectorRefusals}
-use Rattle.voice.specs.Call.{vectorRight, noCall, sending, standing, written}
+use Rattle.voice.specs.Call.{vectorRight, sending, standing, termsOf, noCall, written}
 use Rattle.voice.specs.Opening.{openRefusals, startOf}
-use Rattle.voice.specs.Slot.{goingOn, sent, zeroAfter, voiceOf}
+use Rattle.voice.specs.Slot.{goingOn, slotOn, zeroAfter, voiceOf}
 use Rattle.voice.specs.Vector.{nextRefusals, nextVectorOf}
 use Rattle.voice.proofs.FrameLaws.{protect-same, protect-frame}
 use Rattle.sizes.proofs.SizeLaws.{no-vector-zero}
-use Rattle.voice.proofs.GoodLaws.{good-open, read-written}
-use Rattle.voice.proofs.SlotSteps.{voice-sent}
+use Rattle.voice.proofs.GoodLaws.{sentRight, good-sender, read-written}
+use Rattle.voice.proofs.SlotSteps.{voice-at}
 use Rattle.demands.specs.Talk.{Slot, Session, SlotKept, SlotsKept, VectorKept, SessionKept, Full, slotCounts, Kept, HasKey, WayIn}
 use Rattle.demands.specs.Log.{talkLog}
 use Rattle.demands.specs.Demand3.{Right, ours}
@@ -97,22 +99,23 @@ module _ (b : List ℕ) (c i : ℕ) (key : List ℕ) (h : HasKey b c i key) (lon
   abbrev k : List ℕ
   k = keyFor b c i
 
+  abbrev t : Terms
+  t = termsOf c k
+
   -- after p slots of a session; after the last it is in the next one, with the next vector
   abbrev spot : List ℕ → ℕ → Call
-  spot v p = written (sent c k p v)
+  spot v p = written (pick (ltb p (sessionSlots c)) (sending t p v) (sending t 0 (goingOn c v)))
 
-  spot-in : (v : List ℕ) (p : ℕ) → p < sessionSlots c → spot v p ≡ written (sending c k p v)
-  unfolding sent
+  spot-in : (v : List ℕ) (p : ℕ) → p < sessionSlots c → spot v p ≡ written (sending t p v)
   spot-in v p l = rw (lt-ltb _ _ l)
 
-  spot-end : (v : List ℕ) (p : ℕ) → p ≡ sessionSlots c → spot v p ≡ written (sending c k 0 (goingOn c v))
-  unfolding sent
+  spot-end : (v : List ℕ) (p : ℕ) → p ≡ sessionSlots c → spot v p ≡ written (sending t 0 (goingOn c v))
   spot-end v p l = rw (le-ltb p (sessionSlots c) (omega arith))
 
   some : 0 < sessionSlots c
   some = let l = slots-some c (key-ranged b c i key h) in omega arith
 
-  right-vector : (v : List ℕ) → Sound c v → vectorRight 1 c true (allZero v) ≡ true
+  right-vector : (v : List ℕ) → Sound c v → sentRight c v ≡ true
   unfolding vectorRight
   right-vector v kept = rw (kept .zeros) (go (scrambles c))
     where
@@ -120,11 +123,11 @@ module _ (b : List ℕ) (c i : ℕ) (key : List ℕ) (h : HasKey b c i key) (lon
       go true = refl
       go false = refl
 
-  spot-read : (v : List ℕ) → Sound c v → (p : ℕ) → p < sessionSlots c → standing (spot v p) ≡ sending c k p v
+  spot-read : (v : List ℕ) → Sound c v → (p : ℕ) → p < sessionSlots c → standing (spot v p) ≡ sending t p v
   spot-read v kept p l =
       ap standing (spot-in v p l)
-      ∙ read-written (sending c k p v) refl
-      (good-open 1 c k p v true (omega arith) (omega arith) (has-key-right b c i key h) l (right-vector v kept))
+      ∙ read-written (sending t p v) refl
+      (good-sender t p (has-key-right b c i key h) l v (right-vector v kept))
 
   -- ---- the slots of a session
 
@@ -133,8 +136,9 @@ module _ (b : List ℕ) (c i : ℕ) (key : List ℕ) (h : HasKey b c i key) (lon
     out p x = protect (ofSlot (stream c k v) p) (x .mask) (x .spoken)
 
     spot-voice : (p : ℕ) → p < sessionSlots c → (x : Said) → SaidKept x → voiceOf (spot v p) (x .mask) (x .spoken) ≡ (Done, (spot v (p + 1), out p x))
+    unfolding slotOn
     spot-voice p l x s =
-        voice-sent (spot v p) (x .mask) (x .spoken) (s .mask) (s .frame .long) c k p v (spot-read v sound p l)
+        voice-at (spot v p) (x .mask) (x .spoken) (s .mask) (s .frame .long) (sending t p v) (spot-read v sound p l) refl
         (not-zero-after c p v (going-sound c v sound))
 
     abbrev made : ℕ → Said → List ℕ → Slot
@@ -171,7 +175,7 @@ module _ (b : List ℕ) (c i : ℕ) (key : List ℕ) (h : HasKey b c i key) (lon
   counts-made s (x ∷ xs) = ap₂ _∷_ (made-length s (x .slots)) (counts-made (afterwards s (x .slots)) xs)
 
   abbrev from : List ℕ → Call
-  from v = written (sending c k 0 v)
+  from v = written (sending t 0 v)
 
   session-made : (v : List ℕ) → Sound c v → (x : Saying) → length (x .slots) ≤ sessionSlots c → Each SaidKept (x .slots)
       → SlotsKept (stream c key v) 0 (slotsMade (from v) (x .slots))
@@ -203,7 +207,7 @@ module _ (b : List ℕ) (c i : ℕ) (key : List ℕ) (h : HasKey b c i key) (lon
   -- what next vector writes at any slot of a session is the vector of the next one
   pub next-announced : (v : List ℕ) → Sound c v → scrambles c ≡ false → (p : ℕ) → p < sessionSlots c → (lent : List ℕ) → length lent ≡ 8
       → (x : Saying) → length (x .slots) ≡ sessionSlots c → Each SaidKept (x .slots)
-      → nextVectorOf (written (sending c k p v)) lent ≡ (Done, afterwards (from v) (x .slots) .vector)
+      → nextVectorOf (written (sending t p v)) lent ≡ (Done, afterwards (from v) (x .slots) .vector)
   unfolding nextVectorOf nextRefusals goingOn
   next-announced v a e p l lent h8 x f s =
       let z : allZero (nextVector v) ≡ false = rw e at (going-sound c v a .zeros) in

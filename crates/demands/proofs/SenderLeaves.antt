@@ -6,13 +6,12 @@ use Prim.Native.Nat.{ℕ, _<_}
 use native.Mathlib.Decide.{decLt}
 use native.Mathlib.Omega.{arith}
 use Rattle.octets.specs.Lists.{Each}
-use Rattle.ciphers.specs.Keystream.{stream}
 use Rattle.answers.specs.Numbers.{numberOf}
 use Rattle.voice.specs.declared.call.Call.{Call}
 use Rattle.voice.specs.Frame.{IsFrame, word, inMask, ofSlot}
 use Rattle.voice.specs.Call.{noCall}
 use Rattle.voice.specs.Opening.{startOf}
-use Rattle.voice.specs.Slot.{voiceOf}
+use Rattle.voice.specs.Slot.{streamOf, voiceOf}
 use Rattle.voice.proofs.FrameLaws.{word-stays}
 use Rattle.voice.proofs.SlotLaws.{done-turned, undone-stays}
 use Rattle.demands.specs.OurSender.{Said, Saying, slotsMade, afterwards, sessionsMade, talkMade, SaidKept, AllSaid, OthersAsSpoken}
@@ -22,10 +21,10 @@ voice-leaves : (s : Call) (mask : ℕ) (frame : List ℕ) → IsFrame frame → 
 voice-leaves s mask frame f w l e = go (decLt 0 (numberOf (voiceOf s mask frame .0)))
   where
     go : Dec (0 < numberOf (voiceOf s mask frame .0)) → word w (voiceOf s mask frame .1 .1) ≡ word w frame
-    go (yes n) = ap (word w) (undone-stays stream s mask frame (λ z. omega arith))
+    go (yes n) = ap (word w) (undone-stays streamOf s mask frame (λ z. omega arith))
     go (no n) =
-        ap (word w) (done-turned stream s mask frame (omega arith))
-        ∙ word-stays (ofSlot (stream (s .cipher) (s .key) (s .vector)) (s .position)) mask w frame f l e
+        ap (word w) (done-turned streamOf s mask frame (omega arith))
+        ∙ word-stays (ofSlot (streamOf s) (s .position)) mask w frame f l e
 
 slots-leave : (s : Call) (xs : List Said) → Each SaidKept xs → Each OthersAsSpoken (slotsMade s xs)
 slots-leave s [] h = tt

@@ -1,6 +1,6 @@
 -- Where a receiver stands after p slots of a session, and what each operation does there.
 use mathlib.Core.Path.{_≡_, refl, sym, ap, _∙_}
-use mathlib.Core.Bool.{Bool, true, false, _&&_, _||_, not, or-true, true≢false}
+use mathlib.Core.Bool.{Bool, true, false, _&&_, not, true≢false}
 use mathlib.Core.List.{List}
 use Prim.Native.Nat.{ℕ, _+_, _*_, _≤_, _<_}
 use native.Mathlib.Omega.{arith}
@@ -11,26 +11,30 @@ use Rattle.ciphers.proofs.KeystreamLaws.{stream-rest}
 use Rattle.sizes.proofs.Cases.{by-range}
 use Rattle.octets.specs.Tests.{pick}
 use Rattle.octets.specs.Lists.{allZero}
+use Rattle.answers.specs.declared.Answer.{Answer}
 use Rattle.answers.specs.declared.Answer.the-variants.{Done, Held}
 use Rattle.sizes.specs.Ciphers.{keyOctets, sessionSlots, noVector, scrambles}
 use Rattle.ciphers.specs.Keystream.{stream}
 use Rattle.keyentry.specs.Entry.{inRange}
 use Rattle.keybook.proofs.GoodLaws.{good-sized}
+use Rattle.sizes.specs.Frame.{frameOctets}
+use Rattle.voice.specs.declared.call.Terms.{Terms}
 use Rattle.voice.specs.declared.call.Call.{Call}
 use Rattle.voice.specs.Frame.{ofSlot, protect}
 use Rattle.openings.specs.Ladder.{sessionVector, keyFor, keyRefusals, zeroFor, vectorRefusals}
 use Rattle.ciphers.specs.Keys.{keyRight}
-use Rattle.voice.specs.Call.{vectorRight, noCall, Standing, closed, receiving, standing, written}
+use Rattle.voice.specs.Call.{goodCall, Known, unknown, told, isKnown, untold, Standing, closed, receiving, standing, termsOf, noCall, written, isBad}
 use Rattle.voice.specs.Opening.{superframeSlots, joinRefusals, openRefusals, openOf, joined, joinOf}
-use Rattle.voice.specs.Slot.{received, lostRefusals, lostOf, voiceOf}
+use Rattle.voice.specs.Slot.{slotOn, lostOf, topMask, streamOf, inSlot, voiceOf}
 use Rattle.voice.specs.Vector.{announceRefusals, announceOf}
 use Rattle.voice.proofs.FrameLaws.{protect-same}
-use Rattle.sizes.proofs.SizeLaws.{no-vector-zero}
 use Rattle.openings.proofs.ReadyLaws.{key-in-range, key-right}
-use Rattle.voice.proofs.GoodLaws.{closed-good, good-open, read-written, fresh-right}
-use Rattle.voice.proofs.SlotSteps.{voice-heard, voice-held}
-use Rattle.demands.specs.Talk.{Slot, SlotKept, VectorKept, HasKey}
-use Rattle.demands.specs.Notices.{counts}
+use Rattle.voice.proofs.CallLaws.{good-by}
+use Rattle.voice.proofs.GoodLaws.{closed-good, read-written, slot-stands, announce-good}
+use Rattle.voice.proofs.OpeningGood.{open-good, join-good}
+use Rattle.voice.proofs.SlotSteps.{voice-at, lost-at}
+use Rattle.demands.specs.Talk.{VectorKept, HasKey}
+use Rattle.demands.specs.Notices.{isReached}
 
 -- ---- a book that has the key
 
@@ -68,116 +72,103 @@ not-zero-for c v k = go (scrambles c) refl
     go true e = refl
     go false e = k .some e
 
--- joining stands where a receiver is after a superframe: scramble's session is over
-joined-at : (k v : List ℕ) (c : ℕ) → (1 ≤ c) × (c ≤ 3) → joined c k ≡ received c k superframeSlots (counts c false) (pick (counts c false) v noVector)
-unfolding received
-joined-at k v = by-range (λ c. joined c k ≡ received c k superframeSlots (counts c false) (pick (counts c false) v noVector)) refl refl refl
-
 -- ---- where the receiver stands
 
-module _ (b : List ℕ) (c i : ℕ) (key : List ℕ) (h : HasKey b c i key) where
-  abbrev k : List ℕ
-  k = keyFor b c i
+-- what it knows of a session's vector, where the session counts as reached or doesn't
+abbrev pub knowing : ℕ → Bool → List ℕ → Known
+knowing c reached v = pick reached (told (sessionVector c v)) unknown
 
-  -- after p slots of a session with vector v, known or not; after the last it is in the next one
-  abbrev pub place : Bool → List ℕ → ℕ → Call
-  place known v p = written (received c k p known (pick known (sessionVector c v) noVector))
+-- at the start of a session of which it was told nothing
+abbrev pub fresh : Terms → Standing
+fresh t = receiving t 0 (untold (t .cipher))
 
-  -- at the start of a session of which it was told nothing
-  abbrev pub fresh : Call
-  fresh = written (receiving c k 0 (scrambles c) noVector)
+-- after p slots of a session of whose vector it knows k; after the last it is in the next one
+abbrev pub place : Terms → Known → ℕ → Standing
+place t k p = pick (ltb p (sessionSlots (t .cipher))) (receiving t p k) (fresh t)
 
-  pub place-in : (known : Bool) (v : List ℕ) (p : ℕ) → p < sessionSlots c → place known v p ≡ written (receiving c k p known (pick known (sessionVector c v) noVector))
-  unfolding received
-  place-in known v p l = rw (lt-ltb _ _ l)
+-- joining stands where a receiver is after a superframe: scramble's session is over
+joined-at : (k v : List ℕ) (c : ℕ) → (1 ≤ c) × (c ≤ 3) → joined (termsOf c k) ≡ place (termsOf c k) (knowing c (isReached c false) v) superframeSlots
+joined-at k v = by-range (λ c. joined (termsOf c k) ≡ place (termsOf c k) (knowing c (isReached c false) v) superframeSlots) refl refl refl
 
-  pub place-end : (known : Bool) (v : List ℕ) (p : ℕ) → p ≡ sessionSlots c → place known v p ≡ fresh
-  unfolding received
-  place-end known v p l = rw (le-ltb p (sessionSlots c) (omega arith))
+module _ (t : Terms) (k : Known) where
+  pub place-in : (p : ℕ) → p < sessionSlots (t .cipher) → place t k p ≡ receiving t p k
+  place-in p l = rw (lt-ltb _ _ l)
 
-  right-vector : (told : Bool) (v : List ℕ) → VectorKept c v
-      → vectorRight 2 c (counts c told) (allZero (pick (counts c told) (sessionVector c v) noVector)) ≡ true
-  unfolding vectorRight
-  right-vector told v kept = go (scrambles c) refl told
-    where
-      go : (t : Bool) → scrambles c ≡ t → (told : Bool)
-          → pick t ((t || told) && allZero (pick (t || told) (pick t noVector v) noVector)) ((t || told) || allZero (pick (t || told) (pick t noVector v) noVector)) ≡ true
-      go true e told = no-vector-zero
-      go false e true = refl
-      go false e false = no-vector-zero
-
-  pub place-read : (told : Bool) (v : List ℕ) → VectorKept c v → (p : ℕ) → p < sessionSlots c
-      → standing (place (counts c told) v p) ≡ receiving c k p (counts c told) (pick (counts c told) (sessionVector c v) noVector)
-  place-read told v kept p l =
-      ap standing (place-in (counts c told) v p l)
-      ∙ read-written (receiving c k p (counts c told) (pick (counts c told) (sessionVector c v) noVector)) refl
-      (good-open 2 c k p (pick (counts c told) (sessionVector c v) noVector) (counts c told) (omega arith) (omega arith) (has-key-right b c i key h) l (right-vector told v kept))
+  pub place-end : (p : ℕ) → p ≡ sessionSlots (t .cipher) → place t k p ≡ fresh t
+  place-end p l = rw (le-ltb p (sessionSlots (t .cipher)) (omega arith))
 
   -- ---- a slot
 
-  pub place-lost : (told : Bool) (v : List ℕ) → VectorKept c v → (p : ℕ) → p < sessionSlots c
-      → lostOf (place (counts c told) v p) ≡ (Done, place (counts c told) v (p + 1))
-  unfolding lostOf lostRefusals
-  place-lost told v kept p l = rw (place-read told v kept p l)
+  module _ (p : ℕ) (l : p < sessionSlots (t .cipher)) (s : Call) (e : standing s ≡ place t k p) where
+    pub place-lost : lostOf s ≡ (Done, written (place t k (p + 1)))
+    unfolding slotOn
+    place-lost = lost-at s (e ∙ place-in p l)
+
+    pub place-voice : (mask : ℕ) (frame : List ℕ) → mask ≤ topMask → length frame ≡ frameOctets
+        → voiceOf s mask frame
+        ≡ (pick (isKnown k) Done Held, (written (place t k (p + 1)), pick (isKnown k) (inSlot streamOf mask frame (written (receiving t p k))) frame))
+    unfolding slotOn
+    place-voice mask frame m f = voice-at s mask frame m f (receiving t p k) (e ∙ place-in p l) refl refl
+
+    pub place-on : standing (written (place t k (p + 1))) ≡ place t k (p + 1)
+    unfolding slotOn
+    place-on = slot-stands s (e ∙ place-in p l) refl refl
+
+module _ (b : List ℕ) (c i : ℕ) (key : List ℕ) (h : HasKey b c i key) where
+  abbrev t : Terms
+  t = termsOf c (keyFor b c i)
 
   module _ (long : length key ≡ keyOctets c) where
-    pub same-stream : (v : List ℕ) (n : ℕ) → stream c k v n ≡ stream c key v n
+    pub same-stream : (v : List ℕ) (n : ℕ) → stream c (keyFor b c i) v n ≡ stream c key v n
     same-stream v n = ap (λ (l : List ℕ). stream c l v n) (h .same) ∙ stream-rest c (key-ranged b c i key h) key v long n
 
-    pub place-heard : (told : Bool) (v : List ℕ) → VectorKept c v → counts c told ≡ true → (p : ℕ) → p < sessionSlots c → (x : Slot) → SlotKept (stream c key v) p x
-        → voiceOf (place (counts c told) v p) (x .mask) (x .sent)
-        ≡ (Done, (place (counts c told) v (p + 1), protect (ofSlot (stream c key v) p) (x .mask) (x .sent)))
-    place-heard told v kept e p l x s =
-        voice-heard (place (counts c told) v p) (x .mask) (x .sent) (s .mask) (s .sent .long) c k p (sessionVector c v)
-        (place-read told v kept p l ∙ ap (λ (t : Bool). receiving c k p t (pick t (sessionVector c v) noVector)) e)
-        ∙ ap (λ (f : List ℕ). (Done, (place true v (p + 1), f)))
-        (protect-same (ofSlot (stream c k (sessionVector c v)) p) (ofSlot (stream c key v) p) (x .mask)
-        (λ n r. session-stream k v (196 * p + n) c (key-ranged b c i key h) ∙ same-stream v (196 * p + n)) (x .sent))
-        ∙ ap (λ (t : Bool). (Done, (place t v (p + 1), protect (ofSlot (stream c key v) p) (x .mask) (x .sent)))) (sym e)
-
-  pub place-held : (told : Bool) (v : List ℕ) → VectorKept c v → counts c told ≡ false → (p : ℕ) → p < sessionSlots c → (ks : ℕ → ℕ) (x : Slot) → SlotKept ks p x
-      → voiceOf (place (counts c told) v p) (x .mask) (x .sent) ≡ (Held, (place (counts c told) v (p + 1), x .sent))
-  place-held told v kept e p l ks x s =
-      voice-held (place (counts c told) v p) (x .mask) (x .sent) (s .mask) (s .sent .long) c k p noVector
-      (place-read told v kept p l ∙ ap (λ (t : Bool). receiving c k p t (pick t (sessionVector c v) noVector)) e)
-      ∙ ap (λ (t : Bool). (Held, (place t v (p + 1), x .sent))) (sym e)
+    -- a slot is turned by the sender's key and vector
+    pub same-slot : (v : List ℕ) (p mask : ℕ) (frame : List ℕ)
+        → inSlot streamOf mask frame (written (receiving t p (told (sessionVector c v)))) ≡ protect (ofSlot (stream c key v) p) mask frame
+    same-slot v p mask frame =
+        protect-same (ofSlot (stream c (keyFor b c i) (sessionVector c v)) p) (ofSlot (stream c key v) p) mask
+        (λ n r. session-stream (keyFor b c i) v (196 * p + n) c (key-ranged b c i key h) ∙ same-stream v (196 * p + n)) frame
 
   -- ---- how it comes in, and what it is told
 
   some : 0 < sessionSlots c
   some = let l = slots-some c (key-ranged b c i key h) in omega arith
 
-  pub place-opened : (v : List ℕ) → VectorKept c v → openOf noCall c i v b ≡ (Done, place (counts c true) v 0)
+  -- of what an operation leaves
+  stood : {o : Answer × Call} {s u : Standing} → o ≡ (Done, written s) → goodCall (o .1) ≡ true → isBad s ≡ false → s ≡ u → standing (written s) ≡ u
+  stood e g n q = read-written _ n (sym (ap (λ (o : Answer × Call). goodCall (o .1)) e) ∙ g) ∙ q
+
+  pub place-opened : (v : List ℕ) → VectorKept c v → openOf noCall c i v b ≡ (Done, written (receiving t 0 (told (sessionVector c v))))
   unfolding openOf openRefusals vectorRefusals keyRefusals
   place-opened v kept =
       rw (closed-read, eq-eqb _ _ (kept .long), eq-eqb _ _ (good-sized b (h .good)), key-named b c i key h, h .good, h .there, h .ready, not-zero-for c v kept)
-      (ap (λ (d : Call). (Done, d)) (sym (place-in true v 0 some))
-      ∙ ap (λ (t : Bool). (Done, place t v 0)) (sym (or-true (scrambles c))))
 
-  pub place-joined : (v : List ℕ) → joinOf noCall c i b ≡ (Done, place (counts c false) v superframeSlots)
+  pub opened-stands : (v : List ℕ) → VectorKept c v → standing (written (receiving t 0 (told (sessionVector c v)))) ≡ place t (knowing c true v) 0
+  opened-stands v kept =
+      stood (place-opened v kept) (open-good noCall closed-good c i b v) refl (sym (place-in t (knowing c true v) 0 some))
+
+  pub place-joined : joinOf noCall c i b ≡ (Done, written (joined t))
   unfolding joinOf joinRefusals keyRefusals
-  place-joined v =
-      rw (closed-read, eq-eqb _ _ (good-sized b (h .good)), key-named b c i key h, h .good, h .there, h .ready)
-      (ap (λ (s : Standing). (Done, written s)) (joined-at k (sessionVector c v) c (key-ranged b c i key h)))
+  place-joined = rw (closed-read, eq-eqb _ _ (good-sized b (h .good)), key-named b c i key h, h .good, h .there, h .ready)
 
-  fresh-read : standing fresh ≡ receiving c k 0 (scrambles c) noVector
-  fresh-read =
-      read-written (receiving c k 0 (scrambles c) noVector) refl
-      (good-open 2 c k 0 noVector (scrambles c) (omega arith) (omega arith) (has-key-right b c i key h) some (fresh-right c))
+  pub joined-stands : (v : List ℕ) → standing (written (joined t)) ≡ place t (knowing c (isReached c false) v) superframeSlots
+  joined-stands v = stood place-joined (join-good noCall closed-good c i b) refl (joined-at (keyFor b c i) v c (key-ranged b c i key h))
 
-  announced : (v : List ℕ) → VectorKept c v → scrambles c ≡ false → announceOf fresh v ≡ (Done, written (receiving c k 0 true v))
-  unfolding announceOf announceRefusals
-  announced v kept e = rw (fresh-read, eq-eqb _ _ (kept .long), kept .some e, e)
+  module _ (s : Call) (e : standing s ≡ fresh t) (v : List ℕ) where
+    -- as a session starts: told of its vector
+    pub place-announced : VectorKept c v → scrambles c ≡ false → announceOf s v ≡ (Done, written (receiving t 0 (told v)))
+    unfolding announceOf announceRefusals
+    place-announced kept n = rw (e, eq-eqb _ _ (kept .long), kept .some n, n)
 
-  -- as a session starts: told of its vector
-  pub place-announced : (v : List ℕ) → VectorKept c v → scrambles c ≡ false → announceOf fresh v ≡ (Done, place true v 0)
-  place-announced v kept e =
-      announced v kept e ∙ ap (λ (t : Bool). (Done, written (receiving c k 0 true (pick t noVector v)))) (sym e)
-      ∙ ap (λ (d : Call). (Done, d)) (sym (place-in true v 0 some))
+    pub announced-stands : VectorKept c v → scrambles c ≡ false → standing (written (receiving t 0 (told v))) ≡ place t (knowing c true v) 0
+    announced-stands kept n =
+        stood (place-announced kept n) (announce-good s (good-by s (ap isBad e)) v) refl
+        (ap (λ (u : Bool). receiving t 0 (told (pick u noVector v))) (sym n) ∙ sym (place-in t (knowing c true v) 0 some))
 
-  -- or not; scramble needs none
-  pub place-untold : (v : List ℕ) (t : Bool) → scrambles c ≡ t → fresh ≡ place t v 0
-  place-untold v true e =
-      ap (λ (t : Bool). written (receiving c k 0 t noVector)) e
-      ∙ ap (λ (t : Bool). written (receiving c k 0 true (pick t noVector v))) (sym e) ∙ sym (place-in true v 0 some)
-  place-untold v false e = ap (λ (t : Bool). written (receiving c k 0 t noVector)) e ∙ sym (place-in false v 0 some)
+    -- or not; scramble needs none
+    pub place-untold : (u : Bool) → scrambles c ≡ u → standing s ≡ place t (knowing c u v) 0
+    place-untold u n = e ∙ ap (receiving t 0) (same u n) ∙ sym (place-in t (knowing c u v) 0 some)
+      where
+        same : (u : Bool) → scrambles c ≡ u → untold c ≡ knowing c u v
+        same true n = rw n
+        same false n = rw n

@@ -17,22 +17,23 @@ use Rattle.ciphers.proofs.KeystreamLaws.{bits-stream}
 use Rattle.answers.specs.declared.Answer.{Answer}
 use Rattle.answers.specs.declared.Answer.the-variants.{Done}
 use Rattle.answers.specs.Numbers.{numberOf}
+use Rattle.openings.specs.Ladder.{keyFor}
+use Rattle.voice.specs.declared.call.Terms.{Terms}
 use Rattle.voice.specs.declared.call.Call.{Call}
 use Rattle.voice.specs.Frame.{IsFrame, word, inMask, ofSlot, wordTurned, protect}
-use Rattle.voice.specs.Call.{noCall}
+use Rattle.voice.specs.Call.{Standing, standing, termsOf, noCall}
 use Rattle.voice.specs.Opening.{openOf}
 use Rattle.voice.specs.Slot.{lostOf, voiceOf}
 use Rattle.voice.proofs.FrameLaws.{protect-frame}
-use Rattle.voice.proofs.SlotSteps.{voice-heard}
 use Rattle.openings.specs.Samples.{seed}
 use Rattle.demands.specs.Marked.{key0001}
 use Rattle.demands.specs.Talk.{Session, Talk, opening, joining, SlotKept, VectorKept, SessionKept, Full, slotCounts, Kept}
-use Rattle.demands.specs.Notices.{Notice, counts, slotNotices, startNotices, sessionNotices}
+use Rattle.demands.specs.Notices.{Notice, isReached, slotNotices, startNotices, sessionNotices}
 use Rattle.demands.specs.Log.{Receiver, events}
 use Rattle.demands.specs.Demand3.{Right, Meets3}
 use Rattle.demands.specs.Others.{SameSpeech, MeetsIn, Handing, upTo, upToSlots, upToSession, fourOn, atOnce, Sending, turning, identity, restarting, saving}
 use Rattle.demands.proofs.AirLaws.{word-bits}
-use Rattle.demands.proofs.Standing.{slots-some, eight-slots, place, place-read, place-lost, place-opened}
+use Rattle.demands.proofs.Standing.{slots-some, eight-slots, knowing, place, place-lost, place-voice, place-on, place-opened, opened-stands}
 use Rattle.demands.proofs.Samples.{silence, silence-frame, loud, loud-frame, saying, quiet, saying-kept, quiet-kept, quiet-long, no-vector-kept, seed-kept, seed-octets}
 use Rattle.demands.proofs.SampleKeys.{keyOf, bookOfThree, has-key, key-long}
 use Rattle.demands.proofs.Ones.{all-words, unturned, first-some}
@@ -142,7 +143,7 @@ module _ (c : ℕ) (r : (1 ≤ c) × (c ≤ 3)) where
         lost-on n (suc p) reached rest (suc (s .0), s .1, R .lost (s .2) .1) (λ s′ a b. k s′ (omega arith) b) (h .1)
 
     -- past its slots it leaves the frame as it came
-    one-more : (s : Stands) → s .1 ≤ s .0 → RightFrom s (slotNotices (counts c true) (quiet under 0 (true ∷ []))) → ⊥
+    one-more : (s : Stands) → s .1 ≤ s .0 → RightFrom s (slotNotices (isReached c true) (quiet under 0 (true ∷ []))) → ⊥
     one-more s l h =
         let h′ = rw (le-ltb (s .0) (s .1) l) at (h .0) in
         not-silent (word-speech 15 (came silence) silence (h′ .opened (h′ .handed (or-true (scrambles c)))))
@@ -150,17 +151,17 @@ module _ (c : ℕ) (r : (1 ≤ c) × (c ≤ 3)) where
     late : (m : ℕ) (s : Stands) → s .1 ≤ s .0 + 4 * m → RightFrom s (sessionNotices c (quietFor m)) → ⊥
     late zero s l h = go (scrambles c) h
       where
-        go : (t : Bool) → RightFrom s (startNotices (not t && true) seed ++ slotNotices (counts c true) (quiet under 0 (true ∷ []))) → ⊥
+        go : (t : Bool) → RightFrom s (startNotices (not t && true) seed ++ slotNotices (isReached c true) (quiet under 0 (true ∷ []))) → ⊥
         go true h = one-more s (omega arith) h
         go false h = one-more (s .0, s .1, R .announce seed (s .2) .1) (omega arith) (h .1)
     late (suc m) s l h =
-        lost-on (sessionSlots c) 0 (counts c false) (sessionNotices c (quietFor m)) s
+        lost-on (sessionSlots c) 0 (isReached c false) (sessionNotices c (quietFor m)) s
         (λ s′ a b. late m s′ (omega (arith, slots-some c r))) (rw and-false-r at h)
 
     -- whatever the number of slots, whatever it answers then, and whatever the receiver before
     pub upTo-fails : MeetsIn c (upTo R first answer) → ⊥
     upTo-fails m =
-        lost-on (sessionSlots c) 0 (counts c true) (sessionNotices c (quietFor (first c))) (0, first c, R .hear c 0 seed bookOfThree (R .idle) .1)
+        lost-on (sessionSlots c) 0 (isReached c true) (sessionNotices c (quietFor (first c))) (0, first c, R .hear c 0 seed bookOfThree (R .idle) .1)
         (λ s′ a b. late (first c) s′ (omega (arith, slots-some c r)))
         (m (longTalk (suc (first c))) refl
         (record { key = key-long c r; each = quietFor-each (suc (first c)); full = quietFor-full (suc (first c)) }) bookOfThree 0 (has-key c r) opening .1)
@@ -191,33 +192,37 @@ module _ (c : ℕ) (r : (1 ≤ c) × (c ≤ 3)) (n : scrambles c ≡ false) (w :
   announcing-kept =
       record { key = key-long c r; each = (half-kept seed (seed-kept c), (half-kept w k, tt)); full = (sym (eight-slots c r n), omega (arith, eight-slots c r n)) }
 
-  abbrev at : ℕ → Call
-  at = place bookOfThree c 0 (keyOf c) (has-key c r) true w
+  abbrev t : Terms
+  t = termsOf c (keyFor bookOfThree c 0)
 
-  on-one : (p : ℕ) → p < 8 → lostOf (at p) .1 ≡ at (p + 1)
-  on-one p l =
-      ap (λ (o : Answer × Call). o .1)
-      (rw (or-true (scrambles c)) at (place-lost bookOfThree c 0 (keyOf c) (has-key c r) true w k p (omega (arith, eight-slots c r n))))
+  abbrev at : ℕ → Standing
+  at = place t (knowing c true w)
 
-  four-on : fourOn (openOf noCall c 0 w bookOfThree .1) ≡ at 4
+  lost-once : (p : ℕ) → p < 8 → (s : Call) → standing s ≡ at p → standing (lostOf s .1) ≡ at (p + 1)
+  lost-once p l s e =
+      let l′ : p < sessionSlots c = omega (arith, eight-slots c r n) in
+      ap (λ (o : Answer × Call). standing (o .1)) (place-lost t (knowing c true w) p l′ s e) ∙ place-on t (knowing c true w) p l′ s e
+
+  four-on : standing (fourOn (openOf noCall c 0 w bookOfThree .1)) ≡ at 4
   four-on =
-      ap (λ (o : Answer × Call). fourOn (o .1)) (rw (or-true (scrambles c)) at (place-opened bookOfThree c 0 (keyOf c) (has-key c r) w k))
-      ∙ ap (λ (s : Call). lostOf (lostOf (lostOf s .1) .1) .1) (on-one 0 (omega arith))
-      ∙ ap (λ (s : Call). lostOf (lostOf s .1) .1) (on-one 1 (omega arith))
-      ∙ ap (λ (s : Call). lostOf s .1) (on-one 2 (omega arith)) ∙ on-one 3 (omega arith)
+      lost-once 3 (omega arith) _
+      (lost-once 2 (omega arith) _
+      (lost-once 1 (omega arith) _
+      (lost-once 0 (omega arith) _
+      (ap (λ (o : Answer × Call). standing (o .1)) (place-opened bookOfThree c 0 (keyOf c) (has-key c r) w k)
+      ∙ opened-stands bookOfThree c 0 (keyOf c) (has-key c r) w k))))
 
-  opens : (frame : List ℕ) → length frame ≡ 28 → voiceOf (at 4) 15 frame .0 ≡ Done
-  opens frame l =
+  opens : (s : Call) → standing s ≡ at 4 → (frame : List ℕ) → length frame ≡ 28 → voiceOf s 15 frame .0 ≡ Done
+  opens s e frame l =
       ap (λ (o : Answer × (Call × List ℕ)). o .0)
-      (voice-heard (at 4) 15 frame (omega arith) l c _ 4 _
-      (rw (or-true (scrambles c)) at (place-read bookOfThree c 0 (keyOf c) (has-key c r) true w k 4 (omega (arith, eight-slots c r n)))))
+      (place-voice t (knowing c true w) 4 (omega (arith, eight-slots c r n)) s e 15 frame (omega arith) l)
 
   -- it hands out the rest of the session that it joined, which counts as not reached
   pub atOnce-fails : MeetsIn c (atOnce w) → ⊥
   atOnce-fails m =
       let came = turning (stream c (keyOf c) seed) 4 15 silence in
       let z : _≡_ {A = ℕ} 0 1 =
-      sym (ap numberOf (ap (λ (s : Call). voiceOf s 15 came .0) four-on ∙ opens came (protect-frame (ofSlot (stream c (keyOf c) seed) 4) 15 silence refl .long)))
+      sym (ap numberOf (opens _ four-on came (protect-frame (ofSlot (stream c (keyOf c) seed) 4) 15 silence refl .long)))
       ∙ m announcing refl announcing-kept bookOfThree 0 (has-key c r) (joining 0) .1 .0 .held (ap (λ (t : Bool). t || false) n) .0 in
       omega arith
 

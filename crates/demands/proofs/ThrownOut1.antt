@@ -69,7 +69,7 @@ module _ (st : Step) (os : List Operation) (none : NoneDone finishing (history s
   pub no-word : (mask : ℕ) (frame : List ℕ) → numberOf (st (deviceAfter st os) (OfCall n (Voice mask frame)) .0) ≡ 0 → ⊥
   no-word mask frame z =
       let t = meets .words os n mask frame z in
-      unfinished-loads-none (OpensCall n) (renewsCall n) (history st os) (deviceAfter st os .calls n .cipher) (deviceAfter st os .calls n .key) none (t .loaded)
+      unfinished-loads-none (OpensCall n) (renewsCall n) (history st os) (deviceAfter st os .calls n .terms .cipher) (deviceAfter st os .calls n .terms .key) none (t .loaded)
 
   pub no-message : (message : List ℕ) → numberOf (st (deviceAfter st os) (OfPacket n (Message message)) .0) ≡ 0 → ⊥
   no-message message z =

@@ -1,6 +1,6 @@
 -- What demand 2 throws out: slot operations that answer 0 with the speech of a fixed frame, or with speech as it came, whatever they do else.
 use mathlib.Core.Path.{_≡_, refl, sym, ap, _∙_}
-use mathlib.Core.Bool.{Bool, true, false, not, or-true}
+use mathlib.Core.Bool.{Bool, true, false, not}
 use mathlib.Core.List.{List}
 use Prim.Native.Nat.{ℕ, _+_, _-_, _*_, _≤_, _<_}
 use native.Mathlib.Omega.{arith}
@@ -12,15 +12,16 @@ use Rattle.octets.proofs.TestLaws.{agree}
 use Rattle.answers.specs.declared.Answer.{Answer}
 use Rattle.answers.specs.Numbers.{numberOf}
 use Rattle.sizes.specs.Ciphers.{sessionSlots, noVector, scrambles}
-use Rattle.ciphers.specs.Keystream.{stream}
 use Rattle.ciphers.proofs.KeystreamLaws.{bits-stream}
 use Rattle.voice.specs.declared.call.Call.{Call}
 use Rattle.sizes.specs.Frame.{frameOctets}
 use Rattle.voice.specs.Frame.{inMask}
-use Rattle.voice.specs.Call.{Standing, closed, bad, sending, receiving, standing, written}
-use Rattle.voice.specs.Slot.{voiceRefusals, voiceAfter, voiceOf}
+use Rattle.voice.specs.Call.{receivingEnd, told, Standing, receiving, standing, termsOf, written}
+use Rattle.voice.specs.Slot.{voiceRefusals, streamOf, voiceOf}
+use Rattle.voice.proofs.GoodLaws.{good-receiver, read-written}
+use Rattle.voice.proofs.OpeningGood.{session-right}
 use Rattle.voice.proofs.SlotLaws.{voice-done, voice-taken}
-use Rattle.voice.proofs.SlotSteps.{voice-heard}
+use Rattle.voice.proofs.SlotSteps.{voice-at}
 use Rattle.openings.specs.Ladder.{sessionVector, keyFor}
 use Rattle.openings.specs.Samples.{seed}
 use Rattle.demands.specs.Marked.{scrambling}
@@ -29,27 +30,19 @@ use Rattle.demands.specs.Demand2.{OnSlot, OnMessage, Demand2}
 use Rattle.demands.specs.Others.{SameSpeech, Fixed, AsItCame, fixing, onlyMoves}
 use Rattle.demands.proofs.MarkedVoice.{example-2}
 use Rattle.octets.proofs.Zeros.{zeros-octets}
-use Rattle.demands.proofs.Standing.{slots-some, place-in, place-read, same-stream}
+use Rattle.demands.proofs.Standing.{has-key-right, slots-some, not-zero-for, same-stream}
 use Rattle.demands.proofs.Samples.{silence, loud, seed-kept, seed-octets}
 use Rattle.demands.proofs.SampleKeys.{keyOf, bookOfThree, has-key, key-long}
 use Rattle.demands.proofs.Ones.{all-words, unturned, last-some}
 
 -- where ours opens one frame it opens every other
 module _ (call : Call) (mask : ℕ) (f g : List ℕ) where
-  same-answer : (s : Standing) → voiceAfter stream mask f s .0 ≡ voiceAfter stream mask g s .0
-  same-answer closed = refl
-  same-answer bad = refl
-  same-answer (sending c k p v) = refl
-  same-answer (receiving c k p true v) = refl
-  same-answer (receiving c k p false v) = refl
-
   opens-too : numberOf (voiceOf call mask f .0) ≡ 0 → length g ≡ frameOctets → numberOf (voiceOf call mask g .0) ≡ 0
   unfolding voiceRefusals
   opens-too z l =
-      let n = voice-taken stream call mask f (omega arith) in
-      ap (λ (o : Answer × (Call × List ℕ)). numberOf (o .0)) (sym (voice-done stream call mask g (ap not (eq-eqb _ _ l), n .1)))
-      ∙ ap numberOf (sym (same-answer (standing call)))
-      ∙ ap (λ (o : Answer × (Call × List ℕ)). numberOf (o .0)) (voice-done stream call mask f n) ∙ z
+      let n = voice-taken streamOf call mask f (omega arith) in
+      ap (λ (o : Answer × (Call × List ℕ)). numberOf (o .0)) (sym (voice-done streamOf call mask g (ap not (eq-eqb _ _ l), n .1)))
+      ∙ ap (λ (o : Answer × (Call × List ℕ)). numberOf (o .0)) (voice-done streamOf call mask f n) ∙ z
 
 first-bits : (w : ℕ) → w < 4 → (bit silence (56 * w + 0) ≡ 0) × (bit loud (56 * w + 0) ≡ 1)
 unfolding allBelow
@@ -76,22 +69,26 @@ module _ (voice : OnSlot) (send : OnMessage) where
 
   -- what is left as it came was not turned
   left-zeros : (call : Call) → numberOf (voiceOf call 15 silence .0) ≡ 0 → AsItCame voice call 15 → Demand2 voice send
-      → (k : ℕ) → k < 196 → stream (call .cipher) (call .key) (call .vector) (196 * call .position + k) ≡ 0
+      → (k : ℕ) → k < 196 → streamOf call (196 * call .position + k) ≡ 0
   left-zeros call z left m =
       let q = left silence z in
-      unturned (stream (call .cipher) (call .key) (call .vector)) (bits-stream (call .cipher) (call .key) (call .vector)) (call .position) silence
+      unturned (streamOf call) (bits-stream (call .terms .cipher) (call .terms .key) (call .vector)) (call .position) silence
       (λ w j lw lj. sym (m .voice call 15 silence .turned (q .0) w j lw lj (all-words w lw)) ∙ q .1 w j lw lj (all-words w lw))
 
   module _ (c : ℕ) (r : (1 ≤ c) × (c ≤ 3)) (v : List ℕ) (kept : VectorKept c v) (o : Octets v) where
     -- our receiver at the last slot of a session of this vector
-    abbrev last : Call
-    last = written (receiving c (keyFor bookOfThree c 0) (sessionSlots c - 1) true (sessionVector c v))
+    abbrev at-last : Standing
+    at-last = receiving (termsOf c (keyFor bookOfThree c 0)) (sessionSlots c - 1) (told (sessionVector c v))
 
-    last-stands : standing last ≡ receiving c (keyFor bookOfThree c 0) (sessionSlots c - 1) true (sessionVector c v)
+    abbrev last : Call
+    last = written at-last
+
+    last-stands : standing last ≡ at-last
     last-stands =
         let l : sessionSlots c - 1 < sessionSlots c = let s = slots-some c r in omega arith in
-        ap standing (sym (place-in bookOfThree c 0 (keyOf c) (has-key c r) true v (sessionSlots c - 1) l))
-        ∙ (rw (or-true (scrambles c)) at (place-read bookOfThree c 0 (keyOf c) (has-key c r) true v kept (sessionSlots c - 1) l))
+        read-written at-last refl
+        (good-receiver (termsOf c (keyFor bookOfThree c 0)) (sessionSlots c - 1) (has-key-right bookOfThree c 0 (keyOf c) (has-key c r)) l (told (sessionVector c v))
+        (session-right receivingEnd c v (not-zero-for c v kept)))
 
     vector-octets : (t : Bool) → Octets (pick t noVector v)
     vector-octets true = zeros-octets 8
@@ -99,7 +96,7 @@ module _ (voice : OnSlot) (send : OnMessage) where
 
     -- in the sessions of one vector, from slot n on: so are all slots but the first, and all sessions but the first
     pub leaves-fails-2 : (n : ℕ) → n < sessionSlots c
-        → ((call : Call) (mask : ℕ) → call .cipher ≡ c → call .vector ≡ sessionVector c v → n ≤ call .position → AsItCame voice call mask)
+        → ((call : Call) (mask : ℕ) → call .terms .cipher ≡ c → call .vector ≡ sessionVector c v → n ≤ call .position → AsItCame voice call mask)
         → Demand2 voice send → ⊥
     leaves-fails-2 n l left m =
         last-some (sessionVector c v) (vector-octets (scrambles c)) c r
@@ -110,7 +107,7 @@ module _ (voice : OnSlot) (send : OnMessage) where
         opened : numberOf (voiceOf last 15 silence .0) ≡ 0
         opened =
             ap (λ (a : Answer × (Call × List ℕ)). numberOf (a .0))
-            (voice-heard last 15 silence (omega arith) refl c (keyFor bookOfThree c 0) (sessionSlots c - 1) (sessionVector c v) last-stands)
+            (voice-at last 15 silence (omega arith) refl at-last last-stands refl refl)
 
 -- ---- two of them
 

@@ -4,17 +4,17 @@ use mathlib.Core.Bool.{Bool, true, false, _&&_, _||_, not, true≢false}
 use mathlib.Core.List.{List}
 use Prim.Native.Nat.{ℕ, _<_}
 use lib.Dec.{leb, eqb}
-use borrow.Author.Tests.{eq-eqb, eqb-true, leb-false, not-true, not-false}
+use borrow.Author.Tests.{eq-eqb, eqb-true, leb-false, not-false}
 use Rattle.octets.proofs.TestLaws.{and-left, and-right, or-neither}
 use Rattle.answers.proofs.OutcomeLaws.{NoneHolds}
 use Rattle.sizes.specs.Ciphers.{scrambles}
 use Rattle.openings.specs.Ladder as ladder
 use Rattle.voice.specs.declared.call.Call.{Call}
-use Rattle.voice.specs.Call.{closedEnd, sendingEnd, receivingEnd, Standing, closed, sending, receiving, standing, isBad, stands, receives, endRefusals}
+use Rattle.voice.specs.Call.{closedEnd, sendingEnd, receivingEnd, unknownVector, isKnown, knownBy, Standing, standing, isBad, stands, receives, endRefusals}
 use Rattle.voice.specs.Opening.{joinRefusals, openRefusals}
 use Rattle.voice.specs.Slot.{lostRefusals, voiceRefusals}
 use Rattle.voice.specs.Vector.{awaits, announceRefusals, generates, nextRefusals}
-use Rattle.voice.proofs.CallLaws.{Stands, none, sender, receiver, good-by, good-stands, stands-none}
+use Rattle.voice.proofs.CallLaws.{is-known, by-stands, good-by, stands-none}
 use Rattle.data.specs.declared.packet.Packet.{Packet}
 use Rattle.data.specs.Packet as packet
 use Rattle.data.specs.Opening as opening
@@ -30,24 +30,13 @@ not-scramble : (c : ℕ) → not (scrambles c) ≡ true → c ≡ 1 → ⊥
 not-scramble c e z = true≢false (sym e ∙ ap not (eq-eqb c 1 z))
 
 module _ (c : Call) (good : isBad (standing c) ≡ false) where
-  -- by what it stands for
-  by-end : {P : Type 0} → (c .end ≡ closedEnd → standing c ≡ closed → P)
-      → (c .end ≡ sendingEnd → standing c ≡ sending (c .cipher) (c .key) (c .position) (c .vector) → P)
-      → (c .end ≡ receivingEnd → standing c ≡ receiving (c .cipher) (c .key) (c .position) (c .known) (c .vector) → P) → P
-  by-end {P} f g h = go (good-stands c (good-by c good))
-    where
-      go : Stands c → P
-      go (none o e s) = f e s
-      go (sender o e s) = g e s
-      go (receiver o e s) = h e s
-
   -- a test of its standing that holds, and is no test of this one
   unlike : {s : Standing} (t : Standing → Bool) → t (standing c) ≡ true → standing c ≡ s → t s ≡ false → ⊥
   unlike t e q f = true≢false (sym e ∙ ap t q ∙ f)
 
   closed-time : stands (standing c) ≡ false → c .end ≡ closedEnd
   closed-time f =
-      by-end (λ e s. e) (λ e s. absurd (true≢false (sym (ap stands s) ∙ f))) (λ e s. absurd (true≢false (sym (ap stands s) ∙ f)))
+      by-stands c (good-by c good) (λ o e s. e) (λ o e s. absurd (true≢false (sym (ap stands s) ∙ f))) (λ o e s. absurd (true≢false (sym (ap stands s) ∙ f)))
 
   standing-time : not (stands (standing c)) ≡ false → c .end ≡ closedEnd → ⊥
   standing-time f z = true≢false (sym (stands-none c (good-by c good) z) ∙ f)
@@ -55,26 +44,26 @@ module _ (c : Call) (good : isBad (standing c) ≡ false) where
   receiving-time : not (receives (standing c)) ≡ false → c .end ≡ receivingEnd
   receiving-time f =
       let r = not-false (receives (standing c)) f in
-      by-end (λ e s. absurd (unlike receives r s refl)) (λ e s. absurd (unlike receives r s refl)) (λ e s. e)
+      by-stands c (good-by c good) (λ o e s. absurd (unlike receives r s refl)) (λ o e s. absurd (unlike receives r s refl)) (λ o e s. e)
 
-  announce-time : not (awaits (standing c)) ≡ false → (c .end ≡ receivingEnd) × (c .cipher ≡ 1 → ⊥) × (c .position ≡ 0) × (c .known ≡ false)
+  announce-time : not (awaits (standing c)) ≡ false → (c .end ≡ receivingEnd) × (c .terms .cipher ≡ 1 → ⊥) × (c .position ≡ 0) × (c .known ≡ unknownVector)
   announce-time f =
       let r = not-false (awaits (standing c)) f in
-      by-end (λ e s. absurd (unlike awaits r s refl)) (λ e s. absurd (unlike awaits r s refl))
-      (λ e s.
-      let q : (not (scrambles (c .cipher)) && (eqb (c .position) 0 && not (c .known))) ≡ true = sym (ap awaits s) ∙ r in
-      let p = and-right (not (scrambles (c .cipher))) (eqb (c .position) 0 && not (c .known)) q in (
+      by-stands c (good-by c good) (λ o e s. absurd (unlike awaits r s refl)) (λ o e s. absurd (unlike awaits r s refl))
+      (λ o e s.
+      let q : (not (scrambles (c .terms .cipher)) && (eqb (c .position) 0 && not (isKnown (knownBy (c .known) (c .vector))))) ≡ true = sym (ap awaits s) ∙ r in
+      let p = and-right (not (scrambles (c .terms .cipher))) _ q in (
         e,
-        not-scramble (c .cipher) (and-left (not (scrambles (c .cipher))) (eqb (c .position) 0 && not (c .known)) q),
-        eqb-true (c .position) 0 (and-left (eqb (c .position) 0) (not (c .known)) p),
-        not-true (c .known) (and-right (eqb (c .position) 0) (not (c .known)) p),
+        not-scramble (c .terms .cipher) (and-left (not (scrambles (c .terms .cipher))) _ q),
+        eqb-true (c .position) 0 (and-left (eqb (c .position) 0) _ p),
+        eqb-true (c .known) unknownVector (sym (is-known (c .known) (c .vector) .1) ∙ and-right (eqb (c .position) 0) _ p),
       ))
 
-  next-time : not (generates (standing c)) ≡ false → (c .end ≡ sendingEnd) × (c .cipher ≡ 1 → ⊥)
+  next-time : not (generates (standing c)) ≡ false → (c .end ≡ sendingEnd) × (c .terms .cipher ≡ 1 → ⊥)
   next-time f =
       let r = not-false (generates (standing c)) f in
-      by-end (λ e s. absurd (unlike generates r s refl)) (λ e s. (e, not-scramble (c .cipher) (sym (ap generates s) ∙ r)))
-      (λ e s. absurd (unlike generates r s refl))
+      by-stands c (good-by c good) (λ o e s. absurd (unlike generates r s refl)) (λ o e s. (e, not-scramble (c .terms .cipher) (sym (ap generates s) ∙ r)))
+      (λ o e s. absurd (unlike generates r s refl))
 
 call-time : (b : List ℕ) (c : Call) (o : CallOperation) → NoneHolds (callRefusals b c o) → TimeOfCall c o
 unfolding openRefusals joinRefusals ladder.vectorRefusals ladder.keyRefusals voiceRefusals lostRefusals endRefusals announceRefusals nextRefusals

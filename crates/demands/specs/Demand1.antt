@@ -15,7 +15,7 @@ use Rattle.keybook.specs.History as book
 use Rattle.keybook.specs.History.{Told}
 use Rattle.voice.specs.Frame.{ofSlot, protect}
 use Rattle.voice.specs.declared.call.Call.{Call}
-use Rattle.voice.specs.Call.{closedEnd, sendingEnd, receivingEnd, goodCall}
+use Rattle.voice.specs.Call.{closedEnd, sendingEnd, receivingEnd, unknownVector, goodCall}
 use Rattle.data.specs.declared.packet.Packet.{Packet}
 use Rattle.data.specs.Kinds.{messageOctets}
 use Rattle.data.specs.Packet.{goodPacket}
@@ -32,11 +32,11 @@ pub record Keyed (b : List ℕ) (c i : ℕ) : Type 0 where
   pub id : i ≤ 63
 
 -- add is given at most 32 octets
-abbrev pub RightKey : List ℕ → book.Operation → Type 0
-RightKey b (book.Begin c i) = Keyed b c i
-RightKey b (book.Add c i xs) = Keyed b c i × (length xs ≤ 32)
-RightKey b (book.Finish c i) = Keyed b c i
-RightKey b (book.Erase c i) = Keyed b c i
+abbrev pub RightBook : List ℕ → book.Operation → Type 0
+RightBook b (book.Begin c i) = Keyed b c i
+RightBook b (book.Add c i xs) = Keyed b c i × (length xs ≤ 32)
+RightBook b (book.Finish c i) = Keyed b c i
+RightBook b (book.Erase c i) = Keyed b c i
 
 -- a vector has 8 octets, and for DES and AES it is not all zero
 pub record RightVector (c : ℕ) (w : List ℕ) : Type 0 where
@@ -51,7 +51,7 @@ RightCall b c (Join cipher i) = Keyed b cipher i × (goodCall c ≡ true)
 RightCall b c (Voice mask frame) = (length frame ≡ 28) × (mask ≤ 15) × (goodCall c ≡ true)
 RightCall b c Lost = goodCall c ≡ true
 RightCall b c End = goodCall c ≡ true
-RightCall b c (Announce w) = RightVector (c .cipher) w × (goodCall c ≡ true)
+RightCall b c (Announce w) = RightVector (c .terms .cipher) w × (goodCall c ≡ true)
 RightCall b c (NextVector out) = (length out ≡ 8) × (goodCall c ≡ true)
 
 -- a message kind is 1 to 4, and a message has the length of its packet's kind
@@ -62,7 +62,7 @@ RightPacket b p LostMessage = goodPacket p ≡ true
 RightPacket b p EndPacket = goodPacket p ≡ true
 
 abbrev pub RightInput : Device → Operation → Type 0
-RightInput d (OfBook o) = RightKey (d .book) o
+RightInput d (OfBook o) = RightBook (d .book) o
 RightInput d (OfCall n o) = RightCall (d .book) (d .calls n) o
 RightInput d (OfPacket n o) = RightPacket (d .book) (d .packets n) o
 
@@ -77,8 +77,8 @@ TimeOfCall c (Join cipher i) = c .end ≡ closedEnd
 TimeOfCall c (Voice mask frame) = c .end ≡ closedEnd → ⊥
 TimeOfCall c Lost = c .end ≡ receivingEnd
 TimeOfCall c End = c .end ≡ closedEnd → ⊥
-TimeOfCall c (Announce w) = (c .end ≡ receivingEnd) × (c .cipher ≡ 1 → ⊥) × (c .position ≡ 0) × (c .known ≡ false)
-TimeOfCall c (NextVector out) = (c .end ≡ sendingEnd) × (c .cipher ≡ 1 → ⊥)
+TimeOfCall c (Announce w) = (c .end ≡ receivingEnd) × (c .terms .cipher ≡ 1 → ⊥) × (c .position ≡ 0) × (c .known ≡ unknownVector)
+TimeOfCall c (NextVector out) = (c .end ≡ sendingEnd) × (c .terms .cipher ≡ 1 → ⊥)
 
 -- opening while there is no packet, the others with one, and no message past the 1,000th
 abbrev pub TimeOfPacket : Packet → PacketOperation → Type 0
@@ -111,7 +111,7 @@ SameBeside (OfPacket m o) d e = (d .book ≡ e .book) × ((n : ℕ) → d .calls
 
 -- a voice slot in a receiving call whose session vector is unknown
 pub data Unknown (d : Device) : Operation → Type 0 where
-  slot : (n mask : ℕ) (frame : List ℕ) → d .calls n .end ≡ receivingEnd → d .calls n .known ≡ false → Unknown d (OfCall n (Voice mask frame))
+  slot : (n mask : ℕ) (frame : List ℕ) → d .calls n .end ≡ receivingEnd → d .calls n .known ≡ unknownVector → Unknown d (OfCall n (Voice mask frame))
 
 -- ---- which key it is
 
@@ -171,8 +171,8 @@ pub record Loaded (opens : ℕ → ℕ → Operation → Type 0) (renews : Opera
 
 -- a word: the frame after a slot that was done is turned by the keystream of the call as it stood, and its key was loaded
 pub record WordsTurned (h : History) (n : ℕ) (c : Call) (mask : ℕ) (frame after : List ℕ) : Type 0 where
-  pub turned : after ≡ protect (ofSlot (stream (c .cipher) (c .key) (c .vector)) (c .position)) mask frame
-  pub loaded : Loaded (OpensCall n) (renewsCall n) h (c .cipher) (c .key)
+  pub turned : after ≡ protect (ofSlot (stream (c .terms .cipher) (c .terms .key) (c .vector)) (c .position)) mask frame
+  pub loaded : Loaded (OpensCall n) (renewsCall n) h (c .terms .cipher) (c .terms .key)
 
 -- a message
 pub record MessageTurned (h : History) (n : ℕ) (p : Packet) (message after : List ℕ) : Type 0 where

@@ -42,7 +42,7 @@ module _ (voice : OnSlot) (call : Call) (mask : ℕ) (frame : List ℕ) where
   pub record VoiceBits : Type 0 where
     -- done: a speech bit of a word in the mask is turned by keystream bit 196 p + 49 w + j
     pub turned : numberOf (voice call mask frame .0) ≡ 0 → (w j : ℕ) → w < 4 → j < 49 → inMask mask w ≡ true
-        → bit frameAfter (56 * w + j) ≡ flip (bit frame (56 * w + j)) (stream (call .cipher) (call .key) (call .vector) (196 * call .position + 49 * w + j))
+        → bit frameAfter (56 * w + j) ≡ flip (bit frame (56 * w + j)) (stream (call .terms .cipher) (call .terms .key) (call .vector) (196 * call .position + 49 * w + j))
     -- the last seven bits of a word, and words not in the mask, stay as they came
     pub stays : numberOf (voice call mask frame .0) ≡ 0 → (w j : ℕ) → w < 4 → j < 56 → ((49 ≤ j) ⊎ (inMask mask w ≡ false))
         → bit frameAfter (56 * w + j) ≡ bit frame (56 * w + j)

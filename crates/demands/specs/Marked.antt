@@ -1,7 +1,7 @@
 -- The build paper's marked examples in one table, each as a statement about the definitions.
 use mathlib.Core.Path.{_≡_}
 use mathlib.Core.List.{List, [], _∷_, _++_}
-use mathlib.Core.Bool.{true, false}
+use mathlib.Core.Bool.{false}
 use Prim.Native.Nat.{ℕ, _-_, _*_, _≤_}
 use lib.ListN.{length, replicate}
 use Rattle.octets.specs.Bits.{bit, octetsFrom}
@@ -20,7 +20,7 @@ use Rattle.voice.specs.declared.call.Call.{Call}
 use Rattle.sizes.specs.Frame.{frameOctets}
 use Rattle.sizes.specs.Ciphers.{vectorOctets, noVector}
 use Rattle.openings.specs.Samples.{scramble0001, desABCD, seed}
-use Rattle.voice.specs.Call.{noCall, receiving, written}
+use Rattle.voice.specs.Call.{unknown, told, receiving, termsOf, noCall, written}
 use Rattle.voice.specs.Opening.{openOf, joinOf}
 use Rattle.voice.specs.Slot.{topMask, voiceOf}
 use Rattle.voice.specs.Vector.{announceOf}
@@ -46,10 +46,10 @@ bookOfTwo = (1 ∷ 0 ∷ 2 ∷ 1 ∷ scramble0001) ++ ((2 ∷ 0 ∷ 8 ∷ 1 ∷ 
 
 -- a scramble receiver at position p, and a DES receiver at position p that does not know its session's vector
 abbrev pub scrambling : ℕ → Call
-scrambling p = written (receiving 1 scramble0001 p true noVector)
+scrambling p = written (receiving (termsOf 1 scramble0001) p (told noVector))
 
 abbrev pub waiting : ℕ → Call
-waiting p = written (receiving 2 desABCD p false noVector)
+waiting p = written (receiving (termsOf 2 desABCD) p unknown)
 
 -- 8001000600140000F002200CC0000000000000000000000000000000
 abbrev pub frame8001 : List ℕ
@@ -102,7 +102,7 @@ pub record Marked : Type 0 where
       × (voiceOf (waiting 5) mask frame ≡ (Held, (waiting 6, frame)))
       × (voiceOf (waiting 6) mask frame ≡ (Held, (waiting 7, frame)))
       × (voiceOf (waiting 7) mask frame ≡ (Held, (waiting 0, frame))))
-      × ((w : List ℕ) → length w ≡ vectorOctets → allZero w ≡ false → announceOf (waiting 0) w ≡ (Done, written (receiving 2 desABCD 0 true w)))
+      × ((w : List ℕ) → length w ≡ vectorOctets → allZero w ≡ false → announceOf (waiting 0) w ≡ (Done, written (receiving (termsOf 2 desABCD) 0 (told w))))
       × ((w : List ℕ) → length w ≡ vectorOctets → announceOf (waiting 7) w ≡ (NotNow, waiting 7))
   -- vector zero: DES open 8, scramble open 0
   pub example-12 : (openOf noCall 2 0 noVector bookOfTwo ≡ (ZeroVector, noCall)) × (openOf noCall 1 0 noVector bookOfTwo ≡ (Done, scrambling 0))

@@ -18,8 +18,8 @@ pub data Notice : Type 0 where
   voice : Bool → Slot → Notice
 
 -- a session counts as reached where its vector reached the receiver; scramble needs none
-abbrev pub counts : ℕ → Bool → Bool
-counts c told = scrambles c || told
+abbrev pub isReached : ℕ → Bool → Bool
+isReached c told = scrambles c || told
 
 abbrev pub slotNotice : Bool → Bool → Slot → Notice
 slotNotice reached true x = voice reached x
@@ -37,12 +37,12 @@ startNotices false v = []
 abbrev pub sessionNotices : ℕ → List Session → List Notice
 sessionNotices c [] = []
 sessionNotices c (x ∷ xs) =
-    startNotices (not (scrambles c) && x .announced) (x .vector) ++ (slotNotices (counts c (x .announced)) (x .slots) ++ sessionNotices c xs)
+    startNotices (not (scrambles c) && x .announced) (x .vector) ++ (slotNotices (isReached c (x .announced)) (x .slots) ++ sessionNotices c xs)
 
 -- the first session that is heard, from slot p on, and those after it; told is whether the first one's vector reached the receiver
 abbrev pub firstNotices : ℕ → Bool → ℕ → List Session → List Notice
 firstNotices c told p [] = []
-firstNotices c told p (x ∷ xs) = slotNotices (counts c told) (drop p (x .slots)) ++ sessionNotices c xs
+firstNotices c told p (x ∷ xs) = slotNotices (isReached c told) (drop p (x .slots)) ++ sessionNotices c xs
 
 -- a call without a session has no opening
 abbrev pub openingNotices : ℕ → List Session → List Notice

@@ -11,12 +11,12 @@ use Rattle.answers.specs.Numbers.{numberOf}
 use Rattle.answers.specs.Outcomes.{Refusals, outcome}
 use Rattle.ciphers.specs.Keystream.{stream}
 use Rattle.keybook.specs.Book.{bookOctets, goodBook}
-use Rattle.openings.specs.Ladder.{keyFor}
+use Rattle.openings.specs.Ladder.{sessionVector, keyFor}
 use Rattle.voice.specs.declared.call.Call.{Call}
-use Rattle.voice.specs.Call.{sendingEnd, receivingEnd, noCall, standing, written}
+use Rattle.voice.specs.Call.{sendingEnd, receivingEnd, standing, termsOf, noCall, written}
 use Rattle.voice.specs.Frame.{ofSlot, protect}
 use Rattle.voice.specs.Opening.{begun, joined}
-use Rattle.voice.specs.Vector.{told}
+use Rattle.voice.specs.Vector.{withVector}
 use Rattle.demands.specs.Device.{withNone, Device, CallOperation, Open, Start, Join, Voice, Lost, End, Announce, NextVector, callStep, Operation, OfBook, OfCall, OfPacket, withCall, Step, step, lent}
 use Rattle.demands.specs.Refusals.{callRefusals}
 
@@ -33,7 +33,7 @@ abbrev turnedAt : Call → CallOperation → List ℕ
 turnedAt c (Open cipher i w) = []
 turnedAt c (Start cipher i w) = []
 turnedAt c (Join cipher i) = []
-turnedAt c (Voice mask frame) = protect (ofSlot (stream (c .cipher) (c .key) (c .vector)) (c .position)) mask frame
+turnedAt c (Voice mask frame) = protect (ofSlot (stream (c .terms .cipher) (c .terms .key) (c .vector)) (c .position)) mask frame
 turnedAt c Lost = []
 turnedAt c End = []
 turnedAt c (Announce w) = []
@@ -94,9 +94,9 @@ module _ (isHasty : CallOperation → Bool) where
   opened b c o after = withNone (outcome c (pick (isHasty o) (unasked (numberOf NotReady) (callRefusals b c o)) (callRefusals b c o)) after)
 
   abbrev pub hastyCall : List ℕ → Call → CallOperation → Answer × (Call × List ℕ)
-  hastyCall b c (Open cipher i w) = opened b c (Open cipher i w) (begun receivingEnd cipher w (keyFor b cipher i))
-  hastyCall b c (Start cipher i w) = opened b c (Start cipher i w) (begun sendingEnd cipher w (keyFor b cipher i))
-  hastyCall b c (Join cipher i) = opened b c (Join cipher i) (written (joined cipher (keyFor b cipher i)))
+  hastyCall b c (Open cipher i w) = opened b c (Open cipher i w) (written (begun receivingEnd (termsOf cipher (keyFor b cipher i)) (sessionVector cipher w)))
+  hastyCall b c (Start cipher i w) = opened b c (Start cipher i w) (written (begun sendingEnd (termsOf cipher (keyFor b cipher i)) (sessionVector cipher w)))
+  hastyCall b c (Join cipher i) = opened b c (Join cipher i) (written (joined (termsOf cipher (keyFor b cipher i))))
   hastyCall b c (Voice mask frame) = callStep b c (Voice mask frame)
   hastyCall b c Lost = callStep b c Lost
   hastyCall b c End = callStep b c End
@@ -114,7 +114,7 @@ eagerCall b c (Join cipher i) = callStep b c (Join cipher i)
 eagerCall b c (Voice mask frame) = callStep b c (Voice mask frame)
 eagerCall b c Lost = callStep b c Lost
 eagerCall b c End = callStep b c End
-eagerCall b c (Announce w) = withNone (outcome c (unasked (numberOf NotNow) (callRefusals b c (Announce w))) (written (told w (standing c))))
+eagerCall b c (Announce w) = withNone (outcome c (unasked (numberOf NotNow) (callRefusals b c (Announce w))) (written (withVector w (standing c))))
 eagerCall b c (NextVector out) = callStep b c (NextVector out)
 
 abbrev pub eager : Step

@@ -9,7 +9,7 @@ use Rattle.answers.specs.Order.{refusalOrder, ofGiven, ofCall, ofBook, ofZeros}
 use Rattle.keybook.specs.Operations.{beginRefusals, addRefusals, finishRefusals, eraseRefusals}
 use Rattle.keybook.specs.History as book
 use Rattle.voice.specs.declared.call.Call.{Call}
-use Rattle.voice.specs.Call.{Standing, closed, bad, sending, receiving, standing, endRefusals}
+use Rattle.voice.specs.Call.{standing, knows, endRefusals}
 use Rattle.voice.specs.Opening.{joinRefusals, openRefusals}
 use Rattle.voice.specs.Slot.{lostRefusals, voiceRefusals}
 use Rattle.voice.specs.Vector.{announceRefusals, nextRefusals}
@@ -47,17 +47,11 @@ refusalsOf d (OfCall n o) = callRefusals (d .book) (d .calls n) o
 refusalsOf d (OfPacket n o) = packetRefusals (d .book) (d .packets n) o
 
 -- what is answered where none of these holds: the operation is done, but a slot in a receiving call whose vector is unknown is held
-abbrev pub slotAnswer : Standing → Answer
-slotAnswer closed = Done
-slotAnswer bad = Done
-slotAnswer (sending c k p v) = Done
-slotAnswer (receiving c k p known v) = pick known Done Held
-
 abbrev pub callUnrefused : Call → CallOperation → Answer
 callUnrefused c (Open cipher i w) = Done
 callUnrefused c (Start cipher i w) = Done
 callUnrefused c (Join cipher i) = Done
-callUnrefused c (Voice mask frame) = slotAnswer (standing c)
+callUnrefused c (Voice mask frame) = pick (knows (standing c)) Done Held
 callUnrefused c Lost = Done
 callUnrefused c End = Done
 callUnrefused c (Announce w) = Done

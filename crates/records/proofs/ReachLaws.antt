@@ -11,7 +11,6 @@ use Rattle.answers.specs.declared.Answer.{Answer}
 use Rattle.answers.specs.declared.Answer.the-variants.{Done}
 use Rattle.answers.specs.Numbers.{numberOf, isOneOf}
 use Rattle.answers.proofs.OutcomeLaws.{gives}
-use Rattle.ciphers.specs.Keystream.{stream}
 use Rattle.keyentry.specs.Entry.{cipherIn, isReady, inRange, extendRefusals, completeRefusals}
 use Rattle.sizes.specs.Ciphers.{keyRoom, vectorOctets}
 use Rattle.keyentry.proofs.RightLaws.{for-parts}
@@ -21,13 +20,13 @@ use Rattle.keybook.specs.Operations.{hasEntry, entryFor, beginRefusals, beginAf
 use Rattle.keybook.proofs.GoodLaws.{good-sized, found-for}
 use Rattle.openings.specs.Ladder.{keyRefusals, vectorRefusals}
 use Rattle.voice.specs.declared.call.Call.{Call}
-use Rattle.voice.specs.Call.{standing, isBad, endRefusals, endOf}
+use Rattle.voice.specs.Call.{standing, isBad, knows, endRefusals, endOf}
 use Rattle.voice.specs.Opening.{joinRefusals, openRefusals, begun, openOf, joinOf}
 use Rattle.sizes.specs.Frame.{frameOctets}
-use Rattle.voice.specs.Slot.{lostRefusals, lostOf, zeroNext, voiceRefusals, voiceAfter, voiceBy, voiceOf}
+use Rattle.voice.specs.Slot.{lostRefusals, lostOf, zeroNext, voiceRefusals, streamOf, voiceAfter, voiceBy, voiceOf}
 use Rattle.voice.specs.Vector.{announceRefusals, announceOf}
 use Rattle.voice.proofs.CallLaws.{not-bad, unless-sender}
-use Rattle.voice.proofs.SlotLaws.{voice-under-two}
+use Rattle.voice.proofs.SlotLaws.{taken-under-two}
 use Rattle.lines.specs.Record.{Record, Load, Open, Join, Voice, Announce, Lost, End, Malformed, lineOf}
 use Rattle.lines.proofs.CanonicalLaws.{read-fine}
 use Rattle.records.specs.Load.{loadOf}
@@ -140,7 +139,7 @@ module _ (book : List ℕ) (call : Call) (s : Sound book call) where
   voice-can : (mask : ℕ) (frame : List ℕ) → length frame ≡ frameOctets → Can (Voice mask frame) (voiceOf call mask frame .0)
   unfolding voiceBy voiceRefusals
   voice-can mask frame l =
-      gives (Can (Voice mask frame)) (call, frame) (voiceRefusals (standing call) mask frame) (voiceAfter stream mask frame (standing call)) (
+      gives (Can (Voice mask frame)) (call, frame) (voiceRefusals (standing call) mask frame) (voiceAfter streamOf mask frame (standing call)) (
         never-not (eq-eqb (length frame) frameOctets l),
         λ _. (
           λ h. refl,
@@ -149,12 +148,12 @@ module _ (book : List ℕ) (call : Call) (s : Sound book call) where
             λ _. (
               λ h. refl,
               λ _.
-                  (never (unless-sender call (s .call-good) zeroNext refl (λ n k p b v. refl) (s .no-sender)), λ _. tt),
+                  (never (unless-sender call (s .call-good) zeroNext refl (λ t p k. refl) (s .no-sender)), λ _. tt),
             ),
           ),
         ),
       )
-      (taken (numberOf (voiceAfter stream mask frame (standing call) .0)) (voice-under-two stream call mask frame (standing call)))
+      (taken (numberOf (voiceAfter streamOf mask frame (standing call) .0)) (taken-under-two (knows (standing call))))
     where
       taken : (n : ℕ) → n < 2 → isOneOf n (answersTo (Voice mask frame)) ≡ true
       taken zero h = refl

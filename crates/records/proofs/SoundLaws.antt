@@ -1,6 +1,6 @@
 -- From an all-zero book and no call, book and call stay good through any lines: no half key is left in the book, and there is no sender.
 use mathlib.Core.Path.{_≡_, _∙_}
-use mathlib.Core.Bool.{Bool, true, false, not}
+use mathlib.Core.Bool.{Bool, true, false}
 use mathlib.Core.List.{List, [], _∷_}
 use Prim.Native.Nat.{ℕ, _+_, _*_, _<_}
 use native.Mathlib.Decide.{ℕ-discrete}
@@ -13,23 +13,22 @@ use Rattle.answers.specs.declared.Answer.{Answer}
 use Rattle.answers.specs.declared.Answer.the-variants.{Done}
 use Rattle.answers.specs.Outcomes.{Refusals, settled}
 use Rattle.answers.proofs.OutcomeLaws.{by-refusals}
-use Rattle.ciphers.specs.Keystream.{stream}
-use Rattle.sizes.specs.Ciphers.{sessionSlots, scrambles, noVector}
+use Rattle.sizes.specs.Ciphers.{sessionSlots}
 use Rattle.keyentry.specs.Entry.{entryOctets, cipherIn, isReady}
 use Rattle.keybook.specs.Book.{entries, bookOctets, entryOf, goodBook}
 use Rattle.keybook.specs.History.{bookAfter}
 use Rattle.keybook.proofs.GoodLaws.{entry-octet}
 use Rattle.keybook.proofs.HoldLaws.{always-good}
-use Rattle.openings.specs.Ladder.{keyFor}
+use Rattle.openings.specs.Ladder.{sessionVector, keyFor}
+use Rattle.voice.specs.declared.call.Terms.{Terms}
 use Rattle.voice.specs.declared.call.Call.{Call}
-use Rattle.voice.specs.Call.{sendingEnd, receivingEnd, goodCall, noCall, Standing, closed, receiving, standing, written, stands, endRefusals, endOf}
-use Rattle.voice.specs.Opening.{superframeSlots, joinRefusals, openRefusals, begun, openOf, joined, joinOf}
-use Rattle.voice.specs.Slot.{received, slotOn, lostRefusals, lostOf, voiceRefusals, voiceAfter, voiceBy, voiceOf}
-use Rattle.voice.specs.Vector.{told, announceRefusals, announceOf}
-use Rattle.voice.proofs.CallLaws.{Stands, none, sender, receiver, good-stands}
+use Rattle.voice.specs.Call.{sendingEnd, receivingEnd, goodCall, Known, knownBy, untold, Standing, closed, receiving, standing, termsOf, noCall, written, endRefusals, endOf}
+use Rattle.voice.specs.Opening.{joinRefusals, openRefusals, begun, openOf, joined, joinOf}
+use Rattle.voice.specs.Slot.{slotOn, lostRefusals, lostOf, voiceRefusals, streamOf, voiceAfter, voiceBy, voiceOf}
+use Rattle.voice.specs.Vector.{withVector, announceRefusals, announceOf}
+use Rattle.voice.proofs.CallLaws.{by-stands}
 use Rattle.voice.proofs.GoodLaws.{closed-good, end-good, lost-good, voice-good, announce-good}
 use Rattle.voice.proofs.OpeningGood.{open-good, join-good}
-use Rattle.voice.proofs.SlotLaws.{voice-moves}
 use Rattle.lines.specs.Record.{Record, Load, Open, Join, Voice, Announce, Lost, End, Malformed, lineOf}
 use Rattle.records.specs.Load.{loadOf}
 use Rattle.records.specs.Step.{stepOf}
@@ -87,25 +86,17 @@ one-of-two : (t : Bool) (x y : Standing) → NoSender (written x) → NoSender (
 one-of-two true x y p q = p
 one-of-two false x y p q = q
 
-receiving-ends : (c : ℕ) (k : List ℕ) (p : ℕ) (known : Bool) (v : List ℕ) → NoSender (written (receiving c k p known v))
-receiving-ends c k p known v e = omega arith
-
 module _ (c : Call) (good : goodCall c ≡ true) (no : NoSender c) where
   -- by what it stands for, closed or receiving
   by-receiver : (f : Standing → Standing) → NoSender (written (f closed))
-      → ((n : ℕ) (k : List ℕ) (p : ℕ) (known : Bool) (v : List ℕ) → NoSender (written (f (receiving n k p known v)))) → NoSender (written (f (standing c)))
-  by-receiver f p q = go (good-stands c good)
-    where
-      go : Stands c → NoSender (written (f (standing c)))
-      go (none o e s) = rw s p
-      go (sender o e s) = absurd (no e)
-      go (receiver o e s) = rw s (q (c .cipher) (c .key) (c .position) (c .known) (c .vector))
+      → ((t : Terms) (p : ℕ) (k : Known) → NoSender (written (f (receiving t p k)))) → NoSender (written (f (standing c)))
+  by-receiver f p q = by-stands c good (λ o e s. rw s p) (λ o e s. absurd (no e)) (λ o e s. rw s (q (c .terms) (c .position) (knownBy (c .known) (c .vector))))
 
   slot-ends : NoSender (written (slotOn (standing c)))
-  unfolding received
+  unfolding slotOn
   slot-ends =
       by-receiver slotOn (λ e. omega arith)
-      (λ n k p known v. one-of-two (ltb (p + 1) (sessionSlots n)) (receiving n k (p + 1) known v) (receiving n k 0 (scrambles n) noVector) (λ e. omega arith) (λ e. omega arith))
+      (λ t p k. one-of-two (ltb (p + 1) (sessionSlots (t .cipher))) (receiving t (p + 1) k) (receiving t 0 (untold (t .cipher))) (λ e. omega arith) (λ e. omega arith))
 
   unless : {S : Type 0} (f : S → Call) (before : S) (rs : Refusals) (last : Answer × S) → NoSender (f before) → NoSender (f (last .1)) → NoSender (f (settled before rs last .1))
   unless f before rs last p q = by-refusals (λ o. NoSender (f (o .1))) before rs last (λ a m. p) (λ n. q)
@@ -121,25 +112,23 @@ module _ (c : Call) (good : goodCall c ≡ true) (no : NoSender c) where
   voice-ends : (mask : ℕ) (frame : List ℕ) → NoSender (voiceOf c mask frame .1 .0)
   unfolding voiceBy
   voice-ends mask frame =
-      unless (λ (d : Call × List ℕ). d .0) (c, frame) (voiceRefusals (standing c) mask frame) (voiceAfter stream mask frame (standing c)) no
-      (rw (voice-moves stream c mask frame (standing c)) slot-ends)
+      unless (λ (d : Call × List ℕ). d .0) (c, frame) (voiceRefusals (standing c) mask frame) (voiceAfter streamOf mask frame (standing c)) no slot-ends
 
   announce-ends : (w : List ℕ) → NoSender (announceOf c w .1)
   unfolding announceOf
   announce-ends w =
-      unless (λ d. d) c (announceRefusals (standing c) w) (Done, written (told w (standing c))) no
-      (by-receiver (told w) (λ e. omega arith) (λ n k p known v e. omega arith))
+      unless (λ d. d) c (announceRefusals (standing c) w) (Done, written (withVector w (standing c))) no
+      (by-receiver (withVector w) (λ e. omega arith) (λ t p k e. omega arith))
 
   module _ (n i : ℕ) (b : List ℕ) where
     open-ends : (w : List ℕ) → NoSender (openOf c n i w b .1)
     unfolding openOf
-    open-ends w = unless (λ d. d) c (openRefusals (standing c) n i w b) (Done, begun receivingEnd n w (keyFor b n i)) no (λ e. omega arith)
+    open-ends w = unless (λ d. d) c (openRefusals (standing c) n i w b) (Done, written (begun receivingEnd (termsOf n (keyFor b n i)) (sessionVector n w))) no (λ e. omega arith)
 
     join-ends : NoSender (joinOf c n i b .1)
     unfolding joinOf
     join-ends =
-        unless (λ d. d) c (joinRefusals (standing c) n i b) (Done, written (joined n (keyFor b n i))) no
-        (one-of-two (scrambles n) (receiving n (keyFor b n i) 0 true noVector) (receiving n (keyFor b n i) superframeSlots false noVector) (λ e. omega arith) (λ e. omega arith))
+        unless (λ d. d) c (joinRefusals (standing c) n i b) (Done, written (joined (termsOf n (keyFor b n i)))) no (λ e. omega arith)
 
 -- ---- so each record keeps them
 

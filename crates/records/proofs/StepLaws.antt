@@ -14,13 +14,14 @@ use Rattle.answers.specs.Numbers.{isDone}
 use Rattle.answers.proofs.OutcomeLaws.{Refusal}
 use Rattle.sizes.specs.Ciphers.{vectorOctets, scrambles}
 use Rattle.voice.specs.declared.call.Call.{Call}
-use Rattle.voice.specs.Call.{goodCall, standing, endOf}
+use Rattle.voice.specs.Call.{unknownVector, goodCall, standing, knows, endOf}
 use Rattle.sizes.specs.Frame.{frameOctets, sessionOctets}
 use Rattle.voice.specs.Opening.{openOf, joinOf}
-use Rattle.voice.specs.Slot.{lostOf, voiceBy, voiceOf, voiceByOctets, withoutFrame, knows, sessionStreamOf}
+use Rattle.voice.specs.Slot.{lostOf, voiceBy, voiceOf, voiceByOctets, withoutFrame, sessionStreamOf}
 use Rattle.voice.specs.Vector.{announceOf}
+use Rattle.voice.proofs.CallLaws.{knows-yes}
 use Rattle.voice.proofs.SlotLaws.{by-long}
-use Rattle.voice.proofs.SessionOnce.{knows-yes, voice-by-is-voice, session-made, session-kept, session-kept-lost, voice-unknown, voice-done-knows}
+use Rattle.voice.proofs.SessionOnce.{voice-by-is-voice, session-made, session-kept, session-kept-lost, voice-unknown, voice-done-knows}
 use Rattle.voice.proofs.Settled.{voice-by-octets-keeps}
 use Rattle.lines.specs.declared.record.Parsed.{Parsed}
 use Rattle.lines.specs.declared.record.Parsed.the-variants as code
@@ -37,7 +38,7 @@ unmade c session l = record { long = l; holds = λ e. absurd (false≢true e) }
 
 -- a session made is held, if the call is good
 pub made-holds : (c : Call) (session after : List ℕ) {good : Bool} → length session ≡ sessionOctets → after ≡ sessionStreamOf c session
-    → length after ≡ sessionOctets → c .known ≡ true → good ≡ goodCall c → (good ≡ knows (standing c)) × Cached good c after
+    → length after ≡ sessionOctets → (c .known ≡ unknownVector → ⊥) → good ≡ goodCall c → (good ≡ knows (standing c)) × Cached good c after
 made-holds c session after l e la k g =
     let h = g ∙ sym (knows-yes c k) in
     (h, record { long = la; holds = λ t. rw e (session-made c (sym h ∙ t) session (omega arith)) })
@@ -54,7 +55,7 @@ refused-cached c session {after = after} {o = o} h q keeps e s =
 
 module _ (c : Call) (session : List ℕ) {held : Bool} (k : held ≡ knows (standing c)) (h : Cached held c session) (mask : ℕ) (frame : List ℕ) where
   -- they are never too few
-  enough : voiceByOctets session c mask frame ≡ voiceBy (λ n k v. bit session) c mask frame
+  enough : voiceByOctets session c mask frame ≡ voiceBy (λ d. bit session) c mask frame
   enough = by-long session c mask frame (omega (arith, h .long))
 
   -- a slot turned by them is the slot of the call
@@ -63,20 +64,20 @@ module _ (c : Call) (session : List ℕ) {held : Bool} (k : held ≡ knows (stan
     where
       go : (b : Bool) → knows (standing c) ≡ b → voiceByOctets session c mask frame ≡ voiceOf c mask frame
       go true e = voice-by-is-voice c session (h .holds (k ∙ e)) mask frame
-      go false e = enough ∙ voice-unknown (λ n k v. bit session) _ mask frame c e
+      go false e = enough ∙ voice-unknown (λ d. bit session) _ mask frame c e
 
   -- after a slot that is done, the call is in their session if it goes on
   pub voice-cached : {a : Answer} {after : Call} {f : List ℕ} {goes : Bool} → (a, (after, f)) ≡ voiceByOctets session c mask frame
-      → isDone a ≡ true → (goes ≡ true → after .position ≡ 0 → scrambles (c .cipher) ≡ true) → Cached goes after session
+      → isDone a ≡ true → (goes ≡ true → after .position ≡ 0 → scrambles (c .terms .cipher) ≡ true) → Cached goes after session
   voice-cached {a} {after} {f} q d g =
-      let by : Answer × (Call × List ℕ) = voiceBy (λ n k v. bit session) c mask frame in
+      let by : Answer × (Call × List ℕ) = voiceBy (λ d. bit session) c mask frame in
       let e : after ≡ by .1 .0 = ap (λ (o : Answer × (Call × List ℕ)). o .1 .0) (q ∙ enough) in
       let done : isDone (by .0) ≡ true = sym (ap (λ (o : Answer × (Call × List ℕ)). isDone (o .0)) (q ∙ enough)) ∙ d in
       record {
         long = h .long;
         holds = λ t.
             rw e
-            (session-kept c session (h .holds (k ∙ voice-done-knows (λ n k v. bit session) mask frame c done)) (λ n k v. bit session) mask frame
+            (session-kept c session (h .holds (k ∙ voice-done-knows (λ d. bit session) mask frame c done)) (λ d. bit session) mask frame
             (λ p. g t (ap (λ (x : Call). x .position) e ∙ p)));
       }
 
@@ -87,7 +88,7 @@ module _ (c : Call) (session : List ℕ) {held : Bool} (k : held ≡ knows (stan
 
 -- after a lost slot it is in their session if it goes on
 pub lost-cached : (c : Call) (session : List ℕ) {made goes : Bool} {a : Answer} {after : Call} → Cached made c session → (a, after) ≡ lostOf c
-    → (goes ≡ true → (made ≡ true) × (after .position ≡ 0 → scrambles (c .cipher) ≡ true)) → Cached goes after session
+    → (goes ≡ true → (made ≡ true) × (after .position ≡ 0 → scrambles (c .terms .cipher) ≡ true)) → Cached goes after session
 lost-cached c session {made} {goes} {a} {after} h q g =
     let e : after ≡ lostOf c .1 = ap (λ (o : Answer × Call). o .1) q in
     record {

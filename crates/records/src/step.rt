@@ -6,9 +6,9 @@ ghost use lib.ListN.{length, take};
 ghost use Rattle.octets.specs.Tests.{pick};
 ghost use Rattle.answers.specs.Numbers.{numberOf, isDone};
 ghost use Rattle.sizes.specs.Ciphers.{scrambles};
-ghost use Rattle.voice.specs.Call.{standing};
+ghost use Rattle.voice.specs.Call.{standing, knows};
 ghost use Rattle.sizes.specs.Frame.{frameOctets};
-ghost use Rattle.voice.specs.Slot.{lostOf, voiceOf, knows};
+ghost use Rattle.voice.specs.Slot.{lostOf, voiceOf};
 ghost use Rattle.lines.specs.Record.{recordRoom, recordIn, countIn};
 ghost use Rattle.records.specs.Step.{Cached, asStepped, stepOf};
 use crate::load::load;
@@ -18,6 +18,7 @@ use sizes::cipher::Scramble;
 use sizes::cipher::VECTOR_OCTETS;
 use sizes::frame::FRAME_OCTETS;
 use voice::call::Call;
+use voice::call::UNKNOWN;
 use voice::call::end;
 use voice::call::good_call;
 use voice::opening::join;
@@ -45,7 +46,7 @@ fn hold_session(call: Call, session: &mut [u8], made: bool) -> bool
     if made {
         return true;
     }
-    if !call.known {
+    if call.known == UNKNOWN {
         return false;
     }
     session_stream(call, session);
@@ -106,14 +107,14 @@ fn voice_slot(call: Call, mask: u8, frame: &mut [u8], session: &mut [u8], made: 
         answer,
         call: after,
         shown: FRAME_OCTETS,
-        made: goes_on(call.cipher, after.position),
+        made: goes_on(call.terms.cipher, after.position),
     }
 }
 
 fn lost_slot(call: Call, made: bool) -> Outcome
     ensures { λ r. ⌜ (r .answer, r .call) ≡ lostOf call ⌝ }
     ensures { λ r. ⌜ r .shown ≡ 0 ⌝ }
-    ensures { λ r. ⌜ (r .made ≡ true → (made ≡ true) × (r .call .position ≡ 0 → scrambles (call .cipher) ≡ true)) ⌝ }
+    ensures { λ r. ⌜ (r .made ≡ true → (made ≡ true) × (r .call .position ≡ 0 → scrambles (call .terms .cipher) ≡ true)) ⌝ }
 {
     let stepped = lost(call);
     let answer = stepped.answer;
@@ -123,7 +124,7 @@ fn lost_slot(call: Call, made: bool) -> Outcome
             answer,
             call: after,
             shown: 0,
-            made: goes_on(call.cipher, after.position),
+            made: goes_on(call.terms.cipher, after.position),
         };
     }
     Outcome {

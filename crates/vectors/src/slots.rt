@@ -5,6 +5,8 @@ use crate::row::number;
 use crate::row::octets_of;
 use voice::call::Call;
 use voice::call::RECEIVING;
+use voice::call::TOLD;
+use voice::call::Terms;
 use voice::slot::voice;
 
 // Whether the frame of a row, heard at the call's position, opens to what the row has.
@@ -37,11 +39,13 @@ pub fn holds(row: &[u8]) -> bool {
     }
     let call = Call {
         end: RECEIVING,
-        cipher: number(row, 0),
-        key,
+        terms: Terms {
+            cipher: number(row, 0),
+            key,
+        },
         position: number(row, 3),
+        known: TOLD,
         vector,
-        known: true,
     };
     opens(row, call, mask[0])
 }

@@ -1,19 +1,92 @@
 -- What a call stands for, as the code tests it.
-use mathlib.Core.Path.{_≡_, refl, sym, ap, _∙_}
-use mathlib.Core.Bool.{Bool, true, false, _||_, not, true≢false}
+use mathlib.Core.Path.{_≡_, refl, sym, ap, ap₂, _∙_}
+use mathlib.Core.Bool.{Bool, true, false, _&&_, _||_, not, true≢false, false≢true}
 use mathlib.Core.List.{List}
 use Prim.Native.Nat.{ℕ, zero, suc, _≤_, _<_}
 use native.Mathlib.Omega.{arith}
+use lib.Dec.{eqb}
+use lib.ListN.{length}
 use borrow.Author.Tests.{eq-eqb, ne-eqb, eqb-true, leb-true, ltb-true}
 use Rattle.octets.specs.Tests.{pick}
 use Rattle.octets.specs.Lists.{allZero}
+use Rattle.octets.proofs.ListLaws.{zeros-are}
 use Rattle.octets.proofs.TestLaws.{or-right, or-left, not-so, every-at}
-use Rattle.sizes.specs.Ciphers.{sessionSlots}
+use Rattle.sizes.specs.Ciphers.{sessionSlots, vectorOctets, noVector, scrambles}
+use Rattle.answers.specs.declared.Answer.{Answer}
 use Rattle.answers.specs.declared.Answer.the-variants.{Done}
 use Rattle.answers.proofs.OutcomeLaws.{NoneHolds, none-settles, Refuses, answerAt, refused-at}
+use Rattle.voice.specs.declared.call.Terms.{Terms}
 use Rattle.voice.specs.declared.call.Call.{Call}
 use Rattle.ciphers.specs.Keys.{keyRight}
-use Rattle.voice.specs.Call.{closedEnd, sendingEnd, receivingEnd, vectorRight, closedTests, openTests, isClosed, isOpen, goodCall, Standing, closed, bad, sending, receiving, standing, written, isBad, stands, receives, endRefusals, endOf}
+use Rattle.voice.specs.Call.{closedEnd, sendingEnd, receivingEnd, unknownVector, toldVector, vectorRight, closedTests, openTests, isClosed, isOpen, goodCall, Known, isKnown, knownNumber, knownVector, knownBy, unknown, told, untold, Standing, closed, bad, sending, receiving, standing, callAt, written, isBad, stands, receives, knows, endRefusals, endOf}
+
+-- ---- what is known of a vector
+
+-- a sender's vector is told
+pub sender-told : (c known : ℕ) (zeros : Bool) → vectorRight sendingEnd c known zeros ≡ true → known ≡ toldVector
+unfolding vectorRight
+sender-told c known zeros = go (scrambles c) (eqb known toldVector) refl
+  where
+    go : (s t : Bool) → eqb known toldVector ≡ t → pick s (t && zeros) (t && not zeros) ≡ true → known ≡ toldVector
+    go s true q e = eqb-true _ _ q
+    go true false q e = absurd (false≢true e)
+    go false false q e = absurd (false≢true e)
+
+module _ (c known : ℕ) (zeros : Bool) (right : vectorRight receivingEnd c known zeros ≡ true) where
+  -- a receiver's is told or unknown
+  pub or-told : (known ≡ unknownVector → ⊥) → known ≡ toldVector
+  unfolding vectorRight
+  or-told n = go (scrambles c) (eqb known toldVector) (ne-eqb _ _ n) refl right
+    where
+      go : (s t : Bool) → eqb known unknownVector ≡ false → eqb known toldVector ≡ t
+          → pick s (t && zeros) (pick (eqb known unknownVector) zeros t) ≡ true → known ≡ toldVector
+      go s true u q e = eqb-true _ _ q
+      go true false u q e = absurd (false≢true e)
+      go false false u q e = absurd (false≢true (rw u at e))
+
+  -- and unknown it is zeros
+  pub unknown-zeros : known ≡ unknownVector → zeros ≡ true
+  unfolding vectorRight
+  unknown-zeros k = go (scrambles c) (rw k at right)
+    where
+      go : (s : Bool) → pick s false zeros ≡ true → zeros ≡ true
+      go true e = absurd (false≢true e)
+      go false e = e
+
+-- by the number in the struct
+pub by-known : (P : ℕ → Type 0) (c known : ℕ) (zeros : Bool) → vectorRight receivingEnd c known zeros ≡ true
+    → ((zeros ≡ true) → P unknownVector) → P toldVector → P known
+by-known P c zero zeros right u t = u (unknown-zeros c zero zeros right refl)
+by-known P c (suc zero) zeros right u t = t
+by-known P c (suc (suc n)) zeros right u t =
+    let e : suc (suc n) ≡ toldVector = or-told c (suc (suc n)) zeros right (λ z. omega arith) in
+    absurd (omega arith)
+
+pub known-back : (k : Known) → knownBy (knownNumber k) (knownVector k) ≡ k
+known-back unknown = refl
+known-back (told v) = refl
+
+pub is-known : (n : ℕ) (v : List ℕ) → (isKnown (knownBy n v) ≡ not (eqb n unknownVector)) × (not (isKnown (knownBy n v)) ≡ eqb n unknownVector)
+is-known n v = go (eqb n unknownVector)
+  where
+    go : (t : Bool) → (isKnown (pick t unknown (told v)) ≡ not t) × (not (isKnown (pick t unknown (told v))) ≡ t)
+    go true = (refl, refl)
+    go false = (refl, refl)
+
+-- a receiver's struct, by what is known of its vector
+pub receiver-is : (t : Terms) (p known : ℕ) (v : List ℕ) → length v ≡ vectorOctets → vectorRight receivingEnd (t .cipher) known (allZero v) ≡ true
+    → callAt receivingEnd t p known v ≡ written (receiving t p (knownBy known v))
+receiver-is t p known v l right =
+    by-known (λ n. callAt receivingEnd t p n v ≡ written (receiving t p (knownBy n v))) (t .cipher) known (allZero v) right
+    (λ z. ap (callAt receivingEnd t p unknownVector) (zeros-are v vectorOctets l z)) refl
+
+-- and of one that was told no vector
+pub untold-is : (t : Terms) (p : ℕ) {n : ℕ} → n ≡ knownNumber (untold (t .cipher)) → callAt receivingEnd t p n noVector ≡ written (receiving t p (untold (t .cipher)))
+untold-is t p e = ap (λ (n : ℕ). callAt receivingEnd t p n noVector) e ∙ go (scrambles (t .cipher))
+  where
+    go : (b : Bool) → callAt receivingEnd t p (knownNumber (pick b (told noVector) unknown)) noVector ≡ written (receiving t p (pick b (told noVector) unknown))
+    go true = refl
+    go false = refl
 
 -- ---- what a struct stands for
 
@@ -21,12 +94,6 @@ read-bad : (a b : Bool) (s : Standing) → (a || b) ≡ false → pick a closed 
 read-bad true b s e = absurd (true≢false e)
 read-bad false true s e = absurd (true≢false e)
 read-bad false false s e = refl
-
--- the three ways in which a good call stands
-pub data Stands (c : Call) : Type 0 where
-  none : isClosed c ≡ true → c .end ≡ 0 → standing c ≡ closed → Stands c
-  sender : isOpen c ≡ true → c .end ≡ 1 → standing c ≡ sending (c .cipher) (c .key) (c .position) (c .vector) → Stands c
-  receiver : isOpen c ≡ true → c .end ≡ 2 → standing c ≡ receiving (c .cipher) (c .key) (c .position) (c .known) (c .vector) → Stands c
 
 module _ (c : Call) where
   pub stands-bad : goodCall c ≡ false → standing c ≡ bad
@@ -46,15 +113,15 @@ module _ (c : Call) where
   open-high e = leb-true (c .end) 2 (every-at (openTests c) 1 e)
 
   -- a position inside the session
-  pub open-place : isOpen c ≡ true → c .position < sessionSlots (c .cipher)
+  pub open-place : isOpen c ≡ true → c .position < sessionSlots (c .terms .cipher)
   unfolding isOpen openTests
-  open-place e = ltb-true (c .position) (sessionSlots (c .cipher)) (every-at (openTests c) 3 e)
+  open-place e = ltb-true (c .position) (sessionSlots (c .terms .cipher)) (every-at (openTests c) 3 e)
 
-  pub open-key : isOpen c ≡ true → keyRight (c .cipher) (c .key) ≡ true
+  pub open-key : isOpen c ≡ true → keyRight (c .terms .cipher) (c .terms .key) ≡ true
   unfolding isOpen openTests
   open-key = every-at (openTests c) 2
 
-  pub open-vector : isOpen c ≡ true → vectorRight (c .end) (c .cipher) (c .known) (allZero (c .vector)) ≡ true
+  pub open-vector : isOpen c ≡ true → vectorRight (c .end) (c .terms .cipher) (c .known) (allZero (c .vector)) ≡ true
   unfolding isOpen openTests
   open-vector = every-at (openTests c) 4
 
@@ -70,11 +137,14 @@ module _ (c : Call) where
     unfolding goodCall
     closed-by z = or-left (isClosed c) (isOpen c) good (λ e. omega (arith, open-low e))
 
-    pub good-stands : Stands c
+    -- the three ways in which a good call stands
+    pub by-stands : {P : Type 0} → (isClosed c ≡ true → c .end ≡ closedEnd → standing c ≡ closed → P)
+        → (isOpen c ≡ true → c .end ≡ sendingEnd → standing c ≡ sending (c .terms) (c .position) (c .vector) → P)
+        → (isOpen c ≡ true → c .end ≡ receivingEnd → standing c ≡ receiving (c .terms) (c .position) (knownBy (c .known) (c .vector)) → P) → P
     unfolding standing
-    good-stands = go (c .end) refl
+    by-stands {P} none sender receiver = go (c .end) refl
       where
-        go : (e : ℕ) → c .end ≡ e → Stands c
+        go : (e : ℕ) → c .end ≡ e → P
         go zero q = none (closed-by q) q (rw (closed-by q))
         go (suc zero) q =
             let n : c .end ≡ 0 → ⊥ = λ z. omega arith in
@@ -100,83 +170,97 @@ module _ (c : Call) where
 
   module _ (good : goodCall c ≡ true) where
     pub not-bad : isBad (standing c) ≡ false
-    not-bad = go (good-stands c good)
-      where
-        go : Stands c → isBad (standing c) ≡ false
-        go (none o e s) = ap isBad s
-        go (sender o e s) = ap isBad s
-        go (receiver o e s) = ap isBad s
+    not-bad = by-stands c good (λ o e s. ap isBad s) (λ o e s. ap isBad s) (λ o e s. ap isBad s)
 
     pub stands-none : c .end ≡ closedEnd → not (stands (standing c)) ≡ true
-    stands-none z = go (good-stands c good)
-      where
-        go : Stands c → not (stands (standing c)) ≡ true
-        go (none o e s) = ap (λ (t : Standing). not (stands t)) s
-        go (sender o e s) = absurd (omega arith)
-        go (receiver o e s) = absurd (omega arith)
+    stands-none z = by-stands c good (λ o e s. ap (λ (t : Standing). not (stands t)) s) (λ o e s. absurd (omega arith)) (λ o e s. absurd (omega arith))
 
     pub stands-some : (c .end ≡ closedEnd → ⊥) → not (stands (standing c)) ≡ false
-    stands-some n = go (good-stands c good)
-      where
-        go : Stands c → not (stands (standing c)) ≡ false
-        go (none o e s) = absurd (n e)
-        go (sender o e s) = ap (λ (t : Standing). not (stands t)) s
-        go (receiver o e s) = ap (λ (t : Standing). not (stands t)) s
+    stands-some n =
+        by-stands c good (λ o e s. absurd (n e)) (λ o e s. ap (λ (t : Standing). not (stands t)) s) (λ o e s. ap (λ (t : Standing). not (stands t)) s)
 
     -- what a receiver alone does, and what a sender alone does
-    pub unless-receiver : (f : Standing → Bool) → f closed ≡ false → ((n : ℕ) (k : List ℕ) (p : ℕ) (v : List ℕ) → f (sending n k p v) ≡ false)
+    pub unless-receiver : (f : Standing → Bool) → f closed ≡ false → ((t : Terms) (p : ℕ) (v : List ℕ) → f (sending t p v) ≡ false)
         → (c .end ≡ receivingEnd → ⊥) → f (standing c) ≡ false
-    unless-receiver f a b n = go (good-stands c good)
-      where
-        go : Stands c → f (standing c) ≡ false
-        go (none o e s) = ap f s ∙ a
-        go (sender o e s) = ap f s ∙ b (c .cipher) (c .key) (c .position) (c .vector)
-        go (receiver o e s) = absurd (n e)
+    unless-receiver f a b n = by-stands c good (λ o e s. ap f s ∙ a) (λ o e s. ap f s ∙ b (c .terms) (c .position) (c .vector)) (λ o e s. absurd (n e))
 
-    pub unless-sender : (f : Standing → Bool) → f closed ≡ false → ((n : ℕ) (k : List ℕ) (p : ℕ) (b : Bool) (v : List ℕ) → f (receiving n k p b v) ≡ false)
+    pub unless-sender : (f : Standing → Bool) → f closed ≡ false → ((t : Terms) (p : ℕ) (k : Known) → f (receiving t p k) ≡ false)
         → (c .end ≡ sendingEnd → ⊥) → f (standing c) ≡ false
-    unless-sender f a b n = go (good-stands c good)
-      where
-        go : Stands c → f (standing c) ≡ false
-        go (none o e s) = ap f s ∙ a
-        go (sender o e s) = absurd (n e)
-        go (receiver o e s) = ap f s ∙ b (c .cipher) (c .key) (c .position) (c .known) (c .vector)
+    unless-sender f a b n =
+        by-stands c good (λ o e s. ap f s ∙ a) (λ o e s. absurd (n e)) (λ o e s. ap f s ∙ b (c .terms) (c .position) (knownBy (c .known) (c .vector)))
 
     pub receives-not : (c .end ≡ receivingEnd → ⊥) → not (receives (standing c)) ≡ true
-    receives-not n = ap not (unless-receiver receives refl (λ m k p v. refl) n)
+    receives-not n = ap not (unless-receiver receives refl (λ t p v. refl) n)
 
-    pub is-sender : c .end ≡ sendingEnd → standing c ≡ sending (c .cipher) (c .key) (c .position) (c .vector)
-    is-sender z = go (good-stands c good)
-      where
-        go : Stands c → standing c ≡ sending (c .cipher) (c .key) (c .position) (c .vector)
-        go (none o e s) = absurd (omega arith)
-        go (sender o e s) = s
-        go (receiver o e s) = absurd (omega arith)
+    pub is-sender : c .end ≡ sendingEnd → standing c ≡ sending (c .terms) (c .position) (c .vector)
+    is-sender z = by-stands c good (λ o e s. absurd (omega arith)) (λ o e s. s) (λ o e s. absurd (omega arith))
 
-    pub is-receiver : c .end ≡ receivingEnd → standing c ≡ receiving (c .cipher) (c .key) (c .position) (c .known) (c .vector)
-    is-receiver z = go (good-stands c good)
-      where
-        go : Stands c → standing c ≡ receiving (c .cipher) (c .key) (c .position) (c .known) (c .vector)
-        go (none o e s) = absurd (omega arith)
-        go (sender o e s) = absurd (omega arith)
-        go (receiver o e s) = s
+    pub is-receiver : c .end ≡ receivingEnd → standing c ≡ receiving (c .terms) (c .position) (knownBy (c .known) (c .vector))
+    is-receiver z = by-stands c good (λ o e s. absurd (omega arith)) (λ o e s. absurd (omega arith)) (λ o e s. s)
+
+    pub receiver-right : c .end ≡ receivingEnd → vectorRight receivingEnd (c .terms .cipher) (c .known) (allZero (c .vector)) ≡ true
+    receiver-right z = rw z at (open-vector c (open-by c good (λ e. omega arith)))
 
     -- a standing call is one or the other
     pub or-receiver : (c .end ≡ closedEnd → ⊥) → (c .end ≡ sendingEnd → ⊥) → c .end ≡ receivingEnd
-    or-receiver n m = go (good-stands c good)
-      where
-        go : Stands c → c .end ≡ receivingEnd
-        go (none o e s) = absurd (n e)
-        go (sender o e s) = absurd (m e)
-        go (receiver o e s) = e
+    or-receiver n m = by-stands c good (λ o e s. absurd (n e)) (λ o e s. absurd (m e)) (λ o e s. e)
 
-    pub inside : (c .end ≡ closedEnd → ⊥) → c .position < sessionSlots (c .cipher)
-    inside n = go (good-stands c good)
-      where
-        go : Stands c → c .position < sessionSlots (c .cipher)
-        go (none o e s) = absurd (n e)
-        go (sender o e s) = open-place c o
-        go (receiver o e s) = open-place c o
+    pub inside : (c .end ≡ closedEnd → ⊥) → c .position < sessionSlots (c .terms .cipher)
+    inside n = by-stands c good (λ o e s. absurd (n e)) (λ o e s. open-place c o) (λ o e s. open-place c o)
+
+-- ---- whether it knows its vector
+
+module _ (c : Call) where
+  pub knows-not : goodCall c ≡ false → knows (standing c) ≡ false
+  knows-not g = ap knows (stands-bad c g)
+
+  -- a call that knows its vector is good
+  pub knows-good : knows (standing c) ≡ true → goodCall c ≡ true
+  knows-good k = go (goodCall c) refl
+    where
+      go : (t : Bool) → goodCall c ≡ t → t ≡ true
+      go true g = refl
+      go false g = absurd (true≢false (sym k ∙ knows-not g))
+
+  closed-unknown : isClosed c ≡ true → c .known ≡ unknownVector
+  unfolding isClosed closedTests
+  closed-unknown o = eqb-true _ _ (every-at (closedTests c) 3 o)
+
+  pub open-told : isOpen c ≡ true → c .end ≡ sendingEnd → c .known ≡ toldVector
+  open-told o e = sender-told (c .terms .cipher) (c .known) (allZero (c .vector)) (rw e at (open-vector c o))
+
+  -- of a good call the field says it
+  pub knows-is : goodCall c ≡ true → knows (standing c) ≡ not (eqb (c .known) unknownVector)
+  knows-is good =
+      by-stands c good (λ o e s. ap knows s ∙ rw (closed-unknown o)) (λ o e s. ap knows s ∙ rw (open-told o e))
+      (λ o e s. ap knows s ∙ is-known (c .known) (c .vector) .0)
+
+  -- of any call that says no, or that doesn't
+  pub knows-no : c .known ≡ unknownVector → knows (standing c) ≡ false
+  knows-no e = go (goodCall c) refl
+    where
+      go : (g : Bool) → goodCall c ≡ g → knows (standing c) ≡ false
+      go true g = knows-is g ∙ ap not (eq-eqb _ _ e)
+      go false g = knows-not g
+
+  pub knows-yes : (c .known ≡ unknownVector → ⊥) → knows (standing c) ≡ goodCall c
+  knows-yes e = go (goodCall c) refl
+    where
+      go : (g : Bool) → goodCall c ≡ g → knows (standing c) ≡ goodCall c
+      go true g = knows-is g ∙ ap not (ne-eqb _ _ e) ∙ sym g
+      go false g = knows-not g ∙ sym g
+
+  pub knows-inside : knows (standing c) ≡ true → c .position < sessionSlots (c .terms .cipher)
+  knows-inside k = by-stands c (knows-good k) (λ o e s. absurd (true≢false (sym k ∙ ap knows s))) (λ o e s. open-place c o) (λ o e s. open-place c o)
+
+  -- one that knows its vector is the struct of what it stands for
+  call-is : {e n : ℕ} → c .end ≡ e → c .known ≡ n → callAt e (c .terms) (c .position) n (c .vector) ≡ c
+  call-is p q = ap₂ (λ (e n : ℕ). callAt e (c .terms) (c .position) n (c .vector)) (sym p) (sym q)
+
+  pub known-written : knows (standing c) ≡ true → written (standing c) ≡ c
+  known-written k =
+      by-stands c (knows-good k) (λ o e s. absurd (true≢false (sym k ∙ ap knows s))) (λ o e s. ap written s ∙ call-is e (open-told o e))
+      (λ o e s. let n = or-told (c .terms .cipher) (c .known) (allZero (c .vector)) (rw e at (open-vector c o)) (λ z. true≢false (sym k ∙ knows-no z)) in ap written s ∙ ap (λ (m : ℕ). written (receiving (c .terms) (c .position) (knownBy m (c .vector)))) n ∙ call-is e n)
 
 -- ---- its end
 
@@ -188,3 +272,8 @@ module _ (c : Call) where
   pub end-done : NoneHolds (endRefusals (standing c)) → (Done, written closed) ≡ endOf c
   unfolding endOf
   end-done n = sym (none-settles (endRefusals (standing c)) c (Done, written closed) n)
+
+-- ---- a refusal, as the code hands it back
+
+pub refusal-is : {S : Type 0} {a b : Answer} {c d : S} {o : Answer × S} → (a ≡ b) × (c ≡ d) → (b, d) ≡ o → (a, c) ≡ o
+refusal-is e q = rw (e .0, e .1) q

@@ -3,7 +3,7 @@
 use mathlib.Core.Path.{_≡_, refl, sym, ap, _∙_}
 use mathlib.Core.Bool.{Bool, true, false, not, true≢false}
 use mathlib.Core.List.{List}
-use Prim.Native.Nat.{ℕ, _≤_, _<_}
+use Prim.Native.Nat.{ℕ, _≤_}
 use native.Mathlib.Omega.{arith}
 use lib.Dec.{eqb}
 use lib.ListN.{length}
@@ -11,23 +11,21 @@ use borrow.Author.Tests.{eq-eqb, eqb-true, ltb-false, not-true, not-false}
 use Rattle.octets.specs.Tests.{pick}
 use Rattle.octets.specs.Lists.{allZero}
 use Rattle.octets.proofs.TestLaws.{and-left, and-right}
-use Rattle.ciphers.specs.Keystream.{stream}
 use Rattle.answers.specs.declared.Answer.{Answer}
-use Rattle.answers.specs.declared.Answer.the-variants.{Done}
+use Rattle.answers.specs.declared.Answer.the-variants.{Done, Held}
 use Rattle.answers.specs.Numbers.{numberOf}
 use Rattle.answers.proofs.OutcomeLaws.{NoneHolds, Refusal, fromTwo, among-refuses, by-refusals, some-refuses}
 use Rattle.sizes.specs.Ciphers.{vectorOctets, scrambles}
-use Rattle.openings.specs.Ladder.{keyFor, keyRefusals, vectorRefusals}
+use Rattle.openings.specs.Ladder.{sessionVector, keyFor, keyRefusals, vectorRefusals}
 use Rattle.voice.specs.declared.call.Call.{Call}
 use Rattle.sizes.specs.Frame.{frameOctets}
-use Rattle.voice.specs.Call.{closedEnd, sendingEnd, receivingEnd, goodCall, standing, written, isBad, stands}
+use Rattle.voice.specs.Call.{closedEnd, sendingEnd, receivingEnd, unknownVector, goodCall, standing, termsOf, written, isBad, stands}
 use Rattle.voice.specs.Opening.{joinRefusals, openRefusals, begun, begunOf, openOf, startOf, joined, joinOf}
-use Rattle.voice.specs.Slot.{topMask, zeroAfter, voiceRefusals, voiceOf}
-use Rattle.voice.specs.Vector.{awaits, told, announceRefusals, announceOf}
-use Rattle.voice.proofs.CallLaws.{open-vector, Stands, none, sender, receiver, good-stands, good-by, not-bad, stands-some, is-receiver}
-use Rattle.voice.proofs.SlotLaws.{zero-sender, none-long, none-good, none-open, voice-taken, answer-sent, answer-heard, answer-held}
+use Rattle.voice.specs.Slot.{topMask, zeroAfter, voiceRefusals, streamOf, voiceOf}
+use Rattle.voice.specs.Vector.{awaits, withVector, announceRefusals, announceOf}
+use Rattle.voice.proofs.CallLaws.{is-known, by-stands, good-by, not-bad, stands-some, is-receiver, knows-is}
+use Rattle.voice.proofs.SlotLaws.{zero-sender, none-long, none-good, none-open, taken-under-two, voice-taken, answer-taken}
 use Rattle.voice.proofs.VectorLaws.{announce-done}
-use Rattle.voice.proofs.GoodLaws.{sender-known}
 
 -- ---- a voice slot
 
@@ -37,12 +35,12 @@ pub record Takes (c : Call) (mask : ℕ) (frame : List ℕ) (known : Bool) : Typ
   pub masked : mask ≤ topMask
   pub good : goodCall c ≡ true
   pub stands : c .end ≡ closedEnd → ⊥
-  pub vector : c .known ≡ known
-  pub goes-on : c .end ≡ sendingEnd → zeroAfter (c .cipher) (c .position) (c .vector) ≡ false
+  pub vector : not (eqb (c .known) unknownVector) ≡ known
+  pub goes-on : c .end ≡ sendingEnd → zeroAfter (c .terms .cipher) (c .position) (c .vector) ≡ false
 
 -- the number of a slot that is taken: 0 where the vector is known, else 1
 abbrev taken : Bool → ℕ
-taken known = pick known 0 1
+taken known = numberOf (pick known Done Held)
 
 same-by : (a b : Bool) → taken a ≡ taken b → a ≡ b
 same-by true true e = refl
@@ -50,30 +48,15 @@ same-by true false e = absurd (omega arith)
 same-by false true e = absurd (omega arith)
 same-by false false e = refl
 
-under-two : (b : Bool) {n : ℕ} → n ≡ taken b → n < 2
-under-two true e = omega arith
-under-two false e = omega arith
-
 module _ (c : Call) (mask : ℕ) (frame : List ℕ) where
   abbrev number : ℕ
   number = numberOf (voiceOf c mask frame .0)
 
   answered : (b : Bool) → Takes c mask frame b → number ≡ taken b
-  answered b t = go (good-stands c (t .good))
-    where
-      heard : (b : Bool) → c .known ≡ b → c .end ≡ receivingEnd → number ≡ taken b
-      heard true k e = ap numberOf (sym (answer-heard c mask frame (t .long) (t .masked) (t .good) e k))
-      heard false k e = ap numberOf (sym (answer-held c mask frame (t .long) (t .masked) (t .good) e k))
+  answered b t =
+      ap numberOf (sym (answer-taken c mask frame (t .long) (t .masked) (t .good) b (t .stands) (t .goes-on) (knows-is c (t .good) ∙ t .vector)))
 
-      go : Stands c → number ≡ taken b
-      go (none o e s) = absurd (t .stands e)
-      go (sender o e s) =
-          let k : c .known ≡ true = sender-known (c .cipher) (c .known) (allZero (c .vector)) (rw e at (open-vector c o)) in
-          ap numberOf (sym (answer-sent c mask frame (t .long) (t .masked) (t .good) e (t .goes-on e)))
-          ∙ ap taken (sym k ∙ t .vector)
-      go (receiver o e s) = heard b (t .vector) e
-
-  takes : NoneHolds (voiceRefusals (standing c) mask frame) → Takes c mask frame (c .known)
+  takes : NoneHolds (voiceRefusals (standing c) mask frame) → Takes c mask frame (not (eqb (c .known) unknownVector))
   unfolding voiceRefusals
   takes n =
       let good = none-good c mask frame n in
@@ -91,8 +74,8 @@ module _ (c : Call) (mask : ℕ) (frame : List ℕ) where
     where
       only : number ≡ taken b → Takes c mask frame b
       only e =
-          let t = takes (voice-taken stream c mask frame (under-two b e)) in
-          rw (same-by b (c .known) (sym e ∙ answered (c .known) t)) t
+          let t = takes (voice-taken streamOf c mask frame (omega (arith, taken-under-two b))) in
+          rw (same-by b (not (eqb (c .known) unknownVector)) (sym e ∙ answered (not (eqb (c .known) unknownVector)) t)) t
 
   pub done-exactly : (number ≡ 0 → Takes c mask frame true) × (Takes c mask frame true → number ≡ 0)
   done-exactly = exactly true
@@ -107,9 +90,9 @@ pub record Timely (c : Call) (w : List ℕ) : Type 0 where
   pub long : length w ≡ vectorOctets
   pub good : goodCall c ≡ true
   pub receives : c .end ≡ receivingEnd
-  pub vectored : scrambles (c .cipher) ≡ false
+  pub vectored : scrambles (c .terms .cipher) ≡ false
   pub starts : c .position ≡ 0
-  pub unknown : c .known ≡ false
+  pub unknown : c .known ≡ unknownVector
   pub given : allZero w ≡ false
 
 module _ (c : Call) (w : List ℕ) where
@@ -118,29 +101,26 @@ module _ (c : Call) (w : List ℕ) where
 
   timely : NoneHolds (announceRefusals (standing c) w) → Timely c w
   unfolding announceRefusals
-  timely n = go (good-stands c good)
+  timely n =
+      by-stands c good (λ o e s. absurd (true≢false (sym waits ∙ ap awaits s))) (λ o e s. absurd (true≢false (sym waits ∙ ap awaits s)))
+      (λ o e s.
+      let a = sym (ap awaits s) ∙ waits in
+      let b = and-right (not (scrambles (c .terms .cipher))) _ a in
+      record {
+        long = eqb-true _ _ (not-false _ (n .0));
+        good = good;
+        receives = e;
+        vectored = not-true _ (and-left (not (scrambles (c .terms .cipher))) _ a);
+        starts = eqb-true _ _ (and-left (eqb (c .position) 0) _ b);
+        unknown = eqb-true _ _ (sym (is-known (c .known) (c .vector) .1) ∙ and-right (eqb (c .position) 0) _ b);
+        given = n .1 .1 .1 .0;
+      })
     where
       good : goodCall c ≡ true
       good = good-by c (n .1 .0)
 
       waits : awaits (standing c) ≡ true
       waits = not-false _ (n .1 .1 .0)
-
-      go : Stands c → Timely c w
-      go (none o e s) = absurd (true≢false (sym waits ∙ ap awaits s))
-      go (sender o e s) = absurd (true≢false (sym waits ∙ ap awaits s))
-      go (receiver o e s) =
-          let a = sym (ap awaits s) ∙ waits in
-          let b = and-right (not (scrambles (c .cipher))) _ a in
-          record {
-            long = eqb-true _ _ (not-false _ (n .0));
-            good = good;
-            receives = e;
-            vectored = not-true _ (and-left (not (scrambles (c .cipher))) _ a);
-            starts = eqb-true _ _ (and-left (eqb (c .position) 0) (not (c .known)) b);
-            unknown = not-true _ (and-right (eqb (c .position) 0) (not (c .known)) b);
-            given = n .1 .1 .1 .0;
-          }
 
   from-two : fromTwo (announceRefusals (standing c) w) ≡ true
   unfolding announceRefusals
@@ -149,7 +129,7 @@ module _ (c : Call) (w : List ℕ) where
   pub announced-exactly : (numberOf (announceOf c w .0) ≡ 0 → Timely c w) × (Timely c w → numberOf (announceOf c w .0) ≡ 0)
   unfolding announceOf announceRefusals
   announced-exactly = (
-    by-refusals (λ o. numberOf (o .0) ≡ 0 → Timely c w) c (announceRefusals (standing c) w) (Done, written (told w (standing c)))
+    by-refusals (λ o. numberOf (o .0) ≡ 0 → Timely c w) c (announceRefusals (standing c) w) (Done, written (withVector w (standing c)))
         (λ a m z. absurd (omega (arith, among-refuses a (announceRefusals (standing c) w) from-two m))) (λ n z. timely n),
     λ t. ap (λ (o : Answer × Call). numberOf (o .0)) (sym (announce-done c w (ap not (eq-eqb _ _ (t .long)), (not-bad c (t .good), (ap not (awaited t), (t .given, tt)))))),
   )
@@ -157,7 +137,7 @@ module _ (c : Call) (w : List ℕ) where
   -- at any position but 0 no announcement is taken, and the call stays as it was
   pub untimely : (c .position ≡ 0 → ⊥) → Refusal (announceOf c w .0) × (announceOf c w .1 ≡ c)
   unfolding announceOf
-  untimely p = some-refuses c (announceRefusals (standing c) w) (Done, written (told w (standing c))) from-two (λ n. p (timely n .starts))
+  untimely p = some-refuses c (announceRefusals (standing c) w) (Done, written (withVector w (standing c))) from-two (λ n. p (timely n .starts))
 
 -- ---- while a call stands
 
@@ -169,13 +149,13 @@ module _ (c : Call) (busy : c .end ≡ closedEnd → ⊥) (n i : ℕ) (b : List 
   pub join-busy : Refusal (joinOf c n i b .0) × (joinOf c n i b .1 ≡ c)
   unfolding joinOf joinRefusals keyRefusals
   join-busy =
-      some-refuses c (joinRefusals (standing c) n i b) (Done, written (joined n (keyFor b n i))) refl (λ h. no-busy (search h) (search h))
+      some-refuses c (joinRefusals (standing c) n i b) (Done, written (joined (termsOf n (keyFor b n i)))) refl (λ h. no-busy (search h) (search h))
 
   module _ (w : List ℕ) where
     begin-busy : (end : ℕ) → Refusal (begunOf end c n i w b .0) × (begunOf end c n i w b .1 ≡ c)
     unfolding openRefusals vectorRefusals keyRefusals
     begin-busy end =
-        some-refuses c (openRefusals (standing c) n i w b) (Done, begun end n w (keyFor b n i)) refl (λ h. no-busy (search h) (search h))
+        some-refuses c (openRefusals (standing c) n i w b) (Done, written (begun end (termsOf n (keyFor b n i)) (sessionVector n w))) refl (λ h. no-busy (search h) (search h))
 
     pub open-busy : Refusal (openOf c n i w b .0) × (openOf c n i w b .1 ≡ c)
     unfolding openOf

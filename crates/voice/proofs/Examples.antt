@@ -1,6 +1,6 @@
 -- An example past slot 0 and word 0, and bad and good calls of every kind.
 use mathlib.Core.Path.{_≡_, refl}
-use mathlib.Core.Bool.{Bool, true, false, _&&_, not}
+use mathlib.Core.Bool.{Bool, true, _&&_, not}
 use mathlib.Core.List.{List, [], _∷_, _++_}
 use Prim.Native.Nat.{ℕ}
 use lib.ListN.{replicate}
@@ -16,7 +16,7 @@ use Rattle.openings.specs.Samples.{scramble0001, desABCD, seed}
 use Rattle.voice.specs.declared.call.Call.{Call}
 use Rattle.sizes.specs.Frame.{frameOctets}
 use Rattle.voice.specs.Frame.{ofSlot, wordTurned, protect}
-use Rattle.voice.specs.Call.{vectorRight, closedTests, openTests, isClosed, isOpen, goodCall, noCall, sending, receiving, written}
+use Rattle.voice.specs.Call.{vectorRight, closedTests, openTests, isClosed, isOpen, goodCall, sending, termsOf, callAt, noCall, written}
 
 -- slot 3, words 1 and 3: 00000000000000A043C1888533000000000000000080BD038E092400, by a script of the recurrence P(n+15) = P(n+1) xor P(n)
 pub example-past : protect (ofSlot (stream 1 scramble0001 noVector) 3) 10 (replicate frameOctets 0)
@@ -24,42 +24,49 @@ pub example-past : protect (ofSlot (stream 1 scramble0001 noVector) 3) 10 (repli
 unfolding protect wordTurned turnedIn turned within replaced octetsFrom octet stream P iterate stepped keyNumber
 example-past = refl
 
--- a DES receiver that is told the seed, and the same struct with one thing changed
-abbrev told : ℕ → List ℕ → ℕ → List ℕ → Bool → Call
-told end key position vector known = record { end = end; cipher = 2; key = key; position = position; vector = vector; known = known }
+-- a DES call, and one that is closed
+abbrev des : ℕ → List ℕ → ℕ → ℕ → List ℕ → Call
+des end key = callAt end (termsOf 2 key)
+
+abbrev shut : ℕ → List ℕ → ℕ → ℕ → List ℕ → Call
+shut cipher key = callAt 0 (termsOf cipher key)
+
+abbrev scrambling : ℕ → ℕ → List ℕ → Call
+scrambling = callAt 2 (termsOf 1 scramble0001)
 
 abbrev pub badCalls : List Call
 badCalls =
     -- no such end, no such cipher
-    told 3 desABCD 0 seed true
-    ∷ record { end = 2; cipher = 4; key = desABCD; position = 0; vector = seed; known = true }
-    -- closed, with a cipher, a position, a key, a vector, or a vector known
-    ∷ told 0 desABCD 0 seed true
-    ∷ record { end = 0; cipher = 1; key = replicate 32 0; position = 0; vector = noVector; known = false }
-    ∷ record { end = 0; cipher = 0; key = replicate 32 0; position = 1; vector = noVector; known = false }
-    ∷ record { end = 0; cipher = 0; key = replicate 31 0 ++ (1 ∷ []); position = 0; vector = noVector; known = false }
-    ∷ record { end = 0; cipher = 0; key = replicate 32 0; position = 0; vector = seed; known = false }
-    ∷ record { end = 0; cipher = 0; key = replicate 32 0; position = 0; vector = noVector; known = true }
+    des 3 desABCD 0 1 seed
+    ∷ callAt 2 (termsOf 4 desABCD) 0 1 seed
+    -- closed, with a cipher, a position, a key, a vector, or a vector told
+    ∷ des 0 desABCD 0 1 seed
+    ∷ shut 1 (replicate 32 0) 0 0 noVector
+    ∷ shut 0 (replicate 32 0) 1 0 noVector
+    ∷ shut 0 (replicate 31 0 ++ (1 ∷ [])) 0 0 noVector
+    ∷ shut 0 (replicate 32 0) 0 0 seed
+    ∷ shut 0 (replicate 32 0) 0 1 noVector
     -- a key of even parity, a key octet past the length
-    ∷ told 2 (0xAA ∷ 0xCD ∷ 0xEF ∷ 0x01 ∷ 0x23 ∷ 0x45 ∷ 0x67 ∷ 0x89 ∷ replicate 24 0) 0 seed true
-    ∷ told 2 (0xAB ∷ 0xCD ∷ 0xEF ∷ 0x01 ∷ 0x23 ∷ 0x45 ∷ 0x67 ∷ 0x89 ∷ 1 ∷ replicate 23 0) 0 seed true
+    ∷ des 2 (0xAA ∷ 0xCD ∷ 0xEF ∷ 0x01 ∷ 0x23 ∷ 0x45 ∷ 0x67 ∷ 0x89 ∷ replicate 24 0) 0 1 seed
+    ∷ des 2 (0xAB ∷ 0xCD ∷ 0xEF ∷ 0x01 ∷ 0x23 ∷ 0x45 ∷ 0x67 ∷ 0x89 ∷ 1 ∷ replicate 23 0) 0 1 seed
     -- a position past the session
-    ∷ told 2 desABCD 8 seed true
-    ∷ written (receiving 1 scramble0001 4 true noVector)
-    -- an unknown vector that isn't zeros; a sender's unknown, and zeros
-    ∷ told 2 desABCD 0 seed false
-    ∷ told 1 desABCD 0 noVector false
-    ∷ told 1 desABCD 0 noVector true
+    ∷ des 2 desABCD 8 1 seed
+    ∷ scrambling 4 1 noVector
+    -- an unknown vector that isn't zeros, one neither unknown nor told; a sender's unknown, and zeros
+    ∷ des 2 desABCD 0 0 seed
+    ∷ des 2 desABCD 0 2 seed
+    ∷ des 1 desABCD 0 0 noVector
+    ∷ des 1 desABCD 0 1 noVector
     -- a scramble vector unknown, and one that isn't zeros
-    ∷ written (receiving 1 scramble0001 0 false noVector)
-    ∷ written (receiving 1 scramble0001 0 true seed)
+    ∷ scrambling 0 0 noVector
+    ∷ scrambling 0 1 seed
     ∷ []
 
--- a receiver's known vector may be zeros, and a sender's scramble vector is
+-- a receiver's told vector may be zeros, and a sender's scramble vector is
 abbrev pub goodCalls : List Call
 goodCalls =
-    noCall ∷ told 2 desABCD 7 seed true ∷ told 2 desABCD 0 noVector true ∷ told 2 desABCD 0 noVector false ∷ told 1 desABCD 0 seed true
-    ∷ written (receiving 1 scramble0001 3 true noVector) ∷ written (sending 1 scramble0001 0 noVector) ∷ []
+    noCall ∷ des 2 desABCD 7 1 seed ∷ des 2 desABCD 0 1 noVector ∷ des 2 desABCD 0 0 noVector ∷ des 1 desABCD 0 1 seed ∷ scrambling 3 1 noVector
+    ∷ written (sending (termsOf 1 scramble0001) 0 noVector) ∷ []
 
 abbrev each : (Call → Bool) → List Call → Bool
 each f [] = true

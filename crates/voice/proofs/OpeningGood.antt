@@ -8,17 +8,18 @@ use lib.Dec.{eqb}
 use Rattle.sizes.proofs.Cases.{by-range}
 use Rattle.octets.specs.Tests.{pick}
 use Rattle.octets.specs.Lists.{allZero}
-use Rattle.sizes.specs.Ciphers.{sessionSlots, noVector, scrambles}
+use Rattle.sizes.specs.Ciphers.{sessionSlots, scrambles}
 use Rattle.answers.specs.declared.Answer.the-variants.{Done, ZeroVector}
 use Rattle.answers.proofs.OutcomeLaws.{NoneHolds, none-left, none-right}
 use Rattle.openings.specs.Ladder.{sessionVector, keyFor, keyRefusals, zeroFor, vectorRefusals}
 use Rattle.ciphers.specs.Keys.{keyRight}
 use Rattle.sizes.proofs.SizeLaws.{no-vector-zero}
 use Rattle.openings.proofs.ReadyLaws.{none-named, none-key}
+use Rattle.voice.specs.declared.call.Terms.{Terms}
 use Rattle.voice.specs.declared.call.Call.{Call}
-use Rattle.voice.specs.Call.{sendingEnd, receivingEnd, vectorRight, goodCall, receiving, standing, written, isBad, stands}
-use Rattle.voice.specs.Opening.{superframeSlots, joinRefusals, openRefusals, begun, openOf, startOf, joined, joinOf}
-use Rattle.voice.proofs.GoodLaws.{good-open, fresh-right, kept}
+use Rattle.voice.specs.Call.{sendingEnd, receivingEnd, toldVector, vectorRight, goodCall, told, untold, sending, receiving, standing, termsOf, written, isBad, stands}
+use Rattle.voice.specs.Opening.{superframeSlots, joinRefusals, openRefusals, begun, begunOf, openOf, startOf, joined, joinOf}
+use Rattle.voice.proofs.GoodLaws.{good-sender, good-receiver, untold-right, kept}
 
 -- a session has slots, and more than a superframe where it needs a vector
 slots-some : (c : ℕ) → (1 ≤ c) × (c ≤ 3) → 0 < sessionSlots c
@@ -28,11 +29,11 @@ slots-more : (c : ℕ) → (1 ≤ c) × (c ≤ 3) → scrambles c ≡ false → 
 slots-more = by-range (λ n. scrambles n ≡ false → superframeSlots < sessionSlots n) (λ e. absurd (true≢false e)) (λ e. omega arith) (λ e. omega arith)
 
 -- the vector of a session that begins: 8 was not given
-session-right : (end c : ℕ) (w : List ℕ) → zeroFor c w ≡ false → vectorRight end c true (allZero (sessionVector c w)) ≡ true
+pub session-right : (end c : ℕ) (w : List ℕ) → zeroFor c w ≡ false → vectorRight end c toldVector (allZero (sessionVector c w)) ≡ true
 unfolding vectorRight zeroFor
 session-right end c w z = go (scrambles c) refl
   where
-    go : (t : Bool) → scrambles c ≡ t → vectorRight end c true (allZero (sessionVector c w)) ≡ true
+    go : (t : Bool) → scrambles c ≡ t → vectorRight end c toldVector (allZero (sessionVector c w)) ≡ true
     go true e = rw (e, no-vector-zero)
     go false e = rw (e, (rw e at z)) (go′ (eqb end 1))
       where
@@ -47,42 +48,44 @@ module _ (bad busy : Bool) (c i : ℕ) (b : List ℕ) (n : NoneHolds (keyRefusal
   key : keyRight c (keyFor b c i) ≡ true
   key = none-key true bad busy c i b n
 
-  joined-good : goodCall (written (joined c (keyFor b c i))) ≡ true
-  joined-good = go (scrambles c) refl
-    where
-      go : (t : Bool) → scrambles c ≡ t
-          → goodCall (written (pick t (receiving c (keyFor b c i) 0 true noVector) (receiving c (keyFor b c i) superframeSlots false noVector))) ≡ true
-      go true e = good-open 2 c (keyFor b c i) 0 noVector true (omega arith) (omega arith) key (slots-some c ranged) (rw e at (fresh-right c))
-      go false e =
-          good-open 2 c (keyFor b c i) superframeSlots noVector false (omega arith) (omega arith) key (slots-more c ranged e) (rw e at (fresh-right c))
+  abbrev terms : Terms
+  terms = termsOf c (keyFor b c i)
 
-  begun-good : (end : ℕ) → 1 ≤ end → end ≤ 2 → (w : List ℕ) → zeroFor c w ≡ false → goodCall (begun end c w (keyFor b c i)) ≡ true
-  begun-good end low high w z =
-      good-open end c (keyFor b c i) 0 (sessionVector c w) true low high key (slots-some c ranged) (session-right end c w z)
+  joined-good : goodCall (written (joined terms)) ≡ true
+  joined-good = good-receiver terms (pick (scrambles c) 0 superframeSlots) key (go (scrambles c) refl) (untold c) (untold-right c)
+    where
+      go : (t : Bool) → scrambles c ≡ t → pick t 0 superframeSlots < sessionSlots c
+      go true e = slots-some c ranged
+      go false e = slots-more c ranged e
+
+  begun-good : (end : ℕ) (w : List ℕ) → zeroFor c w ≡ false → goodCall (written (begun end terms (sessionVector c w))) ≡ true
+  begun-good end w z = go (eqb end sendingEnd)
+    where
+      go : (t : Bool) → goodCall (written (pick t (sending terms 0 (sessionVector c w)) (receiving terms 0 (told (sessionVector c w))))) ≡ true
+      go true = good-sender terms 0 key (slots-some c ranged) (sessionVector c w) (session-right sendingEnd c w z)
+      go false = good-receiver terms 0 key (slots-some c ranged) (told (sessionVector c w)) (session-right receivingEnd c w z)
 
 module _ (call : Call) (good : goodCall call ≡ true) (c i : ℕ) (b : List ℕ) where
   pub join-good : goodCall (joinOf call c i b .1) ≡ true
   unfolding joinOf joinRefusals
   join-good =
-      kept (λ d. d) call (joinRefusals (standing call) c i b) (Done, written (joined c (keyFor b c i))) good
+      kept (λ d. d) call (joinRefusals (standing call) c i b) (Done, written (joined (termsOf c (keyFor b c i)))) good
       (joined-good (isBad (standing call)) (stands (standing call)) c i b)
 
   module _ (w : List ℕ) where
-    done-good : (end : ℕ) → 1 ≤ end → end ≤ 2 → NoneHolds (openRefusals (standing call) c i w b) → goodCall (begun end c w (keyFor b c i)) ≡ true
+    begun-kept : (end : ℕ) → goodCall (begunOf end call c i w b .1) ≡ true
     unfolding openRefusals vectorRefusals
-    done-good end low high n =
+    begun-kept end =
+        kept (λ d. d) call (openRefusals (standing call) c i w b) (Done, written (begun end (termsOf c (keyFor b c i)) (sessionVector c w))) good
+        (λ n.
         begun-good (isBad (standing call)) (stands (standing call)) c i b
-        (none-left (keyRefusals true (isBad (standing call)) (stands (standing call)) c i b) ((zeroFor c w, ZeroVector) ∷ []) (n .1)) end low high w
-        (none-right (keyRefusals true (isBad (standing call)) (stands (standing call)) c i b) ((zeroFor c w, ZeroVector) ∷ []) (n .1) .0)
+        (none-left (keyRefusals true (isBad (standing call)) (stands (standing call)) c i b) ((zeroFor c w, ZeroVector) ∷ []) (n .1)) end w
+        (none-right (keyRefusals true (isBad (standing call)) (stands (standing call)) c i b) ((zeroFor c w, ZeroVector) ∷ []) (n .1) .0))
 
     pub open-good : goodCall (openOf call c i w b .1) ≡ true
     unfolding openOf
-    open-good =
-        kept (λ d. d) call (openRefusals (standing call) c i w b) (Done, begun receivingEnd c w (keyFor b c i)) good
-        (done-good receivingEnd (omega arith) (omega arith))
+    open-good = begun-kept receivingEnd
 
     pub start-good : goodCall (startOf call c i w b .1) ≡ true
     unfolding startOf
-    start-good =
-        kept (λ d. d) call (openRefusals (standing call) c i w b) (Done, begun sendingEnd c w (keyFor b c i)) good
-        (done-good sendingEnd (omega arith) (omega arith))
+    start-good = begun-kept sendingEnd

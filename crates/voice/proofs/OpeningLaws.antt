@@ -4,15 +4,18 @@ use mathlib.Core.Bool.{Bool, true, false, not}
 use mathlib.Core.List.{List}
 use Prim.Native.Nat.{ℕ}
 use lib.Dec.{eqb}
+use Rattle.octets.specs.Tests.{pick}
+use Rattle.sizes.specs.Ciphers.{scrambles}
 use Rattle.answers.specs.declared.Answer.{Answer}
 use Rattle.answers.specs.declared.Answer.the-variants.{Done}
 use Rattle.answers.specs.Numbers.{isDone}
-use Rattle.openings.specs.Ladder.{keyOf, vectorKeyOf}
+use Rattle.openings.specs.Ladder.{sessionVector, keyOf, vectorKeyOf}
 use Rattle.openings.proofs.BegunLaws.{Alike, both-bad, the-same, key-begun-refused, key-begun, vector-begun-refused, vector-begun}
+use Rattle.voice.specs.declared.call.Terms.{Terms}
 use Rattle.voice.specs.declared.call.Call.{Call}
-use Rattle.voice.specs.Call.{closedEnd, goodCall, standing, written, isBad, stands}
-use Rattle.voice.specs.Opening.{joinRefusals, openRefusals, begun, begunOf, joined, joinOf}
-use Rattle.voice.proofs.CallLaws.{Stands, none, sender, receiver, good-stands, is-bad}
+use Rattle.voice.specs.Call.{closedEnd, goodCall, untold, receiving, standing, termsOf, written, isBad, stands}
+use Rattle.voice.specs.Opening.{superframeSlots, joinRefusals, openRefusals, begun, begunOf, joined, joinOf}
+use Rattle.voice.proofs.CallLaws.{by-stands, is-bad}
 
 -- the code and the definition refuse alike
 call-alike : (call : Call) (good : Bool) → good ≡ goodCall call
@@ -21,12 +24,13 @@ call-alike call good g = go (goodCall call) refl
   where
     go : (t : Bool) → goodCall call ≡ t → Alike (not good) (not (eqb (call .end) closedEnd)) (isBad (standing call)) (stands (standing call))
     go false t = both-bad (ap not (g ∙ t)) (is-bad call t)
-    go true t = stood (good-stands call t)
-      where
-        stood : Stands call → Alike (not good) (not (eqb (call .end) closedEnd)) (isBad (standing call)) (stands (standing call))
-        stood (none o e s) = the-same (rw (g ∙ t, s)) (rw (s, e))
-        stood (sender o e s) = the-same (rw (g ∙ t, s)) (rw (s, e))
-        stood (receiver o e s) = the-same (rw (g ∙ t, s)) (rw (s, e))
+    go true t =
+        by-stands call t (λ o e s. the-same (rw (g ∙ t, s)) (rw (s, e))) (λ o e s. the-same (rw (g ∙ t, s)) (rw (s, e)))
+        (λ o e s. the-same (rw (g ∙ t, s)) (rw (s, e)))
+
+-- scramble joins at position 0, DES and AES after the superframe
+pub joined-at : (t : Terms) {p : ℕ} → p ≡ pick (scrambles (t .cipher)) 0 superframeSlots → written (receiving t p (untold (t .cipher))) ≡ written (joined t)
+joined-at t = ap (λ (p : ℕ). written (receiving t p (untold (t .cipher))))
 
 module _ (call : Call) (good : Bool) (g : good ≡ goodCall call) (c i : ℕ) (b : List ℕ) where
   -- what the code says of the call
@@ -36,17 +40,17 @@ module _ (call : Call) (good : Bool) (g : good ≡ goodCall call) (c i : ℕ) (b
   module _ (a : Answer) (key : List ℕ) (e : (a, key) ≡ keyOf true (not good) busy c i b) where
     pub join-refused : isDone a ≡ false → (a, call) ≡ joinOf call c i b
     unfolding joinOf joinRefusals
-    join-refused = key-begun-refused call (λ k. written (joined c k)) true (not good) busy _ _ (call-alike call good g) c i b a key e
+    join-refused = key-begun-refused call (λ k. written (joined (termsOf c k))) true (not good) busy _ _ (call-alike call good g) c i b a key e
 
-    pub join-done : isDone a ≡ true → (Done, written (joined c key)) ≡ joinOf call c i b
+    pub join-done : isDone a ≡ true → (Done, written (joined (termsOf c key))) ≡ joinOf call c i b
     unfolding joinOf joinRefusals
-    join-done = key-begun call (λ k. written (joined c k)) true (not good) busy _ _ (call-alike call good g) c i b a key e
+    join-done = key-begun call (λ k. written (joined (termsOf c k))) true (not good) busy _ _ (call-alike call good g) c i b a key e
 
   module _ (w : List ℕ) (a : Answer) (key : List ℕ) (e : (a, key) ≡ vectorKeyOf true (not good) busy c i w b) (end : ℕ) where
     pub begun-refused : isDone a ≡ false → (a, call) ≡ begunOf end call c i w b
     unfolding openRefusals
-    begun-refused = vector-begun-refused call (begun end c w) true (not good) busy _ _ (call-alike call good g) c i b w a key e
+    begun-refused = vector-begun-refused call (λ k. written (begun end (termsOf c k) (sessionVector c w))) true (not good) busy _ _ (call-alike call good g) c i b w a key e
 
-    pub begun-done : isDone a ≡ true → (Done, begun end c w key) ≡ begunOf end call c i w b
+    pub begun-done : isDone a ≡ true → (Done, written (begun end (termsOf c key) (sessionVector c w))) ≡ begunOf end call c i w b
     unfolding openRefusals
-    begun-done = vector-begun call (begun end c w) true (not good) busy _ _ (call-alike call good g) c i b w a key e
+    begun-done = vector-begun call (λ k. written (begun end (termsOf c k) (sessionVector c w))) true (not good) busy _ _ (call-alike call good g) c i b w a key e

@@ -1,7 +1,6 @@
 -- Each operation's statement settles its outcome: any two outcomes that meet it are equal. And a refusal, any answer but 0 and 1, changes
 -- nothing.
 use mathlib.Core.Path.{_≡_, refl, ap, sym, _∙_}
-use mathlib.Core.Bool.{true}
 use mathlib.Core.List.{List}
 use Prim.Native.Nat.{ℕ}
 use native.Mathlib.Omega.{arith}
@@ -9,14 +8,13 @@ use Rattle.octets.specs.Bits.{bit}
 use Rattle.answers.specs.declared.Answer.{Answer}
 use Rattle.answers.specs.declared.Answer.the-variants.{Done}
 use Rattle.answers.proofs.OutcomeLaws.{Refusal, keeps, one-outcome}
-use Rattle.ciphers.specs.Keystream.{stream}
 use Rattle.voice.specs.declared.call.Call.{Call}
 use Rattle.openings.specs.Ladder.{sessionVector, keyFor}
-use Rattle.voice.specs.Call.{closed, sending, receiving, standing, written, endRefusals, endOf}
-use Rattle.voice.specs.Opening.{joinRefusals, openRefusals, openOf, startOf, joined, joinOf}
-use Rattle.voice.specs.Slot.{slotOn, lostRefusals, lostOf, voiceRefusals, voiceAfter, voiceBy, voiceOf, voiceByOctets, sessionStreamOf}
-use Rattle.voice.specs.Vector.{told, announceRefusals, announceOf, following, nextRefusals, nextVectorOf}
-use Rattle.voice.proofs.SlotLaws.{voice-under-two, by-lent}
+use Rattle.voice.specs.Call.{sendingEnd, receivingEnd, closed, standing, termsOf, written, knows, endRefusals, endOf}
+use Rattle.voice.specs.Opening.{joinRefusals, openRefusals, begun, begunOf, openOf, startOf, joined, joinOf}
+use Rattle.voice.specs.Slot.{slotOn, lostRefusals, lostOf, voiceRefusals, streamOf, voiceAfter, voiceBy, voiceOf, voiceByOctets, sessionStreamOf}
+use Rattle.voice.specs.Vector.{withVector, announceRefusals, announceOf, following, nextRefusals, nextVectorOf}
+use Rattle.voice.proofs.SlotLaws.{taken-under-two, by-lent}
 
 -- ---- any two outcomes are equal
 
@@ -72,36 +70,39 @@ module _ (c : Call) where
 
   pub announce-keeps : (w : List ℕ) → Refusal (announceOf c w .0) → announceOf c w .1 ≡ c
   unfolding announceOf
-  announce-keeps w = keeps c (announceRefusals (standing c) w) (Done, written (told w (standing c))) (omega arith)
+  announce-keeps w = keeps c (announceRefusals (standing c) w) (Done, written (withVector w (standing c))) (omega arith)
 
   pub next-keeps : (out : List ℕ) → Refusal (nextVectorOf c out .0) → nextVectorOf c out .1 ≡ out
   unfolding nextVectorOf
   next-keeps out = keeps out (nextRefusals (standing c) out) (Done, following (standing c)) (omega arith)
 
-  pub voice-by-keeps : (st : ℕ → List ℕ → List ℕ → ℕ → ℕ) (mask : ℕ) (frame : List ℕ) → Refusal (voiceBy st c mask frame .0)
+  pub voice-by-keeps : (st : Call → ℕ → ℕ) (mask : ℕ) (frame : List ℕ) → Refusal (voiceBy st c mask frame .0)
       → voiceBy st c mask frame .1 ≡ (c, frame)
   unfolding voiceBy
   voice-by-keeps st mask frame =
-      keeps (c, frame) (voiceRefusals (standing c) mask frame) (voiceAfter st mask frame (standing c)) (voice-under-two st c mask frame (standing c))
+      keeps (c, frame) (voiceRefusals (standing c) mask frame) (voiceAfter st mask frame (standing c)) (taken-under-two (knows (standing c)))
 
   pub voice-by-octets-keeps : (session : List ℕ) (mask : ℕ) (frame : List ℕ) → Refusal (voiceByOctets session c mask frame .0)
       → voiceByOctets session c mask frame .1 ≡ (c, frame)
   voice-by-octets-keeps session mask frame =
-      by-lent session c mask frame (λ o. Refusal (o .0) → o .1 ≡ (c, frame)) (λ r. refl) (voice-by-keeps (λ n k v. bit session) mask frame)
+      by-lent session c mask frame (λ o. Refusal (o .0) → o .1 ≡ (c, frame)) (λ r. refl) (voice-by-keeps (λ d. bit session) mask frame)
 
   pub voice-keeps : (mask : ℕ) (frame : List ℕ) → Refusal (voiceOf c mask frame .0) → voiceOf c mask frame .1 ≡ (c, frame)
-  voice-keeps = voice-by-keeps stream
+  voice-keeps = voice-by-keeps streamOf
 
   module _ (n i : ℕ) (book : List ℕ) where
     pub join-keeps : Refusal (joinOf c n i book .0) → joinOf c n i book .1 ≡ c
     unfolding joinOf
-    join-keeps = keeps c (joinRefusals (standing c) n i book) (Done, written (joined n (keyFor book n i))) (omega arith)
+    join-keeps = keeps c (joinRefusals (standing c) n i book) (Done, written (joined (termsOf n (keyFor book n i)))) (omega arith)
+
+    begun-keeps : (end : ℕ) (w : List ℕ) → Refusal (begunOf end c n i w book .0) → begunOf end c n i w book .1 ≡ c
+    begun-keeps end w =
+        keeps c (openRefusals (standing c) n i w book) (Done, written (begun end (termsOf n (keyFor book n i)) (sessionVector n w))) (omega arith)
 
     pub open-keeps : (w : List ℕ) → Refusal (openOf c n i w book .0) → openOf c n i w book .1 ≡ c
     unfolding openOf
-    open-keeps w =
-        keeps c (openRefusals (standing c) n i w book) (Done, written (receiving n (keyFor book n i) 0 true (sessionVector n w))) (omega arith)
+    open-keeps = begun-keeps receivingEnd
 
     pub start-keeps : (w : List ℕ) → Refusal (startOf c n i w book .0) → startOf c n i w book .1 ≡ c
     unfolding startOf
-    start-keeps w = keeps c (openRefusals (standing c) n i w book) (Done, written (sending n (keyFor book n i) 0 (sessionVector n w))) (omega arith)
+    start-keeps = begun-keeps sendingEnd

@@ -14,19 +14,18 @@ use Rattle.octets.specs.Tests.{pick}
 use Rattle.octets.specs.Bits.{bit, octetsFrom}
 use Rattle.octets.proofs.BitLaws.{bit-octetsFrom}
 use Rattle.sizes.specs.Ciphers.{sessionSlots}
-use Rattle.ciphers.specs.Keystream.{stream}
 use Rattle.answers.specs.declared.Answer.{Answer}
 use Rattle.answers.specs.declared.Answer.the-variants.{Done, Held, WrongLength}
 use Rattle.answers.specs.Numbers.{numberOf}
-use Rattle.answers.specs.Outcomes.{Refusals, settled}
+use Rattle.answers.specs.Outcomes.{Refusals}
 use Rattle.answers.proofs.OutcomeLaws.{NoneHolds, none-settles, Refuses, answerAt, refused-at, Refusal, fromTwo, among-refuses, by-refusals, around}
 use Rattle.voice.specs.declared.call.Call.{Call}
 use Rattle.sizes.specs.Frame.{frameOctets, slotBits, sessionOctets}
 use Rattle.voice.specs.Frame.{ofSlot, protect}
-use Rattle.voice.specs.Call.{closedEnd, sendingEnd, receivingEnd, goodCall, Standing, closed, bad, sending, receiving, standing, written, stands}
-use Rattle.voice.specs.Slot.{slotOn, lostRefusals, lostOf, topMask, zeroAfter, zeroNext, voiceRefusals, inSlot, voiceAfter, voiceBy, voiceOf, voiceByOctets, withoutFrame}
+use Rattle.voice.specs.Call.{closedEnd, sendingEnd, goodCall, standing, written, stands, knows}
+use Rattle.voice.specs.Slot.{slotOn, lostRefusals, lostOf, topMask, zeroAfter, zeroNext, voiceRefusals, streamOf, inSlot, voiceAfter, voiceBy, voiceOf, voiceByOctets, withoutFrame}
 use Rattle.voice.proofs.FrameLaws.{protect-same}
-use Rattle.voice.proofs.CallLaws.{Stands, none, sender, receiver, good-stands, good-by, not-bad, stands-none, stands-some, unless-sender, is-sender, is-receiver, inside}
+use Rattle.voice.proofs.CallLaws.{by-stands, good-by, not-bad, stands-none, stands-some, is-sender, inside, known-written}
 
 module _ (c : Call) where
   pub lost-refused : (n : ℕ) → Refuses (lostRefusals (standing c)) n → (answerAt (lostRefusals (standing c)) n, c) ≡ lostOf c
@@ -36,16 +35,16 @@ module _ (c : Call) where
 -- ---- voice
 
 -- a slot's own octets turn the frame as its session does
-pub by-slot : (c : ℕ) (k : List ℕ) (p : ℕ) (v : List ℕ) (mask : ℕ) (frame slot g : List ℕ) (from size : ℕ) → slotBits ≤ 8 * size → from ≡ slotBits * p
-    → slot ≡ octetsFrom size (λ n. stream c k v (from + n)) → g ≡ protect (λ n. bit slot (0 + n)) mask frame → g ≡ inSlot stream mask frame c k p v
-by-slot c k p v mask frame slot g from size room f e h =
+pub by-slot : (c : Call) (mask : ℕ) (frame slot g : List ℕ) (from size : ℕ) → slotBits ≤ 8 * size → from ≡ slotBits * c .position
+    → slot ≡ octetsFrom size (λ n. streamOf c (from + n)) → g ≡ protect (λ n. bit slot (0 + n)) mask frame → g ≡ inSlot streamOf mask frame c
+by-slot c mask frame slot g from size room f e h =
     h
-    ∙ protect-same (λ n. bit slot (0 + n)) (ofSlot (stream c k v) p) mask
+    ∙ protect-same (λ n. bit slot (0 + n)) (ofSlot (streamOf c) (c .position)) mask
     (λ n l.
     ap (bit slot) (zero-add n)
     ∙ ap (λ (xs : List ℕ). bit xs n) e
-    ∙ bit-octetsFrom size (λ i. stream c k v (from + i)) (λ i. bits-stream c k v (from + i)) n (omega arith)
-    ∙ ap (λ (z : ℕ). stream c k v (z + n)) f)
+    ∙ bit-octetsFrom size (λ i. streamOf c (from + i)) (λ i. bits-stream (c .terms .cipher) (c .terms .key) (c .vector) (from + i)) n (omega arith)
+    ∙ ap (λ (z : ℕ). streamOf c (z + n)) f)
     frame
 
 -- and so do a session's octets, from the slot's place on
@@ -54,11 +53,12 @@ pub by-octets : (session : List ℕ) (q p mask : ℕ) (frame g : List ℕ) → q
 by-octets session q p mask frame g e h = h ∙ ap (λ (m : ℕ). protect (ofSlot (bit session) m) mask frame) e
 
 module _ (c : Call) (good : goodCall c ≡ true) where
-  pub zero-sender : c .end ≡ sendingEnd → zeroNext (standing c) ≡ zeroAfter (c .cipher) (c .position) (c .vector)
+  pub zero-sender : c .end ≡ sendingEnd → zeroNext (standing c) ≡ zeroAfter (c .terms .cipher) (c .position) (c .vector)
   zero-sender z = ap zeroNext (is-sender c good z)
 
-  pub zero-receiver : (c .end ≡ sendingEnd → ⊥) → zeroNext (standing c) ≡ false
-  zero-receiver = unless-sender c good zeroNext refl (λ n k p b v. refl)
+  -- no receiver, and no sender that goes on
+  zero-unless : (c .end ≡ sendingEnd → zeroAfter (c .terms .cipher) (c .position) (c .vector) ≡ false) → zeroNext (standing c) ≡ false
+  zero-unless z = by-stands c good (λ o e s. ap zeroNext s) (λ o e s. ap zeroNext s ∙ z e) (λ o e s. ap zeroNext s)
 
 -- ---- what nothing refuses
 
@@ -86,7 +86,12 @@ module _ (c : Call) (mask : ℕ) (frame : List ℕ) where
 
 -- ---- whatever gives the session's bits
 
-module _ (st : ℕ → List ℕ → List ℕ → ℕ → ℕ) (c : Call) (mask : ℕ) (frame : List ℕ) where
+-- a slot that is taken is answered 0 or 1
+pub taken-under-two : (knows : Bool) → numberOf (pick knows Done Held) < 2
+taken-under-two true = omega arith
+taken-under-two false = omega arith
+
+module _ (st : Call → ℕ → ℕ) (c : Call) (mask : ℕ) (frame : List ℕ) where
   pub voice-refused : (n : ℕ) → Refuses (voiceRefusals (standing c) mask frame) n
       → (answerAt (voiceRefusals (standing c) mask frame) n, (c, frame)) ≡ voiceBy st c mask frame
   unfolding voiceBy
@@ -109,64 +114,29 @@ module _ (st : ℕ → List ℕ → List ℕ → ℕ → ℕ) (c : Call) (mask :
   voice-taken =
       by-voice (λ o. numberOf (o .0) < 2 → NoneHolds (voiceRefusals (standing c) mask frame)) (λ a r l. absurd (omega arith)) (λ n l. n)
 
-  pub voice-under-two : (s : Standing) → numberOf (voiceAfter st mask frame s .0) < 2
-  voice-under-two closed = omega arith
-  voice-under-two bad = omega arith
-  voice-under-two (sending n k p v) = omega arith
-  voice-under-two (receiving n k p true v) = omega arith
-  voice-under-two (receiving n k p false v) = omega arith
-
-  -- it moves the call one slot on
-  pub voice-moves : (s : Standing) → voiceAfter st mask frame s .1 .0 ≡ written (slotOn s)
-  voice-moves closed = refl
-  voice-moves bad = refl
-  voice-moves (sending n k p v) = refl
-  voice-moves (receiving n k p true v) = refl
-  voice-moves (receiving n k p false v) = refl
-
-  after-known : (n : ℕ) (k : List ℕ) (p : ℕ) (b : Bool) (v : List ℕ) → numberOf (voiceAfter st mask frame (receiving n k p b v) .0) ≡ 0
-      → voiceAfter st mask frame (receiving n k p b v) .1 .1 ≡ inSlot st mask frame n k p v
-  after-known n k p true v z = refl
-  after-known n k p false v z = absurd (omega arith)
-
-  -- answer 0: the frame is the slot's turning of it by the bits for the call's own fields, at either end
-  pub done-turned : numberOf (voiceBy st c mask frame .0) ≡ 0
-      → voiceBy st c mask frame .1 .1 ≡ inSlot st mask frame (c .cipher) (c .key) (c .position) (c .vector)
+  -- answer 0: the frame is the slot's turning of it by the bits of the call's own session, at either end
+  pub done-turned : numberOf (voiceBy st c mask frame .0) ≡ 0 → voiceBy st c mask frame .1 .1 ≡ inSlot st mask frame c
   done-turned =
-      by-voice (λ o. numberOf (o .0) ≡ 0 → o .1 .1 ≡ inSlot st mask frame (c .cipher) (c .key) (c .position) (c .vector))
-      (λ a r z. absurd (omega arith)) last
+      by-voice (λ o. numberOf (o .0) ≡ 0 → o .1 .1 ≡ inSlot st mask frame c) (λ a r z. absurd (omega arith)) (λ n. go (knows (standing c)) refl)
     where
-      last : NoneHolds (voiceRefusals (standing c) mask frame) → numberOf (voiceAfter st mask frame (standing c) .0) ≡ 0
-          → voiceAfter st mask frame (standing c) .1 .1 ≡ inSlot st mask frame (c .cipher) (c .key) (c .position) (c .vector)
-      last n z = go (good-stands c (none-good c mask frame n))
-        where
-          go : Stands c → voiceAfter st mask frame (standing c) .1 .1 ≡ inSlot st mask frame (c .cipher) (c .key) (c .position) (c .vector)
-          go (none o e s) = absurd (none-open c mask frame n e)
-          go (sender o e s) = ap (λ (t : Standing). voiceAfter st mask frame t .1 .1) s
-          go (receiver o e s) =
-              ap (λ (t : Standing). voiceAfter st mask frame t .1 .1) s
-              ∙ after-known (c .cipher) (c .key) (c .position) (c .known) (c .vector)
-              (sym (ap (λ (t : Standing). numberOf (voiceAfter st mask frame t .0)) s) ∙ z)
+      go : (t : Bool) → knows (standing c) ≡ t → numberOf (pick t Done Held) ≡ 0 → pick t (inSlot st mask frame (written (standing c))) frame ≡ inSlot st mask frame c
+      go true k z = ap (inSlot st mask frame) (known-written c k)
+      go false k z = absurd (omega arith)
 
   -- any other answer: the frame is as it came
   pub undone-stays : (numberOf (voiceBy st c mask frame .0) ≡ 0 → ⊥) → voiceBy st c mask frame .1 .1 ≡ frame
-  undone-stays =
-      by-voice (λ o. (numberOf (o .0) ≡ 0 → ⊥) → o .1 .1 ≡ frame) (λ a r n. refl) (λ h. last (standing c))
+  undone-stays = by-voice (λ o. (numberOf (o .0) ≡ 0 → ⊥) → o .1 .1 ≡ frame) (λ a r n. refl) (λ h. go (knows (standing c)))
     where
-      last : (s : Standing) → (numberOf (voiceAfter st mask frame s .0) ≡ 0 → ⊥) → voiceAfter st mask frame s .1 .1 ≡ frame
-      last closed n = refl
-      last bad n = refl
-      last (sending m k p v) n = absurd (n refl)
-      last (receiving m k p true v) n = absurd (n refl)
-      last (receiving m k p false v) n = refl
+      go : (t : Bool) → (numberOf (pick t Done Held) ≡ 0 → ⊥) → pick t (inSlot st mask frame (written (standing c))) frame ≡ frame
+      go true n = absurd (n refl)
+      go false n = refl
 
 -- the answer and the call after it rest on no bit of the session
-pub voice-beside : (st su : ℕ → List ℕ → List ℕ → ℕ → ℕ) (c : Call) (mask : ℕ) (frame : List ℕ)
+pub voice-beside : (st su : Call → ℕ → ℕ) (c : Call) (mask : ℕ) (frame : List ℕ)
     → withoutFrame (voiceBy st c mask frame) ≡ withoutFrame (voiceBy su c mask frame)
 unfolding voiceBy
 voice-beside st su c mask frame =
     around call (c, frame) refusals (voiceAfter st mask frame (standing c))
-    ∙ ap (settled c refusals) (same (standing c))
     ∙ sym (around call (c, frame) refusals (voiceAfter su mask frame (standing c)))
   where
     refusals : Refusals
@@ -175,13 +145,6 @@ voice-beside st su c mask frame =
     call : Call × List ℕ → Call
     call r = r .0
 
-    same : (s : Standing) → withoutFrame (voiceAfter st mask frame s) ≡ withoutFrame (voiceAfter su mask frame s)
-    same closed = refl
-    same bad = refl
-    same (sending n k p v) = refl
-    same (receiving n k p true v) = refl
-    same (receiving n k p false v) = refl
-
 -- ---- by lent octets
 
 module _ (session : List ℕ) (c : Call) (mask : ℕ) (frame : List ℕ) where
@@ -189,23 +152,23 @@ module _ (session : List ℕ) (c : Call) (mask : ℕ) (frame : List ℕ) where
   unfolding voiceByOctets
   by-short l = rw (lt-ltb _ _ l)
 
-  pub by-long : sessionOctets ≤ length session → voiceByOctets session c mask frame ≡ voiceBy (λ n k v. bit session) c mask frame
+  pub by-long : sessionOctets ≤ length session → voiceByOctets session c mask frame ≡ voiceBy (λ d. bit session) c mask frame
   unfolding voiceByOctets
   by-long l = rw (le-ltb _ _ l)
 
   -- what holds of 2 with all as it was, and of the slot by octets enough, holds of the outcome
-  pub by-lent : (P : Answer × (Call × List ℕ) → Type 0) → P (WrongLength, (c, frame)) → P (voiceBy (λ n k v. bit session) c mask frame)
+  pub by-lent : (P : Answer × (Call × List ℕ) → Type 0) → P (WrongLength, (c, frame)) → P (voiceBy (λ d. bit session) c mask frame)
       → P (voiceByOctets session c mask frame)
   unfolding voiceByOctets
   by-lent P short long = go (ltb (length session) sessionOctets)
     where
-      go : (t : Bool) → P (pick t (WrongLength, (c, frame)) (voiceBy (λ n k v. bit session) c mask frame))
+      go : (t : Bool) → P (pick t (WrongLength, (c, frame)) (voiceBy (λ d. bit session) c mask frame))
       go true = short
       go false = long
 
   -- any answer but 0: the frame is as it came
   pub lent-stays : (numberOf (voiceByOctets session c mask frame .0) ≡ 0 → ⊥) → voiceByOctets session c mask frame .1 .1 ≡ frame
-  lent-stays = by-lent (λ o. (numberOf (o .0) ≡ 0 → ⊥) → o .1 .1 ≡ frame) (λ n. refl) (undone-stays (λ n k v. bit session) c mask frame)
+  lent-stays = by-lent (λ o. (numberOf (o .0) ≡ 0 → ⊥) → o .1 .1 ≡ frame) (λ n. refl) (undone-stays (λ d. bit session) c mask frame)
 
 -- ---- as the code goes
 
@@ -213,69 +176,53 @@ module _ (c : Call) (mask : ℕ) (frame : List ℕ) where
   -- the answer
   pub answer-refused : (n : ℕ) → Refuses (voiceRefusals (standing c) mask frame) n
       → answerAt (voiceRefusals (standing c) mask frame) n ≡ voiceOf c mask frame .0
-  answer-refused n r = ap (λ (o : Answer × (Call × List ℕ)). o .0) (voice-refused stream c mask frame n r)
+  answer-refused n r = ap (λ (o : Answer × (Call × List ℕ)). o .0) (voice-refused streamOf c mask frame n r)
 
   module _ (l : length frame ≡ frameOctets) (m : mask ≤ topMask) (good : goodCall c ≡ true) where
-    none-holds : (c .end ≡ closedEnd → ⊥) → zeroNext (standing c) ≡ false → NoneHolds (voiceRefusals (standing c) mask frame)
+    -- 0 where the vector is known, else 1
+    pub answer-taken : (t : Bool) → (c .end ≡ closedEnd → ⊥) → (c .end ≡ sendingEnd → zeroAfter (c .terms .cipher) (c .position) (c .vector) ≡ false)
+        → knows (standing c) ≡ t → pick t Done Held ≡ voiceOf c mask frame .0
     unfolding voiceRefusals
-    none-holds o z = (ap not (eq-eqb _ _ l), (le-ltb _ _ m, (not-bad c good, (stands-some c good o, (z, tt)))))
-
-    answer-of : {t : Standing} → (c .end ≡ closedEnd → ⊥) → zeroNext (standing c) ≡ false → standing c ≡ t
-        → voiceAfter stream mask frame t .0 ≡ voiceOf c mask frame .0
-    answer-of o z s =
-        sym (ap (λ (t : Standing). voiceAfter stream mask frame t .0) s)
-        ∙ ap (λ (r : Answer × (Call × List ℕ)). r .0) (voice-done stream c mask frame (none-holds o z))
-
-    pub answer-sent : c .end ≡ sendingEnd → zeroAfter (c .cipher) (c .position) (c .vector) ≡ false → Done ≡ voiceOf c mask frame .0
-    answer-sent e z = answer-of (λ o. omega arith) (zero-sender c good e ∙ z) (is-sender c good e)
-
-    answer-by : (b : Bool) → c .end ≡ receivingEnd → c .known ≡ b
-        → voiceAfter stream mask frame (receiving (c .cipher) (c .key) (c .position) b (c .vector)) .0 ≡ voiceOf c mask frame .0
-    answer-by b e k =
-        answer-of (λ o. omega arith) (zero-receiver c good (λ s. omega arith))
-        (is-receiver c good e ∙ ap (λ (t : Bool). receiving (c .cipher) (c .key) (c .position) t (c .vector)) k)
-
-    pub answer-heard : c .end ≡ receivingEnd → c .known ≡ true → Done ≡ voiceOf c mask frame .0
-    answer-heard = answer-by true
-
-    pub answer-held : c .end ≡ receivingEnd → c .known ≡ false → Held ≡ voiceOf c mask frame .0
-    answer-held = answer-by false
+    answer-taken t o z k =
+        ap (λ (u : Bool). pick u Done Held) (sym k)
+        ∙ ap (λ (r : Answer × (Call × List ℕ)). r .0)
+        (voice-done streamOf c mask frame (ap not (eq-eqb _ _ l), (le-ltb _ _ m, (not-bad c good, (stands-some c good o, (zero-unless c good z, tt))))))
 
   -- the call after it
   module _ (a : Answer) (e : a ≡ voiceOf c mask frame .0) where
     pub taken-none : numberOf a < 2 → NoneHolds (voiceRefusals (standing c) mask frame)
-    taken-none l = voice-taken stream c mask frame (rw e at l)
+    taken-none l = voice-taken streamOf c mask frame (rw e at l)
 
     pub refused-call : Refusal a → (a, c) ≡ withoutFrame (voiceOf c mask frame)
     refused-call r =
         rw e
-        (by-voice stream c mask frame (λ o. Refusal (o .0) → (o .0, c) ≡ withoutFrame o) (λ b q h. refl)
-        (λ n h. absurd (omega (arith, voice-under-two stream c mask frame (standing c)))) (rw e at r))
+        (by-voice streamOf c mask frame (λ o. Refusal (o .0) → (o .0, c) ≡ withoutFrame o) (λ b q h. refl)
+        (λ n h. absurd (omega (arith, taken-under-two (knows (standing c))))) (rw e at r))
 
     pub taken-call : numberOf a < 2 → (d : Call) → d ≡ written (slotOn (standing c)) → (a, d) ≡ withoutFrame (voiceOf c mask frame)
     taken-call l d f =
-        let o = voice-done stream c mask frame (taken-none l) in
-        rw (e, f, ← o) (ap (λ (x : Call). (voiceAfter stream mask frame (standing c) .0, x)) (sym (voice-moves stream c mask frame (standing c))))
+        let o = voice-done streamOf c mask frame (taken-none l) in
+        rw (e, f, ← o)
 
 with-frame : (a : Answer) (d : Call) (g : List ℕ) (o : Answer × (Call × List ℕ)) → (a, d) ≡ withoutFrame o → g ≡ o .1 .1 → (a, (d, g)) ≡ o
 with-frame a d g o e f =
     ap (λ (r : Answer × Call). (r .0, (r .1, g))) e ∙ ap (λ (h : List ℕ). (o .0, (o .1 .0, h))) f
 
 -- the frame
-module _ (st : ℕ → List ℕ → List ℕ → ℕ → ℕ) (c : Call) (mask : ℕ) (frame : List ℕ)
+module _ (st : Call → ℕ → ℕ) (c : Call) (mask : ℕ) (frame : List ℕ)
     (a : Answer) (d : Call) (e : (a, d) ≡ withoutFrame (voiceOf c mask frame)) where
   number-by : numberOf a ≡ numberOf (voiceBy st c mask frame .0)
-  number-by = ap (λ (r : Answer × Call). numberOf (r .0)) (e ∙ voice-beside stream st c mask frame)
+  number-by = ap (λ (r : Answer × Call). numberOf (r .0)) (e ∙ voice-beside streamOf st c mask frame)
 
   pub frame-stays : (numberOf a ≡ 0 → ⊥) → (a, (d, frame)) ≡ voiceBy st c mask frame
   frame-stays n =
-      with-frame a d frame (voiceBy st c mask frame) (e ∙ voice-beside stream st c mask frame)
+      with-frame a d frame (voiceBy st c mask frame) (e ∙ voice-beside streamOf st c mask frame)
       (sym (undone-stays st c mask frame (λ z. n (number-by ∙ z))))
 
   module _ (z : numberOf a ≡ 0) where
-    pub frame-turned : (g : List ℕ) → g ≡ inSlot st mask frame (c .cipher) (c .key) (c .position) (c .vector) → (a, (d, g)) ≡ voiceBy st c mask frame
+    pub frame-turned : (g : List ℕ) → g ≡ inSlot st mask frame c → (a, (d, g)) ≡ voiceBy st c mask frame
     frame-turned g t =
-        with-frame a d g (voiceBy st c mask frame) (e ∙ voice-beside stream st c mask frame)
+        with-frame a d g (voiceBy st c mask frame) (e ∙ voice-beside streamOf st c mask frame)
         (t ∙ sym (done-turned st c mask frame (sym number-by ∙ z)))
 
     none-refused : NoneHolds (voiceRefusals (standing c) mask frame)
@@ -284,9 +231,9 @@ module _ (st : ℕ → List ℕ → List ℕ → ℕ → ℕ) (c : Call) (mask :
     pub turned-long : length frame ≡ frameOctets
     turned-long = none-long c mask frame none-refused
 
-    pub turned-inside : c .position < sessionSlots (c .cipher)
+    pub turned-inside : c .position < sessionSlots (c .terms .cipher)
     turned-inside = inside c (none-good c mask frame none-refused) (none-open c mask frame none-refused)
 
     -- no session has more than 8 slots
     pub turned-early : c .position < 8
-    turned-early = let l = turned-inside in omega (arith, slots-at-most (c .cipher))
+    turned-early = let l = turned-inside in omega (arith, slots-at-most (c .terms .cipher))

@@ -1,6 +1,6 @@
 -- A voice slot of a call that stands, whole: what it answers and leaves. And at 9600 bps, where every other slot has mask 0.
-use mathlib.Core.Path.{_≡_, refl, sym, ap, _∙_}
-use mathlib.Core.Bool.{Bool, true, false, not}
+use mathlib.Core.Path.{_≡_, refl, sym, ap, ap₂, _∙_}
+use mathlib.Core.Bool.{Bool, true, false, not, false≢true}
 use mathlib.Core.List.{List, [], _∷_}
 use Prim.Native.Nat.{ℕ, _+_, _-_, _*_, _≤_, _<_}
 use native.Mathlib.Omega.{arith}
@@ -9,89 +9,80 @@ use lib.ListN.{length}
 use borrow.Author.Tests.{eq-eqb, le-ltb, lt-ltb, lt-leb}
 use Rattle.sizes.proofs.SizeLaws.{slot-ranged}
 use Rattle.sizes.proofs.Cases.{by-range}
+use Rattle.octets.specs.Tests.{pick}
 use Rattle.octets.specs.Lists.{allZero}
 use Rattle.octets.proofs.TestLaws.{every-fails}
 use Rattle.generator.specs.Generator.{nextVector}
 use Rattle.sizes.specs.Ciphers.{sessionSlots, scrambles}
-use Rattle.ciphers.specs.Keystream.{stream}
 use Rattle.answers.specs.declared.Answer.{Answer}
 use Rattle.answers.specs.declared.Answer.the-variants.{Done, Held}
+use Rattle.voice.specs.declared.call.Terms.{Terms}
 use Rattle.voice.specs.declared.call.Call.{Call}
 use Rattle.sizes.specs.Frame.{frameOctets, slotBits}
 use Rattle.voice.specs.Frame.{IsFrame, ofSlot, protect}
-use Rattle.voice.specs.Call.{closedEnd, sendingEnd, receivingEnd, goodCall, sending, receiving, standing, written}
-use Rattle.voice.specs.Slot.{received, sent, topMask, zeroAfter, voiceRefusals, inSlot, voiceBy, voiceOf}
+use Rattle.voice.specs.Call.{unknownVector, goodCall, Known, Standing, closed, bad, sending, receiving, standing, callAt, written, stands, knows}
+use Rattle.voice.specs.Slot.{slotOn, lostRefusals, lostOf, topMask, zeroAfter, zeroNext, voiceRefusals, streamOf, inSlot, voiceAfter, voiceBy, voiceOf}
 use Rattle.voice.proofs.FrameLaws.{protect-same, protect-none}
-use Rattle.voice.proofs.CallLaws.{Stands, none, sender, receiver, good-stands, inside}
+use Rattle.voice.proofs.CallLaws.{knows-inside, knows-yes, known-written}
 use Rattle.voice.proofs.GoodLaws.{voice-good}
 
+-- a call that stands, wherever it does, unless its sender would go on with zeros
 module _ (call : Call) (mask : ℕ) (frame : List ℕ) (m : mask ≤ topMask) (l : length frame ≡ frameOctets) where
-  module _ (c : ℕ) (k : List ℕ) (p : ℕ) (v : List ℕ) where
-    pub voice-sent : standing call ≡ sending c k p v → zeroAfter c p v ≡ false
-        → voiceOf call mask frame ≡ (Done, (written (sent c k (p + 1) v), inSlot stream mask frame c k p v))
-    unfolding voiceBy voiceRefusals
-    voice-sent s z = rw (s, eq-eqb _ _ l, le-ltb _ _ m, z)
+  pub voice-at : (s : Standing) → standing call ≡ s → stands s ≡ true → zeroNext s ≡ false → voiceOf call mask frame ≡ voiceAfter streamOf mask frame s
+  unfolding voiceBy voiceRefusals
+  voice-at closed e o z = absurd (false≢true o)
+  voice-at bad e o z = absurd (false≢true o)
+  voice-at (sending t p v) e o z = rw (e, eq-eqb _ _ l, le-ltb _ _ m, z)
+  voice-at (receiving t p k) e o z = rw (e, eq-eqb _ _ l, le-ltb _ _ m)
 
-    pub voice-heard : standing call ≡ receiving c k p true v
-        → voiceOf call mask frame ≡ (Done, (written (received c k (p + 1) true v), inSlot stream mask frame c k p v))
-    unfolding voiceBy voiceRefusals
-    voice-heard s = rw (s, eq-eqb _ _ l, le-ltb _ _ m)
-
-    pub voice-held : standing call ≡ receiving c k p false v → voiceOf call mask frame ≡ (Held, (written (received c k (p + 1) false v), frame))
-    unfolding voiceBy voiceRefusals
-    voice-held s = rw (s, eq-eqb _ _ l, le-ltb _ _ m)
+-- a receiver that is told of a lost slot
+pub lost-at : (call : Call) {t : Terms} {p : ℕ} {k : Known} → standing call ≡ receiving t p k → lostOf call ≡ (Done, written (slotOn (receiving t p k)))
+unfolding lostOf lostRefusals
+lost-at call e = rw e
 
 -- ---- inside a session
 
 -- the same call one position on
 abbrev pub onward : Call → Call
-onward c = record { end = c .end; cipher = c .cipher; key = c .key; position = c .position + 1; vector = c .vector; known = c .known }
+onward c = callAt (c .end) (c .terms) (c .position + 1) (c .known) (c .vector)
 
 -- a call at either end that knows its vector
 pub record Running (c : Call) : Type 0 where
   pub good : goodCall c ≡ true
-  pub stands : c .end ≡ closedEnd → ⊥
-  pub known : c .known ≡ true
+  pub known : c .known ≡ unknownVector → ⊥
 
-not-last : (c p : ℕ) (v : List ℕ) → p + 1 < sessionSlots c → zeroAfter c p v ≡ false
-unfolding zeroAfter
-not-last c p v h = sym (every-fails (not (scrambles c) ∷ leb (sessionSlots c) (p + 1) ∷ allZero (nextVector v) ∷ []) 1 (lt-leb _ _ h))
+-- before its session's last slot a call that stands goes on in it
+abbrev Early : Call → Type 0
+Early c = c .position + 1 < sessionSlots (c .terms .cipher)
 
-module _ (c : Call) (known : c .known ≡ true) (early : c .position + 1 < sessionSlots (c .cipher)) where
-  sent-on : c .end ≡ sendingEnd → written (sent (c .cipher) (c .key) (c .position + 1) (c .vector)) ≡ onward c
-  unfolding sent
-  sent-on e = rw (lt-ltb _ _ early, e, known)
+slot-within : (s : Standing) → knows s ≡ true → Early (written s) → (stands s ≡ true) × (zeroNext s ≡ false) × (written (slotOn s) ≡ onward (written s))
+unfolding slotOn zeroAfter
+slot-within closed k early = absurd (false≢true k)
+slot-within bad k early = absurd (false≢true k)
+slot-within (sending t p v) k early = (
+  refl,
+  sym (every-fails (not (scrambles (t .cipher)) ∷ leb (sessionSlots (t .cipher)) (p + 1) ∷ allZero (nextVector v) ∷ []) 1 (lt-leb _ _ early)),
+  rw (lt-ltb _ _ early),
+)
+slot-within (receiving t p k) h early = (refl, refl, rw (lt-ltb _ _ early))
 
-  received-on : c .end ≡ receivingEnd → written (received (c .cipher) (c .key) (c .position + 1) true (c .vector)) ≡ onward c
-  unfolding received
-  received-on e = rw (lt-ltb _ _ early, e, known)
+module _ (c : Call) (r : Running c) where
+  knows-running : knows (standing c) ≡ true
+  knows-running = knows-yes c (r .known) ∙ r .good
 
-module _ (c : Call) (r : Running c) (mask : ℕ) (frame : List ℕ) (m : mask ≤ topMask) (l : length frame ≡ frameOctets)
-    (early : c .position + 1 < sessionSlots (c .cipher)) where
-  abbrev turned : List ℕ
-  turned = inSlot stream mask frame (c .cipher) (c .key) (c .position) (c .vector)
+  module _ (mask : ℕ) (frame : List ℕ) (m : mask ≤ topMask) (l : length frame ≡ frameOctets) (early : Early c) where
+    -- before a session's last slot the frame is turned and the position moves on, at either end
+    pub voice-within : voiceOf c mask frame ≡ (Done, (onward c, inSlot streamOf mask frame c))
+    voice-within =
+        let w = known-written c knows-running in
+        let h = slot-within (standing c) knows-running (rw w early) in
+        voice-at c mask frame m l (standing c) refl (h .0) (h .1)
+        ∙ ap (λ (t : Bool). (pick t Done Held, (written (slotOn (standing c)), pick t (inSlot streamOf mask frame (written (standing c))) frame))) knows-running
+        ∙ ap₂ (λ (d e : Call). (Done, (d, inSlot streamOf mask frame e))) (h .2 ∙ ap onward w) w
 
-  -- before a session's last slot the frame is turned and the position moves on, at either end
-  pub voice-within : voiceOf c mask frame ≡ (Done, (onward c, turned))
-  voice-within = go (good-stands c (r .good))
-    where
-      go : Stands c → voiceOf c mask frame ≡ (Done, (onward c, turned))
-      go (none o e s) = absurd (r .stands e)
-      go (sender o e s) =
-          voice-sent c mask frame m l (c .cipher) (c .key) (c .position) (c .vector) s (not-last (c .cipher) (c .position) (c .vector) early)
-          ∙ ap (λ (d : Call). (Done, (d, turned))) (sent-on c (r .known) early e)
-      go (receiver o e s) =
-          voice-heard c mask frame m l (c .cipher) (c .key) (c .position) (c .vector)
-          (s ∙ ap (λ (b : Bool). receiving (c .cipher) (c .key) (c .position) b (c .vector)) (r .known))
-          ∙ ap (λ (d : Call). (Done, (d, turned))) (received-on c (r .known) early e)
-
-  pub runs-on : Running (onward c)
-  runs-on =
-      record {
-        good = sym (ap (λ (o : Answer × (Call × List ℕ)). goodCall (o .1 .0)) voice-within) ∙ voice-good c (r .good) mask frame;
-        stands = r .stands;
-        known = r .known;
-      }
+    pub runs-on : Running (onward c)
+    runs-on =
+        record { good = sym (ap (λ (o : Answer × (Call × List ℕ)). goodCall (o .1 .0)) voice-within) ∙ voice-good c (r .good) mask frame; known = r .known }
 
 -- ---- half rate at 9600 bps: the second and fourth slots of a superframe have mask 0
 
@@ -112,10 +103,10 @@ module _ (c : Call) (r : Running c) (start : c .position ≡ 0) (m n : ℕ) (hm 
   abbrev pub three : Answer × (Call × List ℕ)
   three = voiceOf (two .1 .0) n third
 
-  enough : 4 ≤ sessionSlots (c .cipher)
-  enough = slots-four (c .cipher) (c .position) (inside c (r .good) (r .stands))
+  enough : 4 ≤ sessionSlots (c .terms .cipher)
+  enough = slots-four (c .terms .cipher) (c .position) (knows-inside c (knows-running c r))
 
-  early : (p : ℕ) → p < 3 → p + 1 < sessionSlots (c .cipher)
+  early : (p : ℕ) → p < 3 → p + 1 < sessionSlots (c .terms .cipher)
   early p h = let e = enough in omega arith
 
   runs-one : Running (onward c)
@@ -124,7 +115,7 @@ module _ (c : Call) (r : Running c) (start : c .position ≡ 0) (m n : ℕ) (hm 
   once : voiceOf c m first .1 .0 ≡ onward c
   once = ap (λ (o : Answer × (Call × List ℕ)). o .1 .0) (voice-within c r m first hm l (early (c .position) (omega arith)))
 
-  on-two : two ≡ (Done, (onward (onward c), inSlot stream 0 second (c .cipher) (c .key) (c .position + 1) (c .vector)))
+  on-two : two ≡ (Done, (onward (onward c), inSlot streamOf 0 second (onward c)))
   on-two =
       ap (λ (d : Call). voiceOf d 0 second) once
       ∙ voice-within (onward c) runs-one 0 second (omega arith) (f .long) (early (c .position + 1) (omega arith))
@@ -135,12 +126,12 @@ module _ (c : Call) (r : Running c) (start : c .position ≡ 0) (m n : ℕ) (hm 
   pub second-stays : two .1 .1 ≡ second
   second-stays =
       ap (λ (o : Answer × (Call × List ℕ)). o .1 .1) on-two
-      ∙ protect-none (ofSlot (stream (c .cipher) (c .key) (c .vector)) (c .position + 1)) 0 second f refl
+      ∙ protect-none (ofSlot (streamOf c) (c .position + 1)) 0 second f refl
 
-  pub third-turned : three .1 .1 ≡ protect (λ i. stream (c .cipher) (c .key) (c .vector) (392 + i)) n third
+  pub third-turned : three .1 .1 ≡ protect (λ i. streamOf c (392 + i)) n third
   third-turned =
       ap (λ (o : Answer × (Call × List ℕ)). voiceOf (o .1 .0) n third .1 .1) on-two
       ∙ ap (λ (o : Answer × (Call × List ℕ)). o .1 .1)
       (voice-within (onward (onward c)) runs-two n third hn l′ (early (c .position + 1 + 1) (omega arith)))
-      ∙ protect-same (ofSlot (stream (c .cipher) (c .key) (c .vector)) (c .position + 1 + 1)) (λ i. stream (c .cipher) (c .key) (c .vector) (392 + i)) n
-      (λ i h. let e : slotBits * (c .position + 1 + 1) + i ≡ 392 + i = omega arith in ap (stream (c .cipher) (c .key) (c .vector)) e) third
+      ∙ protect-same (ofSlot (streamOf c) (c .position + 1 + 1)) (λ i. streamOf c (392 + i)) n
+      (λ i h. let e : slotBits * (c .position + 1 + 1) + i ≡ 392 + i = omega arith in ap (streamOf c) e) third

@@ -7,43 +7,36 @@ use Rattle.generator.specs.Generator.{nextVector}
 use Rattle.answers.specs.declared.Answer.the-variants.{Done}
 use Rattle.answers.proofs.OutcomeLaws.{NoneHolds, none-settles, Refuses, answerAt, refused-at}
 use Rattle.voice.specs.declared.call.Call.{Call}
-use Rattle.voice.specs.Call.{sendingEnd, receivingEnd, goodCall, Standing, receiving, standing, written}
-use Rattle.voice.specs.Vector.{awaits, told, announceRefusals, announceOf, generates, following, nextRefusals, nextVectorOf}
-use Rattle.voice.proofs.CallLaws.{Stands, none, sender, receiver, good-stands, unless-receiver, unless-sender}
+use Rattle.voice.specs.Call.{sendingEnd, receivingEnd, goodCall, told, Standing, receiving, standing, written}
+use Rattle.voice.specs.Vector.{awaits, withVector, announceRefusals, announceOf, generates, following, nextRefusals, nextVectorOf}
+use Rattle.voice.proofs.CallLaws.{by-stands, unless-receiver, unless-sender}
 
 module _ (c : Call) (good : goodCall c ≡ true) where
   pub awaits-not : (c .end ≡ receivingEnd → ⊥) → awaits (standing c) ≡ false
-  awaits-not = unless-receiver c good awaits refl (λ n k p v. refl)
+  awaits-not = unless-receiver c good awaits refl (λ t p v. refl)
 
   pub generates-not : (c .end ≡ sendingEnd → ⊥) → generates (standing c) ≡ false
-  generates-not = unless-sender c good generates refl (λ n k p b v. refl)
+  generates-not = unless-sender c good generates refl (λ t p k. refl)
 
   -- the struct of a receiver that has been told w
   pub told-is : awaits (standing c) ≡ true → (w : List ℕ)
-      → written (told w (standing c)) ≡ written (receiving (c .cipher) (c .key) (c .position) true w)
-  told-is a w = go (good-stands c good)
-    where
-      go : Stands c → written (told w (standing c)) ≡ written (receiving (c .cipher) (c .key) (c .position) true w)
-      go (none o e s) = absurd (true≢false (sym a ∙ ap awaits s))
-      go (sender o e s) = absurd (true≢false (sym a ∙ ap awaits s))
-      go (receiver o e s) = ap (λ (t : Standing). written (told w t)) s
+      → written (withVector w (standing c)) ≡ written (receiving (c .terms) (c .position) (told w))
+  told-is a w =
+      by-stands c good (λ o e s. absurd (true≢false (sym a ∙ ap awaits s))) (λ o e s. absurd (true≢false (sym a ∙ ap awaits s)))
+      (λ o e s. ap (λ (t : Standing). written (withVector w t)) s)
 
   pub following-is : generates (standing c) ≡ true → following (standing c) ≡ nextVector (c .vector)
-  following-is a = go (good-stands c good)
-    where
-      go : Stands c → following (standing c) ≡ nextVector (c .vector)
-      go (none o e s) = absurd (true≢false (sym a ∙ ap generates s))
-      go (sender o e s) = ap following s
-      go (receiver o e s) = absurd (true≢false (sym a ∙ ap generates s))
+  following-is a =
+      by-stands c good (λ o e s. absurd (true≢false (sym a ∙ ap generates s))) (λ o e s. ap following s) (λ o e s. absurd (true≢false (sym a ∙ ap generates s)))
 
 module _ (c : Call) (w : List ℕ) where
   pub announce-refused : (n : ℕ) → Refuses (announceRefusals (standing c) w) n → (answerAt (announceRefusals (standing c) w) n, c) ≡ announceOf c w
   unfolding announceOf
-  announce-refused = refused-at c (announceRefusals (standing c) w) (Done, written (told w (standing c)))
+  announce-refused = refused-at c (announceRefusals (standing c) w) (Done, written (withVector w (standing c)))
 
-  pub announce-done : NoneHolds (announceRefusals (standing c) w) → (Done, written (told w (standing c))) ≡ announceOf c w
+  pub announce-done : NoneHolds (announceRefusals (standing c) w) → (Done, written (withVector w (standing c))) ≡ announceOf c w
   unfolding announceOf
-  announce-done n = sym (none-settles (announceRefusals (standing c) w) c (Done, written (told w (standing c))) n)
+  announce-done n = sym (none-settles (announceRefusals (standing c) w) c (Done, written (withVector w (standing c))) n)
 
 module _ (c : Call) (out : List ℕ) where
   pub next-refused : (n : ℕ) → Refuses (nextRefusals (standing c) out) n → (answerAt (nextRefusals (standing c) out) n, out) ≡ nextVectorOf c out

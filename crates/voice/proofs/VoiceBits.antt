@@ -8,11 +8,10 @@ use native.Mathlib.Omega.{arith}
 use lib.ListN.{length}
 use Rattle.octets.specs.Bits.{bit, flip}
 use Rattle.answers.specs.Numbers.{numberOf}
-use Rattle.ciphers.specs.Keystream.{stream}
 use Rattle.voice.specs.declared.call.Call.{Call}
 use Rattle.sizes.specs.Frame.{words, wordBits, speechBits, frameOctets, slotBits}
 use Rattle.voice.specs.Frame.{IsFrame, inMask, ofSlot, protect}
-use Rattle.voice.specs.Slot.{voiceOf}
+use Rattle.voice.specs.Slot.{streamOf, voiceOf}
 use Rattle.voice.proofs.FrameLaws.{protect-frame, speech-bit, other-bit}
 use Rattle.voice.proofs.SlotLaws.{none-long, voice-taken, done-turned, undone-stays}
 
@@ -23,24 +22,24 @@ module _ (c : Call) (mask : ℕ) (frame : List ℕ) where
 
   -- the slot's bits of the keystream
   abbrev slot : ℕ → ℕ
-  slot = ofSlot (stream (c .cipher) (c .key) (c .vector)) (c .position)
+  slot = ofSlot (streamOf c) (c .position)
 
   module _ (done : numberOf (voiceOf c mask frame .0) ≡ 0) where
     turned : after ≡ protect slot mask frame
-    turned = done-turned stream c mask frame done
+    turned = done-turned streamOf c mask frame done
 
     long : length frame ≡ frameOctets
-    long = none-long c mask frame (voice-taken stream c mask frame (omega arith))
+    long = none-long c mask frame (voice-taken streamOf c mask frame (omega arith))
 
     pub whole-frame : IsFrame after
     whole-frame = subst IsFrame (sym turned) (protect-frame slot mask frame long)
 
     -- bit j of word w is turned, where it is speech and the mask has the word, by stream bit 196 p + 49 w + j
     pub speech-turned : (w j : ℕ) → w < words → j < speechBits → inMask mask w ≡ true
-        → bit after (wordBits * w + j) ≡ flip (bit frame (wordBits * w + j)) (stream (c .cipher) (c .key) (c .vector) (slotBits * c .position + speechBits * w + j))
+        → bit after (wordBits * w + j) ≡ flip (bit frame (wordBits * w + j)) (streamOf c (slotBits * c .position + speechBits * w + j))
     speech-turned w j hw hj e =
         ap (λ (f : List ℕ). bit f (wordBits * w + j)) turned
-        ∙ speech-bit (stream (c .cipher) (c .key) (c .vector)) (c .position) mask frame long w hw j hj e
+        ∙ speech-bit (streamOf c) (c .position) mask frame long w hw j hj e
 
     -- every other bit is as it came: the last seven of each word, and the words outside the mask
     pub rest-stays : (w j : ℕ) → w < words → j < wordBits → (speechBits ≤ j) ⊎ (inMask mask w ≡ false) → bit after (wordBits * w + j) ≡ bit frame (wordBits * w + j)
@@ -48,4 +47,4 @@ module _ (c : Call) (mask : ℕ) (frame : List ℕ) where
 
   -- a held frame is as it came
   pub held-stays : numberOf (voiceOf c mask frame .0) ≡ 1 → after ≡ frame
-  held-stays o = undone-stays stream c mask frame (λ z. omega arith)
+  held-stays o = undone-stays streamOf c mask frame (λ z. omega arith)

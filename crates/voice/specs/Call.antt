@@ -10,6 +10,7 @@ use Rattle.sizes.specs.Ciphers.{sessionSlots, keyRoom, noVector, scrambles}
 use Rattle.answers.specs.declared.Answer.{Answer}
 use Rattle.answers.specs.declared.Answer.the-variants.{Bad, NotNow}
 use Rattle.answers.specs.Outcomes.{Refusals, outcome}
+use Rattle.voice.specs.declared.call.Terms.{Terms}
 use Rattle.voice.specs.declared.call.Call.{Call}
 use Rattle.ciphers.specs.Keys.{keyRight}
 
@@ -24,23 +25,30 @@ sendingEnd = 1
 abbrev pub receivingEnd : ℕ
 receivingEnd = 2
 
+abbrev pub unknownVector : ℕ
+unknownVector = 0
+
+abbrev pub toldVector : ℕ
+toldVector = 1
+
 -- ---- the rules
 
--- a scramble vector is always known and zeros; a sender's DES or AES vector is known and not zero; an unknown one is kept as zeros
-unfoldable pub vectorRight : ℕ → ℕ → Bool → Bool → Bool
+-- a scramble vector is always told and zeros; a sender's DES or AES vector is told and not zero; an unknown one is kept as zeros
+unfoldable pub vectorRight : ℕ → ℕ → ℕ → Bool → Bool
 vectorRight end cipher known zeros =
-    pick (scrambles cipher) (known && zeros) (pick (eqb end sendingEnd) (known && not zeros) (known || zeros))
+    pick (scrambles cipher) (eqb known toldVector && zeros)
+    (pick (eqb end sendingEnd) (eqb known toldVector && not zeros) (pick (eqb known unknownVector) zeros (eqb known toldVector)))
 
 -- closed, all else zero
 unfoldable pub closedTests : Call → List Bool
 closedTests c =
-    eqb (c .end) closedEnd ∷ eqb (c .cipher) 0 ∷ eqb (c .position) 0 ∷ not (c .known) ∷ allZero (c .key) ∷ allZero (c .vector) ∷ []
+    eqb (c .end) closedEnd ∷ eqb (c .terms .cipher) 0 ∷ eqb (c .position) 0 ∷ eqb (c .known) unknownVector ∷ allZero (c .terms .key) ∷ allZero (c .vector) ∷ []
 
--- its end, cipher, allowed key, position inside the session, and vector with whether it is known
+-- its end, cipher, allowed key, position inside the session, and vector with what is known of it
 unfoldable pub openTests : Call → List Bool
 openTests c =
-    leb sendingEnd (c .end) ∷ leb (c .end) receivingEnd ∷ keyRight (c .cipher) (c .key) ∷ ltb (c .position) (sessionSlots (c .cipher))
-    ∷ vectorRight (c .end) (c .cipher) (c .known) (allZero (c .vector)) ∷ []
+    leb sendingEnd (c .end) ∷ leb (c .end) receivingEnd ∷ keyRight (c .terms .cipher) (c .terms .key)
+    ∷ ltb (c .position) (sessionSlots (c .terms .cipher)) ∷ vectorRight (c .end) (c .terms .cipher) (c .known) (allZero (c .vector)) ∷ []
 
 unfoldable pub isClosed : Call → Bool
 isClosed c = every (closedTests c)
@@ -54,50 +62,88 @@ goodCall c = isClosed c || isOpen c
 
 -- ---- what a call stands for
 
--- cipher, key, position and vector of the session; of a receiver also whether the vector is known
+-- what a receiver knows of its session's vector
+pub data Known : Type 0 where
+  unknown : Known
+  told : List ℕ → Known
+
+abbrev pub isKnown : Known → Bool
+isKnown unknown = false
+isKnown (told v) = true
+
+-- its number and vector in the struct, and back
+abbrev pub knownNumber : Known → ℕ
+knownNumber unknown = unknownVector
+knownNumber (told v) = toldVector
+
+abbrev pub knownVector : Known → List ℕ
+knownVector unknown = noVector
+knownVector (told v) = v
+
+abbrev pub knownBy : ℕ → List ℕ → Known
+knownBy known v = pick (eqb known unknownVector) unknown (told v)
+
+-- where no vector was told, scramble's is zeros all the same
+abbrev pub untold : ℕ → Known
+untold cipher = pick (scrambles cipher) (told noVector) unknown
+
+-- what the opening fixed, position, and the session's vector or what is known of it
 pub data Standing : Type 0 where
   closed bad : Standing
-  sending : ℕ → List ℕ → ℕ → List ℕ → Standing
-  receiving : ℕ → List ℕ → ℕ → Bool → List ℕ → Standing
+  sending : Terms → ℕ → List ℕ → Standing
+  receiving : Terms → ℕ → Known → Standing
 
 unfoldable pub standing : Call → Standing
 standing c =
     pick (isClosed c) closed
     (pick (isOpen c)
     (pick (eqb (c .end) sendingEnd)
-    (sending (c .cipher) (c .key) (c .position) (c .vector))
-    (receiving (c .cipher) (c .key) (c .position) (c .known) (c .vector)))
+    (sending (c .terms) (c .position) (c .vector))
+    (receiving (c .terms) (c .position) (knownBy (c .known) (c .vector))))
     bad)
+
+abbrev pub termsOf : ℕ → List ℕ → Terms
+termsOf cipher key = record { cipher = cipher; key = key }
+
+abbrev pub callAt : ℕ → Terms → ℕ → ℕ → List ℕ → Call
+callAt end t p known v = record { end = end; terms = t; position = p; known = known; vector = v }
 
 -- no call: all zero
 abbrev pub noCall : Call
-noCall = record { end = closedEnd; cipher = 0; key = replicate keyRoom 0; position = 0; vector = noVector; known = false }
+noCall = callAt closedEnd (termsOf 0 (replicate keyRoom 0)) 0 unknownVector noVector
 
 -- the one struct for what a call stands for (there is none for bad: no operation leaves a bad call but as it was)
 abbrev pub written : Standing → Call
 written closed = noCall
 written bad = noCall
-written (sending c k p v) = record { end = sendingEnd; cipher = c; key = k; position = p; vector = v; known = true }
-written (receiving c k p known v) = record { end = receivingEnd; cipher = c; key = k; position = p; vector = v; known = known }
+written (sending t p v) = callAt sendingEnd t p toldVector v
+written (receiving t p k) = callAt receivingEnd t p (knownNumber k) (knownVector k)
 
 abbrev pub isBad : Standing → Bool
 isBad closed = false
 isBad bad = true
-isBad (sending c k p v) = false
-isBad (receiving c k p known v) = false
+isBad (sending t p v) = false
+isBad (receiving t p k) = false
 
 -- a call stands
 abbrev pub stands : Standing → Bool
 stands closed = false
 stands bad = false
-stands (sending c k p v) = true
-stands (receiving c k p known v) = true
+stands (sending t p v) = true
+stands (receiving t p k) = true
 
 abbrev pub receives : Standing → Bool
 receives closed = false
 receives bad = false
-receives (sending c k p v) = false
-receives (receiving c k p known v) = true
+receives (sending t p v) = false
+receives (receiving t p k) = true
+
+-- a call stands and its session's vector is known
+abbrev pub knows : Standing → Bool
+knows closed = false
+knows bad = false
+knows (sending t p v) = true
+knows (receiving t p k) = isKnown k
 
 -- ---- its end
 

@@ -1,14 +1,16 @@
 -- How a call begins (document 01, "Voice"): open, join and start.
 use mathlib.Core.List.{List}
-use mathlib.Core.Bool.{true, false}
+use mathlib.Core.Bool.{true}
 use Prim.Native.Nat.{ℕ}
+use lib.Dec.{eqb}
 use Rattle.octets.specs.Tests.{pick}
 use Rattle.answers.specs.declared.Answer.{Answer}
 use Rattle.answers.specs.Outcomes.{Refusals, outcome}
+use Rattle.voice.specs.declared.call.Terms.{Terms}
 use Rattle.voice.specs.declared.call.Call.{Call}
-use Rattle.sizes.specs.Ciphers.{noVector, scrambles}
+use Rattle.sizes.specs.Ciphers.{scrambles}
 use Rattle.openings.specs.Ladder.{sessionVector, keyFor, keyRefusals, vectorRefusals}
-use Rattle.voice.specs.Call.{sendingEnd, receivingEnd, Standing, receiving, standing, written, isBad, stands}
+use Rattle.voice.specs.Call.{sendingEnd, receivingEnd, told, untold, Standing, sending, receiving, standing, termsOf, written, isBad, stands}
 
 -- the slots of a superframe
 abbrev pub superframeSlots : ℕ
@@ -22,12 +24,13 @@ joinRefusals s c i b = keyRefusals true (isBad s) (stands s) c i b
 unfoldable pub openRefusals : Standing → ℕ → ℕ → List ℕ → List ℕ → Refusals
 openRefusals s c i w b = vectorRefusals true (isBad s) (stands s) c i w b
 
--- a call at one of its ends, at position 0 of its first session, vector known
-abbrev pub begun : ℕ → ℕ → List ℕ → List ℕ → Call
-begun end c w k = record { end = end; cipher = c; key = k; position = 0; vector = sessionVector c w; known = true }
+-- a call at one of its ends, at position 0 of its first session, vector told
+abbrev pub begun : ℕ → Terms → List ℕ → Standing
+begun end t v = pick (eqb end sendingEnd) (sending t 0 v) (receiving t 0 (told v))
 
 abbrev pub begunOf : ℕ → Call → ℕ → ℕ → List ℕ → List ℕ → Answer × Call
-begunOf end call c i w b = outcome call (openRefusals (standing call) c i w b) (begun end c w (keyFor b c i))
+begunOf end call c i w b =
+    outcome call (openRefusals (standing call) c i w b) (written (begun end (termsOf c (keyFor b c i)) (sessionVector c w)))
 
 unfoldable pub openOf : Call → ℕ → ℕ → List ℕ → List ℕ → Answer × Call
 openOf = begunOf receivingEnd
@@ -37,8 +40,8 @@ unfoldable pub startOf : Call → ℕ → ℕ → List ℕ → List ℕ → Answ
 startOf = begunOf sendingEnd
 
 -- a receiver at the end of a first superframe: scramble is at position 0 and running; DES and AES are at position 4, vector unknown
-abbrev pub joined : ℕ → List ℕ → Standing
-joined c k = pick (scrambles c) (receiving c k 0 true noVector) (receiving c k superframeSlots false noVector)
+abbrev pub joined : Terms → Standing
+joined t = receiving t (pick (scrambles (t .cipher)) 0 superframeSlots) (untold (t .cipher))
 
 unfoldable pub joinOf : Call → ℕ → ℕ → List ℕ → Answer × Call
-joinOf call c i b = outcome call (joinRefusals (standing call) c i b) (written (joined c (keyFor b c i)))
+joinOf call c i b = outcome call (joinRefusals (standing call) c i b) (written (joined (termsOf c (keyFor b c i))))

@@ -1,6 +1,6 @@
 -- Vectors of a call (document 01, "Voice"): one announced to a receiver, and the next one of a sender.
 use mathlib.Core.List.{List, [], _∷_}
-use mathlib.Core.Bool.{Bool, true, false, _&&_, not}
+use mathlib.Core.Bool.{Bool, false, _&&_, not}
 use Prim.Native.Nat.{ℕ}
 use lib.Dec.{eqb}
 use lib.ListN.{length}
@@ -11,7 +11,7 @@ use Rattle.answers.specs.Outcomes.{Refusals, outcome}
 use Rattle.generator.specs.Generator.{nextVector}
 use Rattle.voice.specs.declared.call.Call.{Call}
 use Rattle.sizes.specs.Ciphers.{vectorOctets, noVector, scrambles}
-use Rattle.voice.specs.Call.{Standing, closed, bad, sending, receiving, standing, written, isBad}
+use Rattle.voice.specs.Call.{isKnown, told, Standing, closed, bad, sending, receiving, standing, written, isBad}
 
 -- ---- announce
 
@@ -19,15 +19,15 @@ use Rattle.voice.specs.Call.{Standing, closed, bad, sending, receiving, 
 abbrev pub awaits : Standing → Bool
 awaits closed = false
 awaits bad = false
-awaits (sending c k p v) = false
-awaits (receiving c k p known v) = not (scrambles c) && (eqb p 0 && not known)
+awaits (sending t p v) = false
+awaits (receiving t p k) = not (scrambles (t .cipher)) && (eqb p 0 && not (isKnown k))
 
 -- a receiver that has been told its vector
-abbrev pub told : List ℕ → Standing → Standing
-told w closed = closed
-told w bad = bad
-told w (sending c k p v) = sending c k p v
-told w (receiving c k p known v) = receiving c k p true w
+abbrev pub withVector : List ℕ → Standing → Standing
+withVector w closed = closed
+withVector w bad = bad
+withVector w (sending t p v) = sending t p v
+withVector w (receiving t p k) = receiving t p (told w)
 
 -- 2, 4, 9, 8
 unfoldable pub announceRefusals : Standing → List ℕ → Refusals
@@ -35,7 +35,7 @@ announceRefusals s w =
     (not (eqb (length w) vectorOctets), WrongLength) ∷ (isBad s, Bad) ∷ (not (awaits s), NotNow) ∷ (allZero w, ZeroVector) ∷ []
 
 unfoldable pub announceOf : Call → List ℕ → Answer × Call
-announceOf c w = outcome c (announceRefusals (standing c) w) (written (told w (standing c)))
+announceOf c w = outcome c (announceRefusals (standing c) w) (written (withVector w (standing c)))
 
 -- ---- next vector
 
@@ -43,15 +43,15 @@ announceOf c w = outcome c (announceRefusals (standing c) w) (written (told w (s
 abbrev pub generates : Standing → Bool
 generates closed = false
 generates bad = false
-generates (sending c k p v) = not (scrambles c)
-generates (receiving c k p known v) = false
+generates (sending t p v) = not (scrambles (t .cipher))
+generates (receiving t p k) = false
 
 -- L(S) of the current session
 abbrev pub following : Standing → List ℕ
 following closed = noVector
 following bad = noVector
-following (sending c k p v) = nextVector v
-following (receiving c k p known v) = noVector
+following (sending t p v) = nextVector v
+following (receiving t p k) = noVector
 
 -- 2, 4, 9 (no call, scramble, receiving), 14
 unfoldable pub nextRefusals : Standing → List ℕ → Refusals

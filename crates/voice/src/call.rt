@@ -1,6 +1,6 @@
 // A call by value, the rules that a good one keeps, and its end.
 ghost use mathlib.Core.Path.{_≡_};
-ghost use Rattle.voice.specs.Call.{vectorRight, isClosed, isOpen, goodCall, noCall, endOf};
+ghost use Rattle.voice.specs.Call.{receivingEnd, vectorRight, isClosed, isOpen, goodCall, knownNumber, untold, sending, callAt, noCall, written, endOf};
 use answers::Answer;
 use ciphers::key::key_right;
 use octets::all_zero;
@@ -16,14 +16,24 @@ pub const SENDING: u8 = 1;
 
 pub const RECEIVING: u8 = 2;
 
-// Closed is all zero. A scramble vector is known and zeros, an unknown vector is zeros.
-pub struct Call {
-    pub end: u8,
+// What is known of a session's vector.
+pub const UNKNOWN: u8 = 0;
+
+pub const TOLD: u8 = 1;
+
+// What an opening fixes.
+pub struct Terms {
     pub cipher: u8,
     pub key: [u8; KEY_ROOM],
+}
+
+// Closed is all zero. A scramble vector is told and zeros, an unknown vector is zeros.
+pub struct Call {
+    pub end: u8,
+    pub terms: Terms,
     pub position: u8,
+    pub known: u8,
     pub vector: [u8; VECTOR_OCTETS],
-    pub known: bool,
 }
 
 // What an operation answers, and the call after it.
@@ -34,25 +44,25 @@ pub struct Stepped {
 
 // ---- the rules
 
-fn vector_right(end: u8, cipher: u8, known: bool, zeros: bool) -> bool
+fn vector_right(end: u8, cipher: u8, known: u8, zeros: bool) -> bool
     ensures { λ r. ⌜ r ≡ vectorRight end cipher known zeros ⌝ }
 {
     if cipher == Scramble::TYPE {
-        if known {
+        if known == TOLD {
             return zeros;
         }
         return false;
     }
     if end == SENDING {
-        if known {
+        if known == TOLD {
             return !zeros;
         }
         return false;
     }
-    if known {
-        return true;
+    if known == UNKNOWN {
+        return zeros;
     }
-    zeros
+    known == TOLD
 }
 
 fn is_closed(call: Call) -> bool
@@ -61,16 +71,16 @@ fn is_closed(call: Call) -> bool
     if call.end != CLOSED {
         return false;
     }
-    if call.cipher != 0 {
+    if call.terms.cipher != 0 {
         return false;
     }
     if call.position != 0 {
         return false;
     }
-    if call.known {
+    if call.known != UNKNOWN {
         return false;
     }
-    let key = call.key;
+    let key = call.terms.key;
     if !all_zero(&key) {
         return false;
     }
@@ -87,15 +97,15 @@ fn is_open(call: Call) -> bool
     if call.end > RECEIVING {
         return false;
     }
-    let key = call.key;
-    if !key_right(call.cipher, key) {
+    let key = call.terms.key;
+    if !key_right(call.terms.cipher, key) {
         return false;
     }
-    if wide(call.position) >= session_slots(call.cipher) {
+    if wide(call.position) >= session_slots(call.terms.cipher) {
         return false;
     }
     let vector = call.vector;
-    vector_right(call.end, call.cipher, call.known, all_zero(&vector))
+    vector_right(call.end, call.terms.cipher, call.known, all_zero(&vector))
 }
 
 pub fn good_call(call: Call) -> bool
@@ -107,35 +117,74 @@ pub fn good_call(call: Call) -> bool
     is_open(call)
 }
 
-// ---- its end
+// ---- a call made
 
 pub fn no_call() -> Call
     ensures { λ r. ⌜ r ≡ noCall ⌝ }
 {
     Call {
         end: CLOSED,
-        cipher: 0,
-        key: [0; KEY_ROOM],
+        terms: Terms {
+            cipher: 0,
+            key: [0; KEY_ROOM],
+        },
         position: 0,
+        known: UNKNOWN,
         vector: [0; VECTOR_OCTETS],
-        known: false,
     }
+}
+
+pub(crate) fn sender(terms: Terms, position: u8, vector: [u8; VECTOR_OCTETS]) -> Call
+    ensures { λ r. ⌜ r ≡ written (sending terms position vector) ⌝ }
+{
+    Call {
+        end: SENDING,
+        terms,
+        position,
+        known: TOLD,
+        vector,
+    }
+}
+
+pub(crate) fn receiver(terms: Terms, position: u8, known: u8, vector: [u8; VECTOR_OCTETS]) -> Call
+    ensures { λ r. ⌜ r ≡ callAt receivingEnd terms position known vector ⌝ }
+{
+    Call {
+        end: RECEIVING,
+        terms,
+        position,
+        known,
+        vector,
+    }
+}
+
+// What is known of a vector that was not told. Scramble's is zeros all the same.
+pub(crate) fn untold(cipher: u8) -> u8
+    ensures { λ r. ⌜ r ≡ knownNumber (untold cipher) ⌝ }
+{
+    if cipher == Scramble::TYPE {
+        return TOLD;
+    }
+    UNKNOWN
+}
+
+// ---- its end
+
+// What a refusal leaves: the call as it was.
+pub(crate) fn refused(answer: Answer, call: Call) -> Stepped
+    ensures { λ r. ⌜ (r .answer ≡ answer) × (r .call ≡ call) ⌝ }
+{
+    Stepped { answer, call }
 }
 
 pub fn end(call: Call) -> Stepped
     ensures { λ r. ⌜ (r .answer, r .call) ≡ endOf call ⌝ }
 {
     if !good_call(call) {
-        return Stepped {
-            answer: Answer::Bad,
-            call,
-        };
+        return refused(Answer::Bad, call);
     }
     if call.end == CLOSED {
-        return Stepped {
-            answer: Answer::NotNow,
-            call,
-        };
+        return refused(Answer::NotNow, call);
     }
     Stepped {
         answer: Answer::Done,

@@ -1,24 +1,38 @@
 // How a call begins: open, join and start. The call has its own copy of the key.
 ghost use mathlib.Core.Path.{_≡_};
 ghost use Rattle.voice.specs.Call.{written};
-ghost use Rattle.voice.specs.Opening.{joined, joinOf, begunOf, openOf, startOf};
+ghost use Rattle.voice.specs.Opening.{begun, begunOf, openOf, startOf, joined, joinOf};
 use crate::call::CLOSED;
 use crate::call::Call;
 use crate::call::RECEIVING;
 use crate::call::SENDING;
 use crate::call::Stepped;
+use crate::call::TOLD;
+use crate::call::Terms;
 use crate::call::good_call;
+use crate::call::receiver;
+use crate::call::refused;
+use crate::call::sender;
+use crate::call::untold;
 use answers::Answer;
 use openings::opening_key;
 use openings::opening_key_with;
 use openings::session_vector;
-use sizes::cipher::KEY_ROOM;
 use sizes::cipher::Scramble;
 use sizes::cipher::VECTOR_OCTETS;
 
 const SUPERFRAME_SLOTS: u8 = 4;
 
-// A call at one of its ends, at position 0 with its vector known.
+// A call at one of its ends, at position 0 with its vector told.
+fn begun(end: u8, terms: Terms, vector: [u8; VECTOR_OCTETS]) -> Call
+    ensures { λ r. ⌜ r ≡ written (begun end terms vector) ⌝ }
+{
+    if end == SENDING {
+        return sender(terms, 0, vector);
+    }
+    receiver(terms, 0, TOLD, vector)
+}
+
 fn begin(end: u8, call: Call, cipher: u8, id: u8, vector: &[u8], book: &[u8]) -> Stepped
     ensures { λ r. ⌜ (r .answer, r .call) ≡ begunOf end call cipher id (now (vector .entry)) (now (book .entry)) ⌝ }
 {
@@ -33,19 +47,12 @@ fn begin(end: u8, call: Call, cipher: u8, id: u8, vector: &[u8], book: &[u8]) ->
     );
     let answer = ready.answer;
     if answer.number() != 0 {
-        return Stepped { answer, call };
+        return refused(answer, call);
     }
     let key = ready.key;
     Stepped {
         answer: Answer::Done,
-        call: Call {
-            end,
-            cipher,
-            key,
-            position: 0,
-            vector: session_vector(cipher, vector),
-            known: true,
-        },
+        call: begun(end, Terms { cipher, key }, session_vector(cipher, vector)),
     }
 }
 
@@ -62,27 +69,14 @@ pub fn start(call: Call, cipher: u8, id: u8, vector: &[u8], book: &[u8]) -> Step
 }
 
 // A receiver at the end of a first superframe.
-fn joining(cipher: u8, key: [u8; KEY_ROOM]) -> Call
-    ensures { λ r. ⌜ r ≡ written (joined cipher key) ⌝ }
+fn joining(terms: Terms) -> Call
+    ensures { λ r. ⌜ r ≡ written (joined terms) ⌝ }
 {
-    if cipher == Scramble::TYPE {
-        return Call {
-            end: RECEIVING,
-            cipher,
-            key,
-            position: 0,
-            vector: [0; VECTOR_OCTETS],
-            known: true,
-        };
+    let known = untold(terms.cipher);
+    if terms.cipher == Scramble::TYPE {
+        return receiver(terms, 0, known, [0; VECTOR_OCTETS]);
     }
-    Call {
-        end: RECEIVING,
-        cipher,
-        key,
-        position: SUPERFRAME_SLOTS,
-        vector: [0; VECTOR_OCTETS],
-        known: false,
-    }
+    receiver(terms, SUPERFRAME_SLOTS, known, [0; VECTOR_OCTETS])
 }
 
 pub fn join(call: Call, cipher: u8, id: u8, book: &[u8]) -> Stepped
@@ -91,11 +85,11 @@ pub fn join(call: Call, cipher: u8, id: u8, book: &[u8]) -> Stepped
     let ready = opening_key(true, !good_call(call), call.end != CLOSED, cipher, id, book);
     let answer = ready.answer;
     if answer.number() != 0 {
-        return Stepped { answer, call };
+        return refused(answer, call);
     }
     let key = ready.key;
     Stepped {
         answer: Answer::Done,
-        call: joining(cipher, key),
+        call: joining(Terms { cipher, key }),
     }
 }

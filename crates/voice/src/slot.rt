@@ -4,22 +4,27 @@ ghost use Prim.Native.Nat.{_+_, _<_};
 ghost use lib.ListN.{length};
 ghost use mathlib.Core.Bool.{true};
 ghost use Rattle.sizes.specs.Ciphers.{sessionSlots};
-ghost use Rattle.ciphers.specs.Keystream.{stream};
 ghost use Rattle.sizes.specs.Frame.{frameOctets};
-ghost use Rattle.voice.specs.Call.{closedEnd, goodCall, standing, written};
-ghost use Rattle.voice.specs.Slot.{goingOn, received, sent, slotOn, lostOf, zeroAfter, inSlot, voiceOf, voiceByOctets, withoutFrame, sessionStreamOf};
+ghost use Rattle.octets.specs.Lists.{allZero};
+ghost use Rattle.voice.specs.Call.{closedEnd, receivingEnd, vectorRight, goodCall, knownBy, sending, receiving, standing, written};
+ghost use Rattle.voice.specs.Slot.{goingOn, slotOn, lostOf, zeroAfter, streamOf, inSlot, voiceOf, voiceByOctets, withoutFrame, sessionStreamOf};
 use crate::call::CLOSED;
 use crate::call::Call;
 use crate::call::RECEIVING;
 use crate::call::SENDING;
 use crate::call::Stepped;
+use crate::call::Terms;
+use crate::call::UNKNOWN;
 use crate::call::good_call;
+use crate::call::receiver;
+use crate::call::refused;
+use crate::call::sender;
+use crate::call::untold;
 use crate::frame::turn_frame;
 use answers::Answer;
 use ciphers::keystream::keystream;
 use octets::all_zero;
 use octets::wide;
-use sizes::cipher::KEY_ROOM;
 use sizes::cipher::Scramble;
 use sizes::cipher::VECTOR_OCTETS;
 use sizes::cipher::session_slots;
@@ -36,35 +41,15 @@ const TOP_MASK: u8 = 15;
 // ---- a slot on
 
 // A receiver after a slot.
-fn receiver_on(
-    cipher: u8,
-    key: [u8; KEY_ROOM],
-    position: u8,
-    known: bool,
-    vector: [u8; VECTOR_OCTETS],
-) -> Call
-    requires { ⌜ position < sessionSlots cipher ⌝ }
-    ensures { λ r. ⌜ r ≡ written (received cipher key (position + 1) known vector) ⌝ }
+fn receiver_on(terms: Terms, position: u8, known: u8, vector: [u8; VECTOR_OCTETS]) -> Call
+    requires { ⌜ (position < sessionSlots (terms .cipher)) × (vectorRight receivingEnd (terms .cipher) known (allZero vector) ≡ true) ⌝ }
+    ensures { λ r. ⌜ r ≡ written (slotOn (receiving terms position (knownBy known vector))) ⌝ }
 {
     let heard = position + 1;
-    if wide(heard) < session_slots(cipher) {
-        return Call {
-            end: RECEIVING,
-            cipher,
-            key,
-            position: heard,
-            vector,
-            known,
-        };
+    if wide(heard) < session_slots(terms.cipher) {
+        return receiver(terms, heard, known, vector);
     }
-    Call {
-        end: RECEIVING,
-        cipher,
-        key,
-        position: 0,
-        vector: [0; VECTOR_OCTETS],
-        known: cipher == Scramble::TYPE,
-    }
+    receiver(terms, 0, untold(terms.cipher), [0; VECTOR_OCTETS])
 }
 
 // The vector of a sender's next session.
@@ -78,29 +63,15 @@ fn going_on(cipher: u8, vector: [u8; VECTOR_OCTETS]) -> [u8; VECTOR_OCTETS]
 }
 
 // A sender after a slot.
-fn sender_on(cipher: u8, key: [u8; KEY_ROOM], position: u8, vector: [u8; VECTOR_OCTETS]) -> Call
-    requires { ⌜ position < sessionSlots cipher ⌝ }
-    ensures { λ r. ⌜ r ≡ written (sent cipher key (position + 1) vector) ⌝ }
+fn sender_on(terms: Terms, position: u8, vector: [u8; VECTOR_OCTETS]) -> Call
+    requires { ⌜ position < sessionSlots (terms .cipher) ⌝ }
+    ensures { λ r. ⌜ r ≡ written (slotOn (sending terms position vector)) ⌝ }
 {
     let sent = position + 1;
-    if wide(sent) < session_slots(cipher) {
-        return Call {
-            end: SENDING,
-            cipher,
-            key,
-            position: sent,
-            vector,
-            known: true,
-        };
+    if wide(sent) < session_slots(terms.cipher) {
+        return sender(terms, sent, vector);
     }
-    Call {
-        end: SENDING,
-        cipher,
-        key,
-        position: 0,
-        vector: going_on(cipher, vector),
-        known: true,
-    }
+    sender(terms, 0, going_on(terms.cipher, vector))
 }
 
 // A standing call after a slot, at either end.
@@ -108,12 +79,12 @@ fn slot_on(call: Call) -> Call
     requires { ⌜ (goodCall call ≡ true) × (call .end ≡ closedEnd → ⊥) ⌝ }
     ensures { λ r. ⌜ r ≡ written (slotOn (standing call)) ⌝ }
 {
-    let key = call.key;
+    let terms = call.terms;
     let vector = call.vector;
     if call.end == SENDING {
-        return sender_on(call.cipher, key, call.position, vector);
+        return sender_on(terms, call.position, vector);
     }
-    receiver_on(call.cipher, key, call.position, call.known, vector)
+    receiver_on(terms, call.position, call.known, vector)
 }
 
 // ---- a lost slot
@@ -122,16 +93,10 @@ pub fn lost(call: Call) -> Stepped
     ensures { λ r. ⌜ (r .answer, r .call) ≡ lostOf call ⌝ }
 {
     if !good_call(call) {
-        return Stepped {
-            answer: Answer::Bad,
-            call,
-        };
+        return refused(Answer::Bad, call);
     }
     if call.end != RECEIVING {
-        return Stepped {
-            answer: Answer::NotNow,
-            call,
-        };
+        return refused(Answer::NotNow, call);
     }
     Stepped {
         answer: Answer::Done,
@@ -156,19 +121,20 @@ fn is_zero_after(cipher: u8, position: u8, vector: [u8; VECTOR_OCTETS]) -> bool
 }
 
 // The frame turned by the bits of the session's slot, which stand for all words, in the mask or not.
-fn turn_slot(
-    cipher: u8,
-    key: [u8; KEY_ROOM],
-    position: u8,
-    vector: [u8; VECTOR_OCTETS],
-    mask: u8,
-    frame: &mut [u8],
-)
-    requires { ⌜ (position < sessionSlots cipher) × (length (now frame) ≡ frameOctets) ⌝ }
-    ensures { λ _. ⌜ now (frame .exit) ≡ inSlot stream mask (now (frame .entry)) cipher key position vector ⌝ }
+fn turn_slot(call: Call, mask: u8, frame: &mut [u8])
+    requires { ⌜ (call .position < sessionSlots (call .terms .cipher)) × (length (now frame) ≡ frameOctets) ⌝ }
+    ensures { λ _. ⌜ now (frame .exit) ≡ inSlot streamOf mask (now (frame .entry)) call ⌝ }
 {
+    let key = call.terms.key;
+    let vector = call.vector;
     let mut slot = [0; SLOT_OCTETS];
-    keystream(cipher, key, vector, SLOT_BITS * wide(position), &mut slot);
+    keystream(
+        call.terms.cipher,
+        key,
+        vector,
+        SLOT_BITS * wide(call.position),
+        &mut slot,
+    );
     turn_frame(frame, mask, &slot, 0);
 }
 
@@ -190,12 +156,12 @@ fn answer_to(call: Call, mask: u8, frame: &[u8]) -> Answer
     }
     if call.end == SENDING {
         let vector = call.vector;
-        if is_zero_after(call.cipher, call.position, vector) {
+        if is_zero_after(call.terms.cipher, call.position, vector) {
             return Answer::NextZero;
         }
         return Answer::Done;
     }
-    if !call.known {
+    if call.known == UNKNOWN {
         return Answer::Held;
     }
     Answer::Done
@@ -207,7 +173,7 @@ fn step(call: Call, mask: u8, frame: &[u8]) -> Stepped
 {
     let answer = answer_to(call, mask, frame);
     if answer.number() > 1 {
-        return Stepped { answer, call };
+        return refused(answer, call);
     }
     Stepped {
         answer,
@@ -224,9 +190,7 @@ pub fn voice(call: Call, mask: u8, frame: &mut [u8]) -> Stepped
     if answer.number() != 0 {
         return stepped;
     }
-    let key = call.key;
-    let vector = call.vector;
-    turn_slot(call.cipher, key, call.position, vector, mask, frame);
+    turn_slot(call, mask, frame);
     stepped
 }
 
@@ -237,10 +201,7 @@ pub fn voice_by(call: Call, mask: u8, frame: &mut [u8], session: &[u8]) -> Stepp
     ensures { λ r. ⌜ (r .answer, (r .call, now (frame .exit))) ≡ voiceByOctets (now (session .entry)) call mask (now (frame .entry)) ⌝ }
 {
     if session.len() < SESSION_OCTETS {
-        return Stepped {
-            answer: Answer::WrongLength,
-            call,
-        };
+        return refused(Answer::WrongLength, call);
     }
     let stepped = step(call, mask, frame);
     let answer = stepped.answer;
@@ -258,10 +219,10 @@ pub fn session_stream(call: Call, session: &mut [u8])
     if !good_call(call) {
         return;
     }
-    if !call.known {
+    if call.known == UNKNOWN {
         return;
     }
-    let key = call.key;
+    let key = call.terms.key;
     let vector = call.vector;
-    keystream(call.cipher, key, vector, 0, session);
+    keystream(call.terms.cipher, key, vector, 0, session);
 }

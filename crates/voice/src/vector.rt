@@ -7,7 +7,11 @@ use crate::call::Call;
 use crate::call::RECEIVING;
 use crate::call::SENDING;
 use crate::call::Stepped;
+use crate::call::TOLD;
+use crate::call::UNKNOWN;
 use crate::call::good_call;
+use crate::call::receiver;
+use crate::call::refused;
 use answers::Answer;
 use octets::all_zero;
 use octets::copy;
@@ -22,13 +26,13 @@ fn is_awaiting(call: Call) -> bool
     if call.end != RECEIVING {
         return false;
     }
-    if call.cipher == Scramble::TYPE {
+    if call.terms.cipher == Scramble::TYPE {
         return false;
     }
     if call.position != 0 {
         return false;
     }
-    !call.known
+    call.known == UNKNOWN
 }
 
 // A vector for the session that begins. It belongs to no session that is under way.
@@ -36,42 +40,23 @@ pub fn announce(call: Call, vector: &[u8]) -> Stepped
     ensures { λ r. ⌜ (r .answer, r .call) ≡ announceOf call (now (vector .entry)) ⌝ }
 {
     if vector.len() != VECTOR_OCTETS {
-        return Stepped {
-            answer: Answer::WrongLength,
-            call,
-        };
+        return refused(Answer::WrongLength, call);
     }
     if !good_call(call) {
-        return Stepped {
-            answer: Answer::Bad,
-            call,
-        };
+        return refused(Answer::Bad, call);
     }
     if !is_awaiting(call) {
-        return Stepped {
-            answer: Answer::NotNow,
-            call,
-        };
+        return refused(Answer::NotNow, call);
     }
     if all_zero(vector) {
-        return Stepped {
-            answer: Answer::ZeroVector,
-            call,
-        };
+        return refused(Answer::ZeroVector, call);
     }
-    let key = call.key;
+    let terms = call.terms;
     let mut own = [0; VECTOR_OCTETS];
     copy(vector, &mut own);
     Stepped {
         answer: Answer::Done,
-        call: Call {
-            end: RECEIVING,
-            cipher: call.cipher,
-            key,
-            position: call.position,
-            vector: own,
-            known: true,
-        },
+        call: receiver(terms, call.position, TOLD, own),
     }
 }
 
@@ -83,7 +68,7 @@ fn is_generating(call: Call) -> bool
     if call.end != SENDING {
         return false;
     }
-    call.cipher != Scramble::TYPE
+    call.terms.cipher != Scramble::TYPE
 }
 
 // L(S) of the sender's session, written into lent octets.

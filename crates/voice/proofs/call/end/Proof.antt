@@ -1,7 +1,7 @@
 -- `voice::call::end` meets its contract.
 use Rattle.octets.proofs.TestLaws.{fails, holds}
 use Rattle.voice.specs.Call.{endRefusals}
-use Rattle.voice.proofs.CallLaws.{is-bad, not-bad, stands-none, stands-some, end-refused, end-done}
+use Rattle.voice.proofs.CallLaws.{is-bad, not-bad, stands-none, stands-some, end-refused, end-done, refusal-is}
 use borrow.Author.Needs.{needs}
 use Rattle.voice.proofs.call.end.Statement.{statement}
 use Rattle.voice.proofs.call.end.Tie as tie
@@ -12,7 +12,9 @@ end-spec =
     tie.close
     (tie.spec
     (λ c κs. search needs)
-    (λ c. end-refused _ 0 (is-bad _ (fails (c .before .good-call .ensures) (c .if1 .taken))))
-    (λ c. let good = holds (c .before .before .before .good-call .ensures) (c .before .before .if1 .left) in end-refused _ 1 (not-bad _ good, stands-none _ good (c .if2 .taken)))
+    (λ c κs. search needs)
+    (λ c. refusal-is (c .refused .ensures) (end-refused _ 0 (is-bad _ (fails (c .before .before .good-call .ensures) (c .before .if1 .taken)))))
+    (λ c κs. search needs)
+    (λ c. let good = holds (c .before .before .before .before .good-call .ensures) (c .before .before .before .if1 .left) in refusal-is (c .refused2 .ensures) (end-refused _ 1 (not-bad _ good, stands-none _ good (c .before .if2 .taken))))
     (λ c κs. search needs)
     (λ c. let good = holds (c .before .before .before .before .good-call .ensures) (c .before .before .before .if1 .left) in rw (c .no-call .ensures) (end-done _ (not-bad _ good, (stands-some _ good (c .before .if2 .left), tt)))))

@@ -1,6 +1,7 @@
 -- `voice::opening::begin` meets its contract.
 use Rattle.answers.proofs.OutcomeLaws.{is-done, not-done}
 use Rattle.openings.proofs.BegunLaws.{begun-sized}
+use Rattle.voice.proofs.CallLaws.{refusal-is}
 use Rattle.voice.proofs.OpeningLaws.{begun-refused, begun-done}
 use borrow.Author.Needs.{needs}
 use Rattle.voice.proofs.opening.begin.Statement.{statement}
@@ -13,6 +14,8 @@ begin-spec =
     (λ c κs. search needs)
     (λ c κs. search needs)
     (λ c κs. search needs)
-    (λ c. begun-refused _ _ (c .before .before .before .before .good-call .ensures) _ _ _ _ _ _ (c .before .before .opening-key-with .ensures) _ (not-done (c .before .before .opening-key-with .result .answer) (c .before .number .ensures) (c .if1 .taken)))
+    (λ c κs. search needs)
+    (λ c. refusal-is (c .refused .ensures) (begun-refused _ _ (c .before .before .before .before .before .good-call .ensures) _ _ _ _ _ _ (c .before .before .before .opening-key-with .ensures) (c .before .before .before .before .before .before .before .before .args .end) (not-done (c .before .before .before .opening-key-with .result .answer) (c .before .before .number .ensures) (c .before .if1 .taken))))
     (λ c κs. begun-sized _ _ _ _ _ _ _ (c .before .before .before .opening-key-with .ensures) (is-done (c .before .before .before .opening-key-with .result .answer) (c .before .before .number .ensures) (c .before .if1 .left)))
-    (λ c. rw (c .session-vector .ensures) (begun-done _ _ (c .before .before .before .before .before .before .good-call .ensures) _ _ _ _ _ _ (c .before .before .before .before .opening-key-with .ensures) _ (is-done (c .before .before .before .before .opening-key-with .result .answer) (c .before .before .before .number .ensures) (c .before .before .if1 .left)))))
+    (λ c κs. search needs)
+    (λ c. rw (c .begun .ensures, c .before .session-vector .ensures) (begun-done _ _ (c .before .before .before .before .before .before .before .good-call .ensures) _ _ _ _ _ _ (c .before .before .before .before .before .opening-key-with .ensures) (c .before .before .before .before .before .before .before .before .before .before .args .end) (is-done (c .before .before .before .before .before .opening-key-with .result .answer) (c .before .before .before .before .number .ensures) (c .before .before .before .if1 .left)))))

@@ -1,5 +1,6 @@
 -- `voice::opening::join` meets its contract.
 use Rattle.answers.proofs.OutcomeLaws.{is-done, not-done}
+use Rattle.voice.proofs.CallLaws.{refusal-is}
 use Rattle.voice.proofs.OpeningLaws.{join-refused, join-done}
 use borrow.Author.Needs.{needs}
 use Rattle.voice.proofs.opening.join.Statement.{statement}
@@ -12,6 +13,7 @@ join-spec =
     (λ c κs. search needs)
     (λ c κs. search needs)
     (λ c κs. search needs)
-    (λ c. join-refused _ _ (c .before .before .before .before .good-call .ensures) _ _ _ _ _ (c .before .before .opening-key .ensures) (not-done (c .before .before .opening-key .result .answer) (c .before .number .ensures) (c .if1 .taken)))
+    (λ c κs. search needs)
+    (λ c. refusal-is (c .refused .ensures) (join-refused _ _ (c .before .before .before .before .before .good-call .ensures) _ _ _ _ _ (c .before .before .before .opening-key .ensures) (not-done (c .before .before .before .opening-key .result .answer) (c .before .before .number .ensures) (c .before .if1 .taken))))
     (λ c κs. search needs)
     (λ c. rw (c .joining .ensures) (join-done _ _ (c .before .before .before .before .before .before .good-call .ensures) _ _ _ _ _ (c .before .before .before .before .opening-key .ensures) (is-done (c .before .before .before .before .opening-key .result .answer) (c .before .before .before .number .ensures) (c .before .before .if1 .left)))))

@@ -2,7 +2,7 @@
 use native.Mathlib.Omega.{arith}
 use Rattle.octets.proofs.TestLaws.{fails, holds}
 use Rattle.voice.specs.Slot.{lostRefusals, lostOf}
-use Rattle.voice.proofs.CallLaws.{is-bad, not-bad, receives-not, is-receiver}
+use Rattle.voice.proofs.CallLaws.{is-bad, not-bad, receives-not, is-receiver, refusal-is}
 use Rattle.voice.proofs.SlotLaws.{lost-refused}
 use borrow.Author.Needs.{needs}
 use Rattle.voice.proofs.slot.lost.Statement.{statement}
@@ -14,7 +14,9 @@ lost-spec =
     tie.close
     (tie.spec
     (λ c κs. search needs)
-    (λ c. lost-refused _ 0 (is-bad _ (fails (c .before .good-call .ensures) (c .if1 .taken))))
-    (λ c. let good = holds (c .before .before .before .good-call .ensures) (c .before .before .if1 .left) in lost-refused _ 1 (not-bad _ good, receives-not _ good (c .if2 .taken)))
+    (λ c κs. search needs)
+    (λ c. refusal-is (c .refused .ensures) (lost-refused _ 0 (is-bad _ (fails (c .before .before .good-call .ensures) (c .before .if1 .taken)))))
+    (λ c κs. search needs)
+    (λ c. let good = holds (c .before .before .before .before .good-call .ensures) (c .before .before .before .if1 .left) in refusal-is (c .refused2 .ensures) (lost-refused _ 1 (not-bad _ good, receives-not _ good (c .before .if2 .taken))))
     (λ c κs. (holds (c .before .before .before .good-call .ensures) (c .before .before .if1 .left), λ z. omega (arith, c .if2 .left)))
     (λ c. rw (c .slot-on .ensures, is-receiver _ (holds (c .before .before .before .before .good-call .ensures) (c .before .before .before .if1 .left)) (c .before .if2 .left))))

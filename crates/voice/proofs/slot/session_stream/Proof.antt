@@ -1,8 +1,8 @@
 -- `voice::slot::session_stream` meets its contract.
 use mathlib.Core.Path.{_∙_}
-use borrow.Author.Tests.{not-true, not-false}
 use Rattle.octets.proofs.TestLaws.{fails, holds}
-use Rattle.voice.proofs.SessionOnce.{knows-not, knows-is, knows-ranged, stream-stays, stream-written}
+use Rattle.voice.proofs.CallLaws.{knows-not, knows-no, knows-yes}
+use Rattle.voice.proofs.SessionOnce.{knows-ranged, stream-stays, stream-written}
 use borrow.Author.Needs.{needs}
 use Rattle.voice.proofs.slot.session_stream.Statement.{statement}
 use Rattle.voice.proofs.slot.session_stream.Tie as tie
@@ -13,7 +13,7 @@ session-stream-spec =
     (tie.spec
     (λ c κs. search needs)
     (λ c. stream-stays _ (knows-not _ (fails (c .before .good-call .ensures) (c .if1 .taken))) _)
-    (λ c. stream-stays _ (knows-is _ (holds (c .before .before .before .good-call .ensures) (c .before .before .if1 .left)) ∙ not-true _ (c .if2 .taken)) _)
-    (λ c κs. knows-ranged _ (knows-is _ (holds (c .before .before .before .before .before .before .good-call .ensures) (c .before .before .before .before .before .if1 .left)) ∙ not-false _ (c .before .before .before .if2 .left)))
+    (λ c. stream-stays _ (knows-no _ (c .if2 .taken)) _)
+    (λ c κs. knows-ranged _ (knows-yes _ (c .before .before .before .if2 .left) ∙ holds (c .before .before .before .before .before .before .good-call .ensures) (c .before .before .before .before .before .if1 .left)))
     (λ c. search needs)
-    (λ c. stream-written _ (knows-is _ (holds (c .before .before .before .before .before .before .before .before .before .good-call .ensures) (c .before .before .before .before .before .before .before .before .if1 .left)) ∙ not-false _ (c .before .before .before .before .before .before .if2 .left)) _ _ (c .before .before .keystream .ensures)))
+    (λ c. stream-written _ (knows-yes _ (c .before .before .before .before .before .before .if2 .left) ∙ holds (c .before .before .before .before .before .before .before .before .before .good-call .ensures) (c .before .before .before .before .before .before .before .before .if1 .left)) _ _ (c .before .before .keystream .ensures)))

@@ -1,5 +1,6 @@
 -- `voice::slot::step` meets its contract.
 use native.Mathlib.Omega.{arith}
+use Rattle.voice.proofs.CallLaws.{refusal-is}
 use Rattle.voice.proofs.SlotLaws.{none-good, none-open, taken-none, refused-call, taken-call}
 use borrow.Author.Needs.{needs}
 use Rattle.voice.proofs.slot.step.Statement.{statement}
@@ -11,6 +12,7 @@ step-spec =
     (tie.spec
     (λ c κs. search needs)
     (λ c κs. search needs)
-    (λ c. refused-call _ _ _ _ (c .before .before .answer-to .ensures) (omega arith))
+    (λ c κs. search needs)
+    (λ c. refusal-is (c .refused .ensures) (refused-call _ _ _ _ (c .before .before .before .answer-to .ensures) (omega arith)))
     (λ c κs. let n = taken-none _ _ _ _ (c .before .before .answer-to .ensures) (omega arith) in (none-good _ _ _ n, none-open _ _ _ n))
     (λ c. taken-call _ _ _ _ (c .before .before .before .answer-to .ensures) (omega arith) _ (c .slot-on .ensures)))
