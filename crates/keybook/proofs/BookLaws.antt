@@ -16,7 +16,8 @@ use Rattle.octets.specs.Tests.{allBelow}
 use Rattle.octets.proofs.TestLaws.{all-fails, and-false-r, all-reached}
 use Rattle.answers.specs.declared.Answer.the-variants.{WrongLength, OutOfRange, Bad}
 use Rattle.keyentry.specs.Entry.{entryOctets, cipherIn, idIn, inRange, entryRight}
-use Rattle.keybook.specs.Book.{entries, bookOctets, entryOf, withEntry, apart, goodBook, findEntry, bookRefusals, lookup}
+use Rattle.keybook.specs.Book.{entries, bookOctets, entryOf, withEntry, apart, goodBook, findEntry, bookRefusals}
+use Rattle.keybook.specs.Lookup.{lookup}
 use Rattle.keybook.specs.declared.book.Found.the-variants.{At, Missing, Refused}
 
 -- ---- the entries

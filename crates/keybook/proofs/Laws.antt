@@ -5,10 +5,9 @@ use native.Mathlib.Omega.{arith}
 use mathlib.Core.Path.{_≡_, sym, ap, ap₂, _∙_}
 use mathlib.Core.Bool.{Bool, true, false, not, true≢false}
 use mathlib.Core.List.{List, [], _∷_}
-use lib.ListN.{length, drop}
+use lib.ListN.{length}
 use lib.Dec.{eqb}
 use borrow.Author.Tests.{lt-ltb, le-ltb, eq-eqb, ne-eqb, eqb-false, eqb-true}
-use Rattle.octets.specs.Lists.{allZero}
 use Rattle.octets.specs.Tests.{firstBelow}
 use Rattle.octets.proofs.TestLaws.{first-is, first-holds, first-all, first-before}
 use Rattle.answers.specs.declared.Answer.{Answer}
@@ -17,12 +16,12 @@ use Rattle.answers.specs.Numbers.{isDone}
 use Rattle.answers.specs.Outcomes.{Refusals, outcome}
 use Rattle.answers.proofs.OutcomeLaws.{NoneHolds, none-left, done-none, none-settles, by-refusals, refusal-keeps, one-outcome}
 use Rattle.sizes.specs.Ciphers.{keyOctets, keyRoom}
-use Rattle.ciphers.specs.Keys.{keyAllowed}
+use Rattle.ciphers.specs.Keys.{keyAllowed, keyRight}
 use Rattle.keyentry.specs.Entry.{cipherIn, countIn, keyIn, inRange, blank, newEntry, extended, completed}
 use Rattle.keyentry.proofs.RightLaws.{not-for}
 use Rattle.keyentry.proofs.WriteLaws.{in-range-used, key-length, ready-whole, blank-length, blank-cipher}
 use Rattle.keybook.specs.Book.{entries, entryOf, withEntry, goodBook, findEntry, freeEntry, bookRefusals}
-use Rattle.keybook.specs.Operations.{hasEntry, entryFor, withFor, beginRefusals, beginAfter, beginOf, addRefusals, addOf, finishRefusals, finishOf, eraseRefusals, eraseOf, noKey, readyRefusals, readyKeyOf}
+use Rattle.keybook.specs.Operations.{hasEntry, entryFor, withFor, beginRefusals, beginAfter, beginOf, addRefusals, addOf, finishRefusals, finishOf, eraseRefusals, eraseOf, loadOf, noKey, readyRefusals, readyKeyOf}
 use Rattle.keybook.specs.declared.Ready.{Ready}
 use Rattle.keybook.proofs.GoodLaws.{good-sized, found-for, entry-same}
 use Rattle.keybook.proofs.FindLaws.{gone}
@@ -178,25 +177,18 @@ module _ (b : List ℕ) (c i : ℕ) (d : eraseOf b c i .0 ≡ Done) where
       let f = some-free erased (findEntry b c i) (t .below) (ap cipherIn erase-frees-entry ∙ blank-cipher) in
       ap (λ (o : Answer × List ℕ). o .0) (begin-done-at-first-free erased c i erased-good n h (freeEntry erased) (first-free erased f))
 
--- ---- a key that is handed out is whole and allowed, of whatever book
+-- ---- a key that is handed out is whole and allowed, with nothing past its length, of whatever book
 
-pub record RightKey (c : ℕ) (k : List ℕ) : Type 0 where
-  pub long : length k ≡ keyRoom
-  pub allowed : keyAllowed c k ≡ true
-  pub rest : allZero (drop (keyOctets c) k) ≡ true
-
-pub ready-key-is-right : (b : List ℕ) (c i : ℕ) (k : List ℕ) → readyKeyOf b c i ≡ (Done, k) → RightKey c k
+pub ready-key-is-right : (b : List ℕ) (c i : ℕ) (k : List ℕ) → readyKeyOf b c i ≡ (Done, k) → (length k ≡ keyRoom) × (keyRight c k ≡ true)
+unfolding keyRight
 ready-key-is-right b c i k q =
     let d = handed b c i k q in
     let t = d .from in
     let e = entryFor b c i in
     let w = ready-whole e (t .right) (d .ready) in
     let n : keyOctets c ≡ countIn e = ap keyOctets (sym (t .cipher)) ∙ sym (w .full) in
-    record {
-      long = ap length (d .is) ∙ key-length e (t .long);
-      allowed = ap₂ keyAllowed (sym (t .cipher)) (d .is) ∙ w .allowed;
-      rest = rw (n, d .is) (t .right .rest);
-    }
+    let allowed : keyAllowed c k ≡ true = ap₂ keyAllowed (sym (t .cipher)) (d .is) ∙ w .allowed in
+    (ap length (d .is) ∙ key-length e (t .long), rw (allowed, n, d .is) (t .right .rest))
 
 -- ---- any two outcomes that meet an operation's statement are equal
 
@@ -212,6 +204,9 @@ module _ (b : List ℕ) (c i : ℕ) (a a' : Answer) (x y : List ℕ) where
 
   pub one-erase : (a, x) ≡ eraseOf b c i → (a', y) ≡ eraseOf b c i → (a ≡ a') × (x ≡ y)
   one-erase = one-outcome a a' x y
+
+  pub one-load : (key : List ℕ) → (a, x) ≡ loadOf b c i key → (a', y) ≡ loadOf b c i key → (a ≡ a') × (x ≡ y)
+  one-load key = one-outcome a a' x y
 
 pub one-ready-key : (b : List ℕ) (c i : ℕ) (r s : Ready) → (r .answer, r .key) ≡ readyKeyOf b c i → (s .answer, s .key) ≡ readyKeyOf b c i → r ≡ s
 one-ready-key b c i r s p q =

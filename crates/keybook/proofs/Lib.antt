@@ -7,3 +7,4 @@ pub mod Laws
 pub mod HoldLaws
 pub mod HistoryLaws
 pub mod UndoLaws
+pub mod LoadLaws

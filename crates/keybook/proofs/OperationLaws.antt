@@ -17,7 +17,8 @@ use Rattle.answers.specs.Outcomes.{Refusals, settled, outcome}
 use Rattle.answers.proofs.OutcomeLaws.{NoneHolds, neverDone, done-none, none-settles, none-first, first-refuses, around}
 use Rattle.keyentry.specs.Entry.{countIn, readyIn, keyIn, inRange, blank, newEntry, extendRefusals, extended, completeRefusals, completed}
 use Rattle.sizes.specs.Ciphers.{keyRoom}
-use Rattle.keybook.specs.Book.{entries, bookOctets, entryOf, withEntry, goodBook, findEntry, freeEntry, bookRefusals, found, lookup}
+use Rattle.keybook.specs.Book.{entries, bookOctets, entryOf, withEntry, goodBook, findEntry, freeEntry, bookRefusals}
+use Rattle.keybook.specs.Lookup.{found, lookup}
 use Rattle.keybook.specs.Operations.{hasEntry, placeRefusals, beginRefusals, beginAfter, beginOf, addRefusals, addOf, finishRefusals, finishOf, eraseRefusals, eraseOf, noKey, notReady, readyRefusals, readyKeyOf}
 use Rattle.keybook.specs.declared.book.Found.the-variants.{At, Missing, Refused}
 use Rattle.keyentry.proofs.RightLaws.{count-fits}

@@ -3,16 +3,12 @@ use Prim.Native.Nat.{ℕ, _*_}
 use mathlib.Core.Bool.{Bool, _&&_, _||_, not}
 use mathlib.Core.List.{List, [], _∷_}
 use lib.ListN.{length, take, drop}
-use lib.Dec.{ltb, eqb}
+use lib.Dec.{eqb}
 use Rattle.octets.specs.Lists.{replaced}
-use Rattle.octets.specs.Tests.{pick, allBelow, firstBelow}
-use Rattle.answers.specs.declared.Answer.{Answer}
+use Rattle.octets.specs.Tests.{allBelow, firstBelow}
 use Rattle.answers.specs.declared.Answer.the-variants.{WrongLength, OutOfRange, Bad}
-use Rattle.answers.specs.Numbers.{isDone}
-use Rattle.answers.specs.Outcomes.{Refusals, outcome}
+use Rattle.answers.specs.Outcomes.{Refusals}
 use Rattle.keyentry.specs.Entry.{entryOctets, cipherIn, idIn, inRange, entryRight, isFor}
-use Rattle.keybook.specs.declared.book.Found.{Found}
-use Rattle.keybook.specs.declared.book.Found.the-variants.{At, Missing, Refused}
 
 -- a lent buffer of 16 entries
 abbrev pub entries : ℕ
@@ -53,10 +49,3 @@ goodBook b = eqb (length b) bookOctets && allBelow (λ k. entryRight (entryOf b 
 unfoldable pub bookRefusals : List ℕ → ℕ → ℕ → Refusals
 bookRefusals b c i =
     (not (eqb (length b) bookOctets), WrongLength) ∷ (not (inRange c i), OutOfRange) ∷ (not (goodBook b), Bad) ∷ []
-
--- where the entry is, or the refusal
-abbrev pub found : Answer × ℕ → Found
-found r = pick (isDone (r .0)) (pick (ltb (r .1) entries) (At (r .1)) Missing) (Refused (r .0))
-
-unfoldable pub lookup : List ℕ → ℕ → ℕ → Found
-lookup b c i = found (outcome entries (bookRefusals b c i) (findEntry b c i))

@@ -1,3 +1,4 @@
 pub mod Book
+pub mod Lookup
 pub mod Operations
 pub mod History

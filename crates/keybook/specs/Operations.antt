@@ -5,8 +5,10 @@ use mathlib.Core.Bool.{Bool, not}
 use mathlib.Core.List.{List, [], _∷_, _++_}
 use lib.ListN.{length, replicate}
 use lib.Dec.{ltb}
+use Rattle.octets.specs.Tests.{pick}
 use Rattle.answers.specs.declared.Answer.{Answer}
 use Rattle.answers.specs.declared.Answer.the-variants.{WrongLength, NoEntry, NotReady, Already, Full}
+use Rattle.answers.specs.Numbers.{isDone}
 use Rattle.answers.specs.Outcomes.{Refusals, outcome}
 use Rattle.sizes.specs.Ciphers.{keyRoom}
 use Rattle.keyentry.specs.Entry.{keyIn, isReady, blank, newEntry, extendRefusals, extended, completeRefusals, completed}
@@ -72,3 +74,17 @@ readyRefusals b c i = bookRefusals b c i ++ ((not (hasEntry b c i), NoEntry) ∷
 
 unfoldable pub readyKeyOf : List ℕ → ℕ → ℕ → Answer × List ℕ
 readyKeyOf b c i = outcome noKey (readyRefusals b c i) (keyIn (entryFor b c i))
+
+-- ---- a key at once (document 01, "The receiver program", K)
+
+-- and then the next, where this was done
+abbrev pub ifDone : Answer × List ℕ → (List ℕ → Answer × List ℕ) → Answer × List ℕ
+ifDone o next = pick (isDone (o .0)) (next (o .1)) o
+
+-- what was done, or its refusal with the entry erased
+abbrev pub orErased : ℕ → ℕ → Answer × List ℕ → Answer × List ℕ
+orErased c i o = pick (isDone (o .0)) o (o .0, eraseOf (o .1) c i .1)
+
+-- it begins, adds and finishes; if add or finish refuses, it erases and gives that refusal. A refused begin erases nothing.
+unfoldable pub loadOf : List ℕ → ℕ → ℕ → List ℕ → Answer × List ℕ
+loadOf b c i key = ifDone (beginOf b c i) (λ x. orErased c i (ifDone (addOf x c i key) (λ y. finishOf y c i)))

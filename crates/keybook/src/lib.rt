@@ -4,7 +4,7 @@ ghost use mathlib.Core.Path.{_≡_};
 ghost use lib.ListN.{length};
 ghost use Rattle.answers.specs.Outcomes.{outcome};
 ghost use Rattle.keyentry.specs.Entry.{entryOctets, keyIn};
-ghost use Rattle.keybook.specs.Operations.{noKey, notReady, beginOf, addOf, finishOf, eraseOf, readyKeyOf};
+ghost use Rattle.keybook.specs.Operations.{noKey, notReady, beginOf, addOf, finishOf, eraseOf, loadOf, readyKeyOf};
 use crate::book::ENTRIES;
 use crate::book::Found;
 use crate::book::entry;
@@ -88,6 +88,26 @@ pub fn erase(book: &mut [u8], cipher: u8, id: u8) -> Answer
             Answer::Done
         }
     }
+}
+
+// A key at once: begun, added and finished, or nothing of it left.
+pub fn load(book: &mut [u8], cipher: u8, id: u8, key: &[u8]) -> Answer
+    ensures { λ r. ⌜ (r, now (book .exit)) ≡ loadOf (now (book .entry)) cipher id (now (key .entry)) ⌝ }
+{
+    let begun = begin(book, cipher, id);
+    if begun.number() != 0 {
+        return begun;
+    }
+    let added = add(book, cipher, id, key);
+    if added.number() != 0 {
+        erase(book, cipher, id);
+        return added;
+    }
+    let finished = finish(book, cipher, id);
+    if finished.number() != 0 {
+        erase(book, cipher, id);
+    }
+    finished
 }
 
 // An answer, and the key where it is done: what opens a call or a packet.

@@ -1,29 +1,23 @@
 -- A ready key of a good book is right: it is whole, allowed, and nothing stands past its length.
-use mathlib.Core.Path.{_≡_, sym, ap, _∙_}
+use mathlib.Core.Path.{_≡_, _∙_}
 use mathlib.Core.Bool.{Bool, true, _&&_}
 use mathlib.Core.List.{List}
-use Prim.Native.Nat.{ℕ, _-_, _≤_, _<_}
+use Prim.Native.Nat.{ℕ, _≤_, _<_}
 use native.Mathlib.Omega.{arith}
-use lib.Dec.{eqb}
-use lib.ListN.{length, getD, drop}
 use borrow.Author.Tests.{eqb-true, eq-eqb, ltb-true, not-false}
-use Rattle.octets.specs.Lists.{allZero}
-use Rattle.octets.proofs.TestLaws.{and-left, and-right, all-intro}
-use Rattle.sizes.specs.Ciphers.{keyOctets}
-use Rattle.ciphers.specs.Keys.{keyAllowed, keyRight}
+use Rattle.octets.proofs.TestLaws.{and-left, and-right}
+use Rattle.ciphers.specs.Keys.{keyRight}
 use Rattle.ciphers.proofs.KeyLaws.{key-ranged}
 use Rattle.answers.specs.declared.Answer.the-variants.{Done}
 use Rattle.answers.proofs.OutcomeLaws.{NoneHolds, none-settles}
-use Rattle.keyentry.specs.Entry.{cipherIn, idIn, countIn, readyPlace, readyIn, isReady, keyIn, keyRest, inRange, lacks, readyRight, entryRight}
-use Rattle.keyentry.proofs.RightLaws.{zero-at, Used, used-of, free-zero, for-parts}
-use Rattle.keybook.specs.Book.{entries, findEntry, goodBook}
-use Rattle.keybook.specs.Operations.{hasEntry, entryFor, noKey, readyKeyOf}
-use Rattle.keybook.proofs.GoodLaws.{good-entry, found-for}
+use Rattle.keyentry.specs.Entry.{cipherIn, idIn, readyPlace, readyIn, isReady, inRange, entryRight}
+use Rattle.keyentry.proofs.RightLaws.{Used, used-of, free-zero, for-parts}
+use Rattle.keybook.specs.Book.{entries, findEntry, goodBook, bookRefusals}
+use Rattle.keybook.specs.Operations.{hasEntry, entryFor, noKey, notReady, readyRefusals, readyKeyOf}
+use Rattle.keybook.proofs.GoodLaws.{good-sized, good-entry, found-for}
+use Rattle.keybook.proofs.Laws.{ready-key-is-right}
 use Rattle.openings.specs.Ladder.{keyFor, keyRefusals, keyOf, vectorRefusals}
 use Rattle.openings.proofs.LadderLaws.{key-ready, vector-none}
-
-lacks-none : (a b n : ℕ) → b ≡ n → b - a ≡ 0 → a ≤ b → a ≡ n
-lacks-none a b n e z l = omega arith
 
 module _ (b : List ℕ) (c i : ℕ) (good : goodBook b ≡ true) (there : hasEntry b c i ≡ true) (ready : isReady (entryFor b c i) ≡ true) where
   abbrev e : List ℕ
@@ -45,28 +39,10 @@ module _ (b : List ℕ) (c i : ℕ) (good : goodBook b ≡ true) (there : hasEnt
   pub key-in-range : inRange c i ≡ true
   key-in-range = rw (is-its .0, is-its .1) at (used .range)
 
-  -- it has its full, allowed key
-  full : (eqb (lacks e) 0 && keyAllowed (cipherIn e) (keyIn e)) ≡ true
-  unfolding readyRight
-  full = rw (eqb-true (readyIn e) 1 ready) at (used .ready)
-
-  allowed : keyAllowed c (keyIn e) ≡ true
-  allowed = rw (is-its .0) at (and-right (eqb (lacks e) 0) _ full)
-
-  whole : countIn e ≡ keyOctets c
-  unfolding lacks
-  whole =
-      lacks-none (countIn e) (keyOctets (cipherIn e)) (keyOctets c) (ap keyOctets (is-its .0))
-      (eqb-true (lacks e) 0 (and-left (eqb (lacks e) 0) _ full)) (used .count)
-
-  rest-zero : (j : ℕ) → getD (drop (keyOctets c) (keyIn e)) j 0 ≡ 0
-  rest-zero j = ap (λ (n : ℕ). getD (drop n (keyIn e)) j 0) (sym whole) ∙ zero-at (keyRest e) (used .rest) j
-
+  -- and it is whole and allowed
   pub key-right : keyRight c (keyFor b c i) ≡ true
-  unfolding keyRight allZero
-  key-right =
-      rw allowed
-      (all-intro (λ j. eqb (getD (drop (keyOctets c) (keyIn e)) j 0) 0) (length (drop (keyOctets c) (keyIn e))) (λ j l. eq-eqb _ _ (rest-zero j)))
+  unfolding readyKeyOf readyRefusals bookRefusals notReady
+  key-right = ready-key-is-right b c i (keyFor b c i) (rw (eq-eqb _ _ (good-sized b good), key-in-range, good, there, ready)) .1
 
 -- where nothing refuses the key
 module _ (ranged bad busy : Bool) (c i : ℕ) (b : List ℕ) (n : NoneHolds (keyRefusals ranged bad busy c i b)) where

@@ -1,17 +1,16 @@
 -- A line of text and its output line over lent octets.
 use mathlib.Core.Path.{_≡_, ap, _∙_}
 use mathlib.Core.List.{List}
-use Prim.Native.Nat.{ℕ, _≤_, _<_}
+use Prim.Native.Nat.{ℕ}
 use native.Mathlib.Nat.{zero-add}
 use native.Mathlib.Omega.{arith}
 use lib.ListN.{length}
-use borrow.Author.Tests.{lt-ltb, le-ltb}
 use Rattle.octets.specs.Lists.{replaced}
 use Rattle.answers.specs.declared.Answer.{Answer}
 use Rattle.voice.specs.declared.call.Call.{Call}
 use Rattle.lines.specs.Record.{Record, lineOf}
 use Rattle.records.specs.Step.{stepOf, asStepped}
-use Rattle.records.specs.Answered.{answerLine, answerRoom, Laid, Answered, answeredBy, answered, overlaid, lineIn, Responded}
+use Rattle.records.specs.Answered.{answerLine, answerRoom, Laid, Answered, answeredBy, answered, overlaid, Responded}
 use Rattle.records.proofs.OutputLaws.{laid-as}
 
 -- a record read, done and printed
@@ -30,13 +29,3 @@ responded line book call p q l =
 pub laid-start : {most : ℕ} {out text after : List ℕ} {n : ℕ} → Laid most out 0 text after n → (n ≡ length text) × (after ≡ overlaid out text)
 unfolding replaced
 laid-start {most} {out} {text} {after} {n} l = (l .ends ∙ zero-add (length text), l .octets ∙ rw (zero-add (length text)))
-
-module _ (line book : List ℕ) (call : Call) (out : List ℕ) where
-  pub no-room : length out < answerRoom → (record { length = 0; call = call }, (book, out)) ≡ lineIn line book call out
-  unfolding lineIn
-  no-room h = rw (lt-ltb (length out) answerRoom h)
-
-  pub in-room : {n : ℕ} {book' out' : List ℕ} {call' : Call} → answerRoom ≤ length out → Responded line book call out n book' call' out'
-      → (record { length = n; call = call' }, (book', out')) ≡ lineIn line book call out
-  unfolding lineIn
-  in-room h r = rw (le-ltb (length out) answerRoom h, laid-start (r .laid) .0, laid-start (r .laid) .1, r .book-is, r .call-is)

@@ -1,4 +1,3 @@
-pub mod LoadLaws
 pub mod OutputLaws
 pub mod StepLaws
 pub mod AnsweredLaws

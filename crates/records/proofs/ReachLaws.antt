@@ -16,7 +16,7 @@ use Rattle.sizes.specs.Ciphers.{keyRoom, vectorOctets}
 use Rattle.keyentry.proofs.RightLaws.{for-parts}
 use Rattle.keyentry.proofs.WriteLaws.{in-range-used}
 use Rattle.keybook.specs.Book.{entries, bookOctets, goodBook, findEntry, bookRefusals}
-use Rattle.keybook.specs.Operations.{hasEntry, entryFor, beginRefusals, beginAfter, beginOf, addRefusals, addOf, finishRefusals, finishOf}
+use Rattle.keybook.specs.Operations.{hasEntry, entryFor, beginRefusals, beginAfter, beginOf, addRefusals, addOf, finishRefusals, finishOf, loadOf}
 use Rattle.keybook.proofs.GoodLaws.{good-sized, found-for}
 use Rattle.openings.specs.Ladder.{keyRefusals, vectorRefusals}
 use Rattle.voice.specs.declared.call.Call.{Call}
@@ -29,11 +29,10 @@ use Rattle.voice.proofs.CallLaws.{not-bad, unless-sender}
 use Rattle.voice.proofs.SlotLaws.{taken-under-two}
 use Rattle.lines.specs.Record.{Record, Load, Open, Join, Voice, Announce, Lost, End, Malformed, lineOf}
 use Rattle.lines.proofs.CanonicalLaws.{read-fine}
-use Rattle.records.specs.Load.{loadOf}
 use Rattle.records.specs.Step.{stepOf}
 use Rattle.records.specs.Reach.{answersTo}
 use Rattle.keybook.proofs.UndoLaws.{Begun, begun-good, begun-found}
-use Rattle.records.proofs.LoadLaws.{load-ways}
+use Rattle.keybook.proofs.LoadLaws.{load-ways}
 use Rattle.records.proofs.SoundLaws.{Sound}
 
 -- ---- the answers

@@ -30,12 +30,12 @@ use Rattle.voice.proofs.CallLaws.{by-stands}
 use Rattle.voice.proofs.GoodLaws.{closed-good, end-good, lost-good, voice-good, announce-good}
 use Rattle.voice.proofs.OpeningGood.{open-good, join-good}
 use Rattle.lines.specs.Record.{Record, Load, Open, Join, Voice, Announce, Lost, End, Malformed, lineOf}
-use Rattle.records.specs.Load.{loadOf}
+use Rattle.keybook.specs.Operations.{loadOf}
 use Rattle.records.specs.Step.{stepOf}
 use Rattle.records.specs.Answered.{answered}
 use Rattle.records.specs.Reader.{allAnswered}
 use Rattle.keybook.proofs.UndoLaws.{Begun, begun-good, begun-entry, begun-other}
-use Rattle.records.proofs.LoadLaws.{load-ways}
+use Rattle.keybook.proofs.LoadLaws.{load-ways}
 
 -- ---- what book and call are in a run
 

@@ -27,7 +27,7 @@ use Rattle.lines.specs.declared.record.Parsed.{Parsed}
 use Rattle.lines.specs.declared.record.Parsed.the-variants as code
 use Rattle.lines.specs.Record.{recordRoom, recordIn, countIn}
 use Rattle.records.specs.declared.step.Outcome.{Outcome}
-use Rattle.records.specs.Load.{loadOf}
+use Rattle.keybook.specs.Operations.{loadOf}
 use Rattle.records.specs.Step.{Stepped, ofBook, ofCall, ofSlot, stepOf, Cached, asStepped}
 
 -- ---- the session's octets

@@ -2,7 +2,7 @@
 use mathlib.Core.Path.{_≡_}
 use mathlib.Core.List.{List, [], _∷_, _++_}
 use Prim.Native.Nat.{ℕ, _+_, _*_, _≤_}
-use lib.Dec.{ltb, eqb}
+use lib.Dec.{eqb}
 use lib.ListN.{length, drop}
 use Rattle.octets.specs.Tests.{pick}
 use Rattle.octets.specs.Lists.{replaced}
@@ -15,7 +15,6 @@ use Rattle.text.specs.Parted.{tabOctet, lineEnd}
 use Rattle.text.specs.Decimal.{decimal}
 use Rattle.text.specs.Hex.{hexText}
 use Rattle.lines.specs.Record.{lineOf}
-use Rattle.records.specs.declared.answered.Lined.{Lined}
 use Rattle.records.specs.Step.{Stepped, stepOf}
 
 -- what stands for nothing
@@ -69,13 +68,7 @@ answered line book call = answeredBy (stepOf (lineOf line) book call)
 abbrev pub overlaid : List ℕ → List ℕ → List ℕ
 overlaid out text = text ++ drop (length text) out
 
--- a line's outcome, the book and the lent octets after it; with no room for an output line nothing is done
-unfoldable pub lineIn : List ℕ → List ℕ → Call → List ℕ → Lined × (List ℕ × List ℕ)
-lineIn line book call out =
-    let a = pick (ltb (length out) answerRoom) (silent book call) (answered line book call) in
-    (record { length = length (a .output); call = a .call }, (a .book, overlaid out (a .output)))
-
--- the same, where there is room
+-- a line done and its output line written, where there is room
 pub record Responded (line book : List ℕ) (call : Call) (out : List ℕ) (n : ℕ) (book' : List ℕ) (call' : Call) (out' : List ℕ) : Type 0 where
   pub laid : Laid answerRoom out 0 (answered line book call .output) out' n
   pub book-is : book' ≡ answered line book call .book

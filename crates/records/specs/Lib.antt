@@ -1,4 +1,3 @@
-pub mod Load
 pub mod Step
 pub mod Answered
 pub mod Reader

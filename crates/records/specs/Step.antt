@@ -15,7 +15,7 @@ use Rattle.sizes.specs.Frame.{sessionOctets}
 use Rattle.voice.specs.Slot.{lostOf, voiceOf, IsSession}
 use Rattle.voice.specs.Vector.{announceOf}
 use Rattle.lines.specs.Record.{Record, Load, Open, Join, Voice, Announce, Lost, End, Malformed}
-use Rattle.records.specs.Load.{loadOf}
+use Rattle.keybook.specs.Operations.{loadOf}
 
 -- an answer, the book and the call after it, and the frame afterwards where a voice slot was done, else none
 pub record Stepped : Type 0 where

@@ -1,6 +1,4 @@
 // Text records for a receiver: a record to an operation on book and call, its answer to a line, and lines out of pieces of input.
-pub mod answered;
-pub mod load;
 mod output;
 pub mod reader;
 mod respond;

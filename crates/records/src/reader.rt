@@ -6,11 +6,11 @@ ghost use lib.ListN.{length, take};
 ghost use Rattle.records.specs.Step.{Cached};
 ghost use Rattle.records.specs.Answered.{answerRoom, Responded};
 ghost use Rattle.records.specs.Reader.{keptOctets, reading, carried, started, takeFrom, takeOf, finishFrom, finishOf};
-use crate::answered::ANSWER_ROOM;
 use crate::respond::Response;
 use crate::respond::respond;
 use lines::record::LINE_OCTETS;
 use octets::copy;
+use sizes::frame::FRAME_OCTETS;
 use sizes::frame::SESSION_OCTETS;
 use text::part::LINE_END;
 use text::part::part_end;
@@ -19,6 +19,11 @@ use voice::call::no_call;
 
 // The most octets of a line that are kept: one more than a line may have, which shows that it is too long.
 pub const KEPT_OCTETS: usize = LINE_OCTETS + 1;
+
+const NUMBER_ROOM: usize = 3;
+
+// Room for any output line.
+pub const ANSWER_ROOM: usize = NUMBER_ROOM + 1 + NUMBER_ROOM + 1 + 2 * FRAME_OCTETS + 1;
 
 // The octets of the line that has not ended, zeros past them, and the call.
 pub struct Carry {

@@ -1,9 +1,9 @@
--- `records::load::load` meets its contract.
+-- `keybook::load` meets its contract.
 use borrow.Author.Needs.{needs}
 use Rattle.answers.proofs.OutcomeLaws.{is-done, not-done}
-use Rattle.records.proofs.LoadLaws.{begin-refuses, add-refuses, finish-refuses, finish-done}
-use Rattle.records.proofs.load.load.Statement.{statement}
-use Rattle.records.proofs.load.load.Tie as tie
+use Rattle.keybook.proofs.LoadLaws.{begin-refuses, add-refuses, finish-refuses, finish-done}
+use Rattle.keybook.proofs.load.Statement.{statement}
+use Rattle.keybook.proofs.load.Tie as tie
 
 returns : tie.Need-returns
 returns c = begin-refuses _ _ _ _ (c .before .before .before .before .begin .ensures) (not-done (c .before .before .before .before .begin .result) (c .before .number .ensures) (search needs))

@@ -1,4 +1,4 @@
--- The ways through a K record, and that a refused one leaves the book as it was.
+-- The ways through the loading of a key, and that a refused one leaves the book as it was.
 use mathlib.Core.Path.{_≡_, refl, sym, ap, subst, _∙_}
 use mathlib.Core.Bool.{Bool, true, false, true≢false}
 use mathlib.Core.List.{List}
@@ -9,10 +9,9 @@ use Rattle.answers.specs.declared.Answer.the-variants.{Done}
 use Rattle.answers.specs.Numbers.{numberOf, isDone}
 use Rattle.answers.proofs.NumberLaws.{one-number}
 use Rattle.keyentry.specs.Entry.{isReady}
-use Rattle.keybook.specs.Operations.{beginOf, addOf, finishOf, eraseOf}
+use Rattle.keybook.specs.Operations.{beginOf, addOf, finishOf, eraseOf, loadOf}
 use Rattle.keybook.proofs.Laws.{Refuses, refused-begin-keeps, refused-add-keeps, refused-finish-keeps}
 use Rattle.keybook.proofs.UndoLaws.{Begun, begun-begin, begun-add, begun-finish, begun-erased, finish-ready}
-use Rattle.records.specs.Load.{loadOf}
 
 module _ (b : List ℕ) (c i : ℕ) (key : List ℕ) {begun : List ℕ} {a : Answer} (begins : (a, begun) ≡ beginOf b c i) where
   pub begin-refuses : isDone a ≡ false → (a, begun) ≡ loadOf b c i key
@@ -27,13 +26,13 @@ module _ (b : List ℕ) (c i : ℕ) (key : List ℕ) {begun : List ℕ} {a : Ans
     module _ (z : isDone d ≡ true) {finished : List ℕ} {f : Answer} (finishes : (f, finished) ≡ finishOf added c i) where
       pub finish-refuses : {e : Answer} {erased : List ℕ} → isDone f ≡ false → (e, erased) ≡ eraseOf finished c i → (f, erased) ≡ loadOf b c i key
       unfolding loadOf
-      finish-refuses n r = rw (← begins, y, ← adds, z, z, ← finishes, n, ← r)
+      finish-refuses n r = rw (← begins, y, ← adds, z, ← finishes, n, ← r)
 
       pub finish-done : isDone f ≡ true → (f, finished) ≡ loadOf b c i key
       unfolding loadOf
-      finish-done n = rw (← begins, y, ← adds, z, z, ← finishes, n)
+      finish-done n = rw (← begins, y, ← adds, z, ← finishes, n)
 
--- ---- what a K comes to
+-- ---- what it comes to
 
 refuses : (o : Answer × List ℕ) → isDone (o .0) ≡ false → Refuses o
 refuses o n e = true≢false (sym (ap isDone e) ∙ n)
@@ -83,7 +82,7 @@ module _ (b : List ℕ) (c i : ℕ) (key : List ℕ) where
           let k = sym (refused-begin-keeps b c i (refuses (beginOf b c i) y)) in
           subst P (ap (λ (x : List ℕ). (beginOf b c i .0, x)) k ∙ begin-refuses b c i key refl y) (at-begin y)
 
-  -- a refused K leaves the book as it was
+  -- a refused one leaves the book as it was
   pub load-keeps : Refuses (loadOf b c i key) → loadOf b c i key .1 ≡ b
   load-keeps =
       load-ways (λ o. Refuses o → o .1 ≡ b) (λ y n. refl) (λ k e begun m z n. refl) (λ k e added m w n. refl) (λ k e after m r n. absurd (n refl))
