@@ -3,3 +3,7 @@ pub mod PartedLaws
 pub mod DecimalLaws
 pub mod HexLaws
 pub mod FieldLaws
+pub mod ReaderLaws
+pub mod RoomLaws
+pub mod TakeLaws
+pub mod CarryLaws
