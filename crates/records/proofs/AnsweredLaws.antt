@@ -8,24 +8,21 @@ use lib.ListN.{length}
 use Rattle.octets.specs.Lists.{replaced}
 use Rattle.answers.specs.declared.Answer.{Answer}
 use Rattle.voice.specs.declared.call.Call.{Call}
+use Rattle.text.specs.Responded.{Responded}
 use Rattle.lines.specs.Record.{Record, lineOf}
 use Rattle.records.specs.Step.{stepOf, asStepped}
-use Rattle.records.specs.Answered.{answerLine, answerRoom, Laid, Answered, answeredBy, answered, overlaid, Responded}
+use Rattle.records.specs.Lent.{Laid}
+use Rattle.records.specs.Answered.{answerLine, answerRoom, Receiver, receiver, answeredBy, answered}
+use Rattle.records.specs.Reader.{lineReader}
 use Rattle.records.proofs.OutputLaws.{laid-as}
 
 -- a record read, done and printed
 pub responded : (line book : List ℕ) (call : Call) {out book' frame out' : List ℕ} {r : Record} {a : Answer} {call' : Call} {n : ℕ} → r ≡ lineOf line
-    → asStepped a book' call' frame ≡ stepOf r book call → Laid answerRoom out 0 (answerLine a call' frame) out' n → Responded line book call out n book' call' out'
-unfolding answered
+    → asStepped a book' call' frame ≡ stepOf r book call → Laid answerRoom out 0 (answerLine a call' frame) out' n
+    → Responded lineReader line (receiver book call) out n (receiver book' call') out'
+unfolding answered replaced
 responded line book call p q l =
     let e = ap answeredBy (q ∙ ap (λ (x : Record). stepOf x book call) p) in
-    record {
-      laid = laid-as l (ap (λ (x : Answered). x .output) e) (omega arith);
-      book-is = ap (λ (x : Answered). x .book) e;
-      call-is = ap (λ (x : Answered). x .call) e;
-    }
-
--- what is written from the start on
-pub laid-start : {most : ℕ} {out text after : List ℕ} {n : ℕ} → Laid most out 0 text after n → (n ≡ length text) × (after ≡ overlaid out text)
-unfolding replaced
-laid-start {most} {out} {text} {after} {n} l = (l .ends ∙ zero-add (length text), l .octets ∙ rw (zero-add (length text)))
+    let m = laid-as {most' = answerRoom} l (ap (λ (x : List ℕ × Receiver). x .0) e) (omega arith) in
+    let none = zero-add (length (answered line (receiver book call) .0)) in
+    record { within = m .within; long = m .ends ∙ none; octets = m .octets ∙ rw none; state-is = ap (λ (x : List ℕ × Receiver). x .1) e }

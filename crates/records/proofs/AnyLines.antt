@@ -13,8 +13,9 @@ use Rattle.lines.specs.Record.{Record, Load, Open, Join, Voice, Announce, Lost,
 use Rattle.records.specs.Step.{stepOf}
 use Rattle.records.specs.Reach.{answersTo}
 use Rattle.records.specs.declared.reader.Carry.{Carry}
-use Rattle.records.specs.Answered.{answerLine, answerRoom, answered}
-use Rattle.records.specs.Reader.{linesOf, allAnswered, started, finishOf, Run}
+use Rattle.records.specs.Answered.{answerLine, answerRoom, Receiver, receiver, answered}
+use Rattle.text.specs.Reader.{linesOf, allAnswered}
+use Rattle.records.specs.Reader.{lineReader, started, closeOf, Run}
 use Rattle.records.proofs.RunLaws.{run-whole}
 use Rattle.records.proofs.SoundLaws.{Sound, first-sound, step-sound, lines-sound}
 use Rattle.records.proofs.ReachLaws.{step-can}
@@ -46,20 +47,21 @@ none-has Malformed = (refl, refl, refl, λ e. refl)
 other : (ns : List ℕ) {n m : ℕ} → isOneOf n ns ≡ true → isOneOf m ns ≡ false → n ≡ m → ⊥
 other ns t f e = true≢false (sym t ∙ ap (λ (x : ℕ). isOneOf x ns) e ∙ f)
 
+-- before any line
+abbrev pub first : Receiver
+first = receiver (replicate bookOctets 0) noCall
+
 -- lines from the start, and one line more
 module _ (ls : List (List ℕ)) (l : List ℕ) where
-  abbrev pub bookThen : List ℕ
-  bookThen = allAnswered ls (replicate bookOctets 0) noCall .book
-
-  abbrev pub callThen : Call
-  callThen = allAnswered ls (replicate bookOctets 0) noCall .call
+  abbrev pub then : Receiver
+  then = allAnswered lineReader ls first .1
 
   abbrev pub numberThen : ℕ
-  numberThen = numberOf (stepOf (lineOf l) bookThen callThen .answer)
+  numberThen = numberOf (stepOf (lineOf l) (then .book) (then .call) .answer)
 
   -- it gets one of its record's answers
   pub answers-its : isOneOf numberThen (answersTo (lineOf l)) ≡ true
-  answers-its = step-can bookThen callThen (lines-sound ls first-sound) l (lineOf l) refl
+  answers-its = step-can (then .book) (then .call) (lines-sound ls first first-sound) l (lineOf l) refl
 
   -- so never 2, 4 or 14, nor 6 where it is an O or a J
   pub never-answers : (numberThen ≡ 2 → ⊥) × (numberThen ≡ 4 → ⊥) × (numberThen ≡ 14 → ⊥) × (isOpening (lineOf l) ≡ true → numberThen ≡ 6 → ⊥)
@@ -76,14 +78,14 @@ pub data Printed : List (List ℕ) → List ℕ → Type 0 where
   a-line : {ls : List (List ℕ)} {rest : List ℕ} (l : List ℕ) (a : Answer) (call : Call) (frame : List ℕ) → isOneOf (numberOf a) (answersTo (lineOf l)) ≡ true
       → Printed ls rest → Printed (l ∷ ls) (answerLine a call frame ++ rest)
 
-lines-print : (ls : List (List ℕ)) {book : List ℕ} {call : Call} → Sound book call → Printed ls (allAnswered ls book call .output)
+lines-print : (ls : List (List ℕ)) (r : Receiver) → Sound (r .book) (r .call) → Printed ls (allAnswered lineReader ls r .0)
 unfolding allAnswered answered
-lines-print [] s = no-line
-lines-print (l ∷ ls) {book} {call} s =
-    let r = stepOf (lineOf l) book call in
-    a-line l (r .answer) (r .call) (r .frame) (step-can book call s l (lineOf l) refl) (lines-print ls (step-sound (lineOf l) s))
+lines-print [] r s = no-line
+lines-print (l ∷ ls) r s =
+    let o = stepOf (lineOf l) (r .book) (r .call) in
+    a-line l (o .answer) (o .call) (o .frame) (step-can (r .book) (r .call) s l (lineOf l) refl) (lines-print ls (answered l r .1) (step-sound (lineOf l) s))
 
 -- an input whole, however it is cut
 pub run-prints : {input output e : List ℕ} {d : Carry} → Run started (replicate bookOctets 0) input output d e → (out : List ℕ) → answerRoom ≤ length out
-    → {w : ℕ} {c : Carry} {b out' : List ℕ} → (w, (c, (b, out'))) ≡ finishOf d e out → Printed (linesOf input) (output ++ take w out')
-run-prints {input} r out h q = rw (run-whole r out h q .output-is) (lines-print (linesOf input) first-sound)
+    → {w : ℕ} {c : Carry} {b out' : List ℕ} → (w, (c, (b, out'))) ≡ closeOf d e out → Printed (linesOf input) (output ++ take w out')
+run-prints {input} r out h q = rw (run-whole r out h q .output-is) (lines-print (linesOf input) first first-sound)

@@ -2,12 +2,8 @@ pub mod OutputLaws
 pub mod StepLaws
 pub mod AnsweredLaws
 pub mod ReaderLaws
-pub mod RoomLaws
-pub mod CarryLaws
-pub mod TakeLaws
 pub mod Settled
 pub mod RunLaws
-pub mod BoundLaws
 pub mod SoundLaws
 pub mod ReachLaws
 pub mod AnyLines

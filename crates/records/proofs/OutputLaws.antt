@@ -20,7 +20,8 @@ use Rattle.text.specs.Decimal.{decimal}
 use Rattle.text.specs.Hex.{hexText}
 use Rattle.text.proofs.DecimalLaws.{decimal-size}
 use Rattle.text.proofs.HexLaws.{length-hexText}
-use Rattle.records.specs.Answered.{dash, place, shown, answerLine, numberRoom, answerRoom, Laid}
+use Rattle.records.specs.Answered.{dash, place, shown, answerLine, numberRoom, answerRoom}
+use Rattle.records.specs.Lent.{Laid}
 
 module _ {most at : ℕ} {d text after : List ℕ} {next : ℕ} (l : Laid most d at text after next) (fits : at + length text ≤ length d) where
   front : length (take at d ++ text) ≡ next

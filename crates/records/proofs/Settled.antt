@@ -14,7 +14,7 @@ use Rattle.lines.specs.Record.{Record, Load, Open, Join, Voice, Announce, Lost,
 use Rattle.records.specs.declared.reader.Carry.{Carry}
 use Rattle.keybook.specs.Operations.{loadOf}
 use Rattle.records.specs.Step.{stepOf, asStepped}
-use Rattle.records.specs.Reader.{started, takeOf, finishOf}
+use Rattle.records.specs.Reader.{started, Left, takeOf, closeOf}
 use Rattle.keybook.proofs.LoadLaws.{load-keeps}
 
 -- ---- any two outcomes are equal
@@ -24,10 +24,10 @@ one-start c d p q = p ∙ sym q
 
 module _ (book out : List ℕ) where
   -- what was used and written, what is carried on, the book and the lent octets
-  pub one-take : (carry : Carry) (piece : List ℕ) (a b : ℕ × (ℕ × (Carry × (List ℕ × List ℕ)))) → a ≡ takeOf carry piece book out → b ≡ takeOf carry piece book out → a ≡ b
+  pub one-take : (carry : Carry) (piece : List ℕ) (a b : ℕ × Left) → a ≡ takeOf carry piece book out → b ≡ takeOf carry piece book out → a ≡ b
   one-take carry piece a b p q = p ∙ sym q
 
-  pub one-finish : (carry : Carry) (a b : ℕ × (Carry × (List ℕ × List ℕ))) → a ≡ finishOf carry book out → b ≡ finishOf carry book out → a ≡ b
+  pub one-finish : (carry : Carry) (a b : Left) → a ≡ closeOf carry book out → b ≡ closeOf carry book out → a ≡ b
   one-finish carry a b p q = p ∙ sym q
 
 -- ---- a refusal changes nothing

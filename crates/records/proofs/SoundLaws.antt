@@ -32,8 +32,9 @@ use Rattle.voice.proofs.OpeningGood.{open-good, join-good}
 use Rattle.lines.specs.Record.{Record, Load, Open, Join, Voice, Announce, Lost, End, Malformed, lineOf}
 use Rattle.keybook.specs.Operations.{loadOf}
 use Rattle.records.specs.Step.{stepOf}
-use Rattle.records.specs.Answered.{answered}
-use Rattle.records.specs.Reader.{allAnswered}
+use Rattle.text.specs.Reader.{allAnswered}
+use Rattle.records.specs.Answered.{Receiver, answered}
+use Rattle.records.specs.Reader.{lineReader}
 use Rattle.keybook.proofs.UndoLaws.{Begun, begun-good, begun-entry, begun-other}
 use Rattle.keybook.proofs.LoadLaws.{load-ways}
 
@@ -155,7 +156,9 @@ step-sound End {book} {call} s = with-call s (end-good call (s .call-good)) (end
 step-sound Malformed s = s
 
 -- and so do any lines
-pub lines-sound : (ls : List (List ℕ)) {book : List ℕ} {call : Call} → Sound book call → Sound (allAnswered ls book call .book) (allAnswered ls book call .call)
+pub lines-sound : (ls : List (List ℕ)) (r : Receiver) → Sound (r .book) (r .call)
+    → let after = allAnswered lineReader ls r .1 in
+    Sound (after .book) (after .call)
 unfolding allAnswered answered
-lines-sound [] s = s
-lines-sound (l ∷ ls) s = lines-sound ls (step-sound (lineOf l) s)
+lines-sound [] r s = s
+lines-sound (l ∷ ls) r s = lines-sound ls (answered l r .1) (step-sound (lineOf l) s)

@@ -28,7 +28,8 @@ use Rattle.lines.specs.declared.record.Parsed.the-variants as code
 use Rattle.lines.specs.Record.{recordRoom, recordIn, countIn}
 use Rattle.records.specs.declared.step.Outcome.{Outcome}
 use Rattle.keybook.specs.Operations.{loadOf}
-use Rattle.records.specs.Step.{Stepped, ofBook, ofCall, ofSlot, stepOf, Cached, asStepped}
+use Rattle.records.specs.Step.{Stepped, ofBook, ofCall, ofSlot, stepOf, asStepped}
+use Rattle.records.specs.Lent.{Cached}
 
 -- ---- the session's octets
 

@@ -1,9 +1,6 @@
 -- What a record does to the book and the call (document 01, "The receiver program").
-use mathlib.Core.Path.{_≡_}
-use mathlib.Core.Bool.{Bool, true}
 use mathlib.Core.List.{List, []}
 use Prim.Native.Nat.{ℕ}
-use lib.ListN.{length}
 use Rattle.octets.specs.Tests.{pick}
 use Rattle.answers.specs.declared.Answer.{Answer}
 use Rattle.answers.specs.Numbers.{isDone}
@@ -11,8 +8,7 @@ use Rattle.answers.specs.declared.Answer.the-variants as answer
 use Rattle.voice.specs.declared.call.Call.{Call}
 use Rattle.voice.specs.Call.{endOf}
 use Rattle.voice.specs.Opening.{openOf, joinOf}
-use Rattle.sizes.specs.Frame.{sessionOctets}
-use Rattle.voice.specs.Slot.{lostOf, voiceOf, IsSession}
+use Rattle.voice.specs.Slot.{lostOf, voiceOf}
 use Rattle.voice.specs.Vector.{announceOf}
 use Rattle.lines.specs.Record.{Record, Load, Open, Join, Voice, Announce, Lost, End, Malformed}
 use Rattle.keybook.specs.Operations.{loadOf}
@@ -45,12 +41,6 @@ stepOf Lost book call = ofCall book (lostOf call)
 stepOf End book call = ofCall book (endOf call)
 stepOf Malformed book call = ofCall book (answer.Malformed, call)
 
--- ---- as the code has it
-
--- lent octets of a session, and whether they hold that of the call
-pub record Cached (made : Bool) (call : Call) (session : List ℕ) : Type 0 where
-  pub long : length session ≡ sessionOctets
-  pub holds : made ≡ true → IsSession call session
-
+-- as the code has it
 abbrev pub asStepped : Answer → List ℕ → Call → List ℕ → Stepped
 asStepped answer book call frame = record { answer = answer; book = book; call = call; frame = frame }

@@ -1,17 +1,20 @@
 // Lines out of pieces of input. What is carried from piece to piece is a value; the book and the room for output are lent.
 ghost use mathlib.Core.Path.{_≡_};
 ghost use mathlib.Core.List.{_++_};
-ghost use Prim.Native.Nat.{_≤_, min};
+ghost use Prim.Native.Nat.{_≤_};
 ghost use lib.ListN.{length, take};
-ghost use Rattle.records.specs.Step.{Cached};
-ghost use Rattle.records.specs.Answered.{answerRoom, Responded};
-ghost use Rattle.records.specs.Reader.{keptOctets, reading, carried, started, takeFrom, takeOf, finishFrom, finishOf};
+ghost use Rattle.text.specs.Responded.{Responded};
+ghost use Rattle.records.specs.Lent.{Cached};
+ghost use Rattle.records.specs.Answered.{answerRoom, receiver};
+ghost use Rattle.records.specs.Reader.{keptOctets, lineReader, reading, carried, started, takeFrom, takeOf, closeFrom, closeOf};
 use crate::respond::Response;
 use crate::respond::respond;
 use lines::record::LINE_OCTETS;
 use octets::copy;
 use sizes::frame::FRAME_OCTETS;
 use sizes::frame::SESSION_OCTETS;
+use text::carry::keep;
+use text::carry::least;
 use text::part::LINE_END;
 use text::part::part_end;
 use voice::call::Call;
@@ -58,15 +61,6 @@ pub fn start() -> Carry
     }
 }
 
-fn least(a: usize, b: usize) -> usize
-    ensures { λ r. ⌜ (r ≤ a) × (r ≤ b) × (r ≡ min a b) ⌝ }
-{
-    if a < b {
-        return a;
-    }
-    b
-}
-
 fn carry_on(kept: [u8; KEPT_OCTETS], count: usize, call: Call) -> Carry
     requires { ⌜ count ≤ keptOctets ⌝ }
     ensures { λ r. ⌜ r ≡ carried (take count kept) call ⌝ }
@@ -74,17 +68,6 @@ fn carry_on(kept: [u8; KEPT_OCTETS], count: usize, call: Call) -> Carry
     let mut line = [0; KEPT_OCTETS];
     copy(&kept[..count], &mut line[..count]);
     Carry { line, count, call }
-}
-
-// More octets of the line, as far as they are kept; how many there are then.
-fn keep(kept: &mut [u8], count: usize, octets: &[u8]) -> usize
-    requires { ⌜ (length (now kept) ≡ keptOctets) × (count ≤ keptOctets) ⌝ }
-    ensures { λ r. ⌜ (r ≤ keptOctets) × (take r (now (kept .exit)) ≡ take keptOctets (take count (now (kept .entry)) ++ now (octets .entry))) ⌝ }
-{
-    let n = least(octets.len(), KEPT_OCTETS - count);
-    let end = count + n;
-    copy(&octets[..n], &mut kept[count..end]);
-    end
 }
 
 // ---- a line that ends
@@ -101,7 +84,7 @@ fn end_line(
     out: &mut [u8],
 ) -> Response
     requires { ⌜ (length (now kept) ≡ keptOctets) × (count ≤ keptOctets) × (answerRoom ≤ length (now out)) × Cached made call (now session) ⌝ }
-    ensures { λ r. ⌜ Responded (take count (now (kept .entry)) ++ now (octets .entry)) (now (book .entry)) call (now (out .entry)) (r .length) (now (book .exit)) (r .call) (now (out .exit)) ⌝ }
+    ensures { λ r. ⌜ Responded lineReader (take count (now (kept .entry)) ++ now (octets .entry)) (receiver (now (book .entry)) call) (now (out .entry)) (r .length) (receiver (now (book .exit)) (r .call)) (now (out .exit)) ⌝ }
     ensures { λ r. ⌜ Cached (r .made) (r .call) (now (session .exit)) ⌝ }
 {
     if count > 0 {
@@ -182,7 +165,7 @@ fn finish_from(
     out: &mut [u8],
 ) -> Finished
     requires { ⌜ count ≤ keptOctets ⌝ }
-    ensures { λ r. ⌜ (r .wrote, (r .carry, (now (book .exit), now (out .exit)))) ≡ finishFrom (reading line count call (now (book .entry))) (now (out .entry)) ⌝ }
+    ensures { λ r. ⌜ (r .wrote, (r .carry, (now (book .exit), now (out .exit)))) ≡ closeFrom (reading line count call (now (book .entry))) (now (out .entry)) ⌝ }
 {
     if out.len() < ANSWER_ROOM {
         let carry = carry_on(line, count, call);
@@ -204,7 +187,7 @@ fn finish_from(
 
 // The end of the input. A last line may lack its line end. With no room for an output line nothing is done, and the line is carried on.
 pub fn finish(carry: Carry, book: &mut [u8], out: &mut [u8]) -> Finished
-    ensures { λ r. ⌜ (r .wrote, (r .carry, (now (book .exit), now (out .exit)))) ≡ finishOf carry (now (book .entry)) (now (out .entry)) ⌝ }
+    ensures { λ r. ⌜ (r .wrote, (r .carry, (now (book .exit), now (out .exit)))) ≡ closeOf carry (now (book .entry)) (now (out .entry)) ⌝ }
     ensures { λ r. ⌜ r .wrote ≤ length (now (out .exit)) ⌝ }
 {
     let line = carry.line;

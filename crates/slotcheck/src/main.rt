@@ -4,7 +4,8 @@ ghost use mathlib.Core.Bool.{true};
 ghost use Prim.Native.Nat.{_≤_};
 ghost use lib.ListN.{length};
 ghost use Rattle.records.specs.Answered.{answerRoom};
-ghost use Rattle.records.specs.Reader.{readingOf, fed};
+ghost use Rattle.text.specs.Reader.{fed};
+ghost use Rattle.records.specs.Reader.{lineReader, readingOf};
 use keybook::BOOK_OCTETS;
 use libc::STDERR_FILENO;
 use libc::STDIN_FILENO;
@@ -24,7 +25,7 @@ struct Pass {
 // whole piece gives.
 fn answer(carry: Carry, piece: &[u8], book: &mut [u8], out: &mut [u8]) -> Pass
     requires { ⌜ answerRoom ≤ length (now out) ⌝ }
-    ensures { λ r. ⌜ (r .more ≡ true → readingOf (r .carry) (now (book .exit)) ≡ fed (readingOf carry (now (book .entry))) (now (piece .entry)) .after) ⌝ }
+    ensures { λ r. ⌜ (r .more ≡ true → readingOf (r .carry) (now (book .exit)) ≡ fed lineReader (readingOf carry (now (book .entry))) (now (piece .entry)) .1) ⌝ }
 {
     let mut now = carry;
     let mut at = 0;

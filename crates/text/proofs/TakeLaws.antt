@@ -254,3 +254,10 @@ module _ {S : Type 0} (r : Reader S) where
       unfolding finished
       closed-line e d =
           rw (d .long, d .octets, d .state-is) (closes _ (lastly-is (r .act (s .line) (s .state)) (rw (ne-eqb (length (s .line)) 0 e))))
+
+  -- what is kept of a line is answered as all of it
+  pub responded-kept : Enough r → (l : List ℕ) (s : S) {out : List ℕ} {n : ℕ} {after : S} {out' : List ℕ}
+      → Responded r (take (r .most) l) s out n after out' → Responded r l s out n after out'
+  responded-kept enough l s d =
+      let e = enough .as-all l s in
+      record { within = rw e at (d .within); long = rw e at (d .long); octets = rw e at (d .octets); state-is = rw e at (d .state-is) }

@@ -8,14 +8,15 @@ use lib.ListN.{length, take, drop, length-drop}
 use lib.Seq.{length-take-le, take-all}
 use borrow.Rule.Slice.PartAt.{part-to-end}
 use borrow.Author.Needs.{needs}
-use Rattle.records.specs.Reader.{readingOf, fed}
+use Rattle.text.specs.Reader.{fed}
+use Rattle.records.specs.Reader.{lineReader, readingOf}
 use Rattle.records.proofs.RunLaws.{fed-none, fed-more}
 use Rattle.slotcheck.proofs.answer.Statement.{statement}
 use Rattle.slotcheck.proofs.answer.Tie as tie
 
 abbrev Inv-loop : tie.InvT-loop
 Inv-loop piece book₀ out₀ now₀ at₀ book out now at =
-    (readingOf now book ≡ fed (readingOf now₀ book₀) (take at piece) .after) × (at ≤ length piece) × (length book ≡ length book₀) × (length out ≡ length out₀)
+    (readingOf now book ≡ fed lineReader (readingOf now₀ book₀) (take at piece) .1) × (at ≤ length piece) × (length book ≡ length book₀) × (length out ≡ length out₀)
 
 abbrev μ-loop : tie.MeasureT-loop
 μ-loop piece book₀ out₀ now₀ at₀ book out now at = length piece - at
@@ -42,7 +43,7 @@ loop-again c = (
 returns-2 : tie.Need-returns-2 Inv-loop μ-loop
 returns-2 c e =
     c .before .loop .inv .0
-    ∙ ap (λ (k : List ℕ). fed (readingOf (c .before .before .before .before .before .args .carry) (c .before .before .before .before .before .args .book .now)) k .after) (take-all (c .before .loop .at) (c .before .before .before .before .before .args .piece .now) (search needs))
+    ∙ ap (λ (k : List ℕ). fed lineReader (readingOf (c .before .before .before .before .before .args .carry) (c .before .before .before .before .before .args .book .now)) k .1) (take-all (c .before .loop .at) (c .before .before .before .before .before .args .piece .now) (search needs))
 
 pub answer-spec : {M : Type 1} → statement M
 answer-spec =

@@ -1,7 +1,7 @@
 -- `records::reader::carry_on` meets its contract.
 use native.Mathlib.Omega.{arith}
 use lib.ListN.{length-take}
-use Rattle.records.proofs.CarryLaws.{carried-is}
+use Rattle.records.proofs.ReaderLaws.{carried-is}
 use borrow.Author.Needs.{needs}
 use Rattle.records.proofs.reader.carry_on.Statement.{statement}
 use Rattle.records.proofs.reader.carry_on.Tie as tie

@@ -2,7 +2,9 @@
 use mathlib.Core.Path.{_≡_}
 use native.Mathlib.Omega.{arith}
 use lib.ListN.{length-take}
-use Rattle.records.proofs.CarryLaws.{responded-kept}
+use Rattle.text.proofs.TakeLaws.{responded-kept}
+use Rattle.records.specs.Reader.{lineReader}
+use Rattle.records.proofs.ReaderLaws.{enough}
 use borrow.Author.Needs.{needs}
 use Rattle.records.proofs.reader.end_line.Statement.{statement}
 use Rattle.records.proofs.reader.end_line.Tie as tie
@@ -11,7 +13,7 @@ slice-aggregate-respond : tie.Need-slice-aggregate-respond
 slice-aggregate-respond c = simp length-take (omega arith)
 
 returns : tie.Need-returns
-returns c = (responded-kept _ _ _ (rw (c .before .before .before .before .before .before .before .before .before .before .before .before .before .keep .ensures .1) at (c .before .before .before .before .before .before .respond .ensures .0)), c .before .before .before .before .before .before .respond .ensures .1)
+returns c = (responded-kept lineReader enough _ _ (rw (rw (c .before .before .before .before .before .before .before .before .before .before .before .before .before .before .before .before .before .before .before .before .before .pre .0) at (c .before .before .before .before .before .before .before .before .before .before .before .before .before .keep .ensures .1)) at (c .before .before .before .before .before .before .respond .ensures .0)), c .before .before .before .before .before .before .respond .ensures .1)
 
 returns-2 : tie.Need-returns-2
 returns-2 c =

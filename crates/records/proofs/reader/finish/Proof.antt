@@ -1,7 +1,6 @@
 -- `records::reader::finish` meets its contract.
 use mathlib.Core.Path.{_∙_}
-use Rattle.records.proofs.BoundLaws.{finish-wrote}
-use Rattle.records.proofs.TakeLaws.{reading-is}
+use Rattle.records.proofs.ReaderLaws.{reading-is, close-bounds}
 use borrow.Author.Needs.{needs}
 use Rattle.records.proofs.reader.finish.Statement.{statement}
 use Rattle.records.proofs.reader.finish.Tie as tie
@@ -9,7 +8,7 @@ use Rattle.records.proofs.reader.finish.Tie as tie
 returns : tie.Need-returns
 returns c = (
   c .before .before .before .before .finish-from .ensures ∙ rw (reading-is (c .before .before .before .before .before .before .before .before .before .before .before .before .args .carry .line) _ _ _ _ (search needs) (c .before .before .before .before .before .before .before .least .ensures .2)),
-  finish-wrote _ _ (c .before .before .before .before .finish-from .ensures) (search needs),
+  close-bounds _ _ (c .before .before .before .before .finish-from .ensures) (search needs),
 )
 
 pub finish-spec : {M : Type 1} → statement M

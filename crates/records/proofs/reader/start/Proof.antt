@@ -1,5 +1,5 @@
 -- `records::reader::start` meets its contract.
-use Rattle.records.proofs.CarryLaws.{started-is}
+use Rattle.records.proofs.ReaderLaws.{started-is}
 use borrow.Author.Needs.{needs}
 use Rattle.records.proofs.reader.start.Statement.{statement}
 use Rattle.records.proofs.reader.start.Tie as tie

@@ -1,7 +1,6 @@
 -- `records::reader::take` meets its contract.
 use mathlib.Core.Path.{_∙_}
-use Rattle.records.proofs.BoundLaws.{take-used, take-wrote, take-some}
-use Rattle.records.proofs.TakeLaws.{reading-is}
+use Rattle.records.proofs.ReaderLaws.{reading-is, take-bounds}
 use borrow.Author.Needs.{needs}
 use Rattle.records.proofs.reader.take.Statement.{statement}
 use Rattle.records.proofs.reader.take.Tie as tie
@@ -9,10 +8,7 @@ use Rattle.records.proofs.reader.take.Tie as tie
 returns : tie.Need-returns
 returns c = (
   c .before .before .before .before .take-from .ensures ∙ rw (reading-is (c .before .before .before .before .before .before .before .before .before .before .before .before .before .args .carry .line) _ _ _ _ (search needs) (c .before .before .before .before .before .before .before .least .ensures .2)),
-  (
-    (take-used _ _ _ (c .before .before .before .before .take-from .ensures), take-wrote _ _ _ (c .before .before .before .before .take-from .ensures) (search needs)),
-    take-some _ _ _ (c .before .before .before .before .take-from .ensures),
-  ),
+  take-bounds _ _ _ (c .before .before .before .before .take-from .ensures) (search needs),
 )
 
 pub take-spec : {M : Type 1} → statement M
