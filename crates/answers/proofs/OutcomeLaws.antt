@@ -66,6 +66,11 @@ abbrev pub Gives : (Answer → Type 0) → Refusals → Type 0
 Gives P [] = Unit {0}
 Gives P (r ∷ rs) = (r .0 ≡ true → P (r .1)) × (r .0 ≡ false → Gives P rs)
 
+-- and refusals after them
+pub gives-more : (P : Answer → Type 0) (rs more : Refusals) → Gives P rs → Gives P more → Gives P (rs ++ more)
+gives-more P [] more g h = h
+gives-more P (r ∷ rs) more g h = (g .0, λ e. gives-more P rs more (g .1 e) h)
+
 module _ {S : Type 0} where
   -- what holds of each refusal, and of the last answer where no test holds, holds of the outcome
   pub by-refusals : (P : Answer × S → Type 0) (before : S) (rs : Refusals) (last : Answer × S)

@@ -10,7 +10,7 @@ use borrow.Author.Tests.{le-ltb, lt-ltb, ltb-true, eq-eqb, not-false}
 use Rattle.answers.specs.declared.Answer.{Answer}
 use Rattle.answers.specs.declared.Answer.the-variants.{Done}
 use Rattle.answers.specs.Numbers.{numberOf, isOneOf}
-use Rattle.answers.proofs.OutcomeLaws.{gives}
+use Rattle.answers.proofs.OutcomeLaws.{Gives, gives-more, gives}
 use Rattle.keyentry.specs.Entry.{cipherIn, isReady, inRange, extendRefusals, completeRefusals}
 use Rattle.sizes.specs.Ciphers.{keyRoom, vectorOctets}
 use Rattle.keyentry.proofs.RightLaws.{for-parts}
@@ -20,7 +20,7 @@ use Rattle.keybook.specs.Operations.{hasEntry, entryFor, beginRefusals, beginAf
 use Rattle.keybook.proofs.GoodLaws.{good-sized, found-for}
 use Rattle.openings.specs.Ladder.{keyRefusals, vectorRefusals}
 use Rattle.voice.specs.declared.call.Call.{Call}
-use Rattle.voice.specs.Call.{standing, isBad, knows, endRefusals, endOf}
+use Rattle.voice.specs.Call.{standing, isBad, stands, knows, endRefusals, endOf}
 use Rattle.voice.specs.Opening.{joinRefusals, openRefusals, begun, openOf, joinOf}
 use Rattle.sizes.specs.Frame.{frameOctets}
 use Rattle.voice.specs.Slot.{lostRefusals, lostOf, zeroNext, voiceRefusals, streamOf, voiceAfter, voiceBy, voiceOf}
@@ -96,44 +96,28 @@ module _ (book : List ℕ) (call : Call) (s : Sound book call) where
   good-stays : {A : Type 0} → isBad (standing call) ≡ true → A
   good-stays = never (not-bad call (s .call-good))
 
+  -- what the opening asks of the key, of a record that can get 0, 3, 5 and 9
+  key-can : (r : Record) → isOneOf 3 (answersTo r) ≡ true → isOneOf 5 (answersTo r) ≡ true → isOneOf 9 (answersTo r) ≡ true → (c i : ℕ)
+      → Gives (Can r) (keyRefusals true (isBad (standing call)) (stands (standing call)) c i book)
+  unfolding keyRefusals
+  key-can r three five nine c i = (
+    book-sized book (s .book-good),
+    λ _. (
+      λ h. three,
+      λ n. (good-stays, λ _. (λ h. nine, λ _. (never-not (s .book-good), λ _. (λ h. five, λ t. (never-not (ready-there c i n t), λ _. tt))))),
+    ),
+  )
+
   open-can : (c i : ℕ) (w : List ℕ) → length w ≡ vectorOctets → Can (Open c i w) (openOf call c i w book .0)
-  unfolding openOf openRefusals vectorRefusals keyRefusals
+  unfolding openOf openRefusals vectorRefusals
   open-can c i w l =
-      gives (Can (Open c i w)) call (openRefusals (standing call) c i w book) _ (
-        never-not (eq-eqb (length w) vectorOctets l),
-        λ _. (
-          book-sized book (s .book-good),
-          λ _. (
-            λ h. refl,
-            λ n. (
-              good-stays,
-              λ _. (
-                λ h. refl,
-                λ _.
-                    (never-not (s .book-good), λ _. (λ h. refl, λ t. (never-not (ready-there c i n t), λ _. (λ h. refl, λ _. tt)))),
-              ),
-            ),
-          ),
-        ),
-      ) refl
+      let r = Open c i w in
+      gives (Can r) call (openRefusals (standing call) c i w book) _
+      (never-not (eq-eqb (length w) vectorOctets l), λ _. gives-more (Can r) (keyRefusals true (isBad (standing call)) (stands (standing call)) c i book) _ (key-can r refl refl refl c i) (λ h. refl, λ _. tt)) refl
 
   join-can : (c i : ℕ) → Can (Join c i) (joinOf call c i book .0)
-  unfolding joinOf joinRefusals keyRefusals
-  join-can c i =
-      gives (Can (Join c i)) call (joinRefusals (standing call) c i book) _ (
-        book-sized book (s .book-good),
-        λ _. (
-          λ h. refl,
-          λ n. (
-            good-stays,
-            λ _. (
-              λ h. refl,
-              λ _.
-                  (never-not (s .book-good), λ _. (λ h. refl, λ t. (never-not (ready-there c i n t), λ _. tt))),
-            ),
-          ),
-        ),
-      ) refl
+  unfolding joinOf joinRefusals
+  join-can c i = gives (Can (Join c i)) call (joinRefusals (standing call) c i book) _ (key-can (Join c i) refl refl refl c i) refl
 
   voice-can : (mask : ℕ) (frame : List ℕ) → length frame ≡ frameOctets → Can (Voice mask frame) (voiceOf call mask frame .0)
   unfolding voiceBy voiceRefusals
