@@ -9,10 +9,10 @@ use lib.Seq.{take-all, take-append-seam, length-take-le}
 use borrow.Author.Tests.{lt-ltb}
 use Rattle.voice.specs.declared.call.Call.{Call}
 use Rattle.voice.specs.Call.{noCall}
-use Rattle.text.specs.Reader.{Reading, taken, closed}
+use Rattle.text.specs.Reader.{Reading, taken, closing}
 use Rattle.text.proofs.ReaderLaws.{Enough}
 use Rattle.text.proofs.CarryLaws.{take-least}
-use Rattle.text.proofs.TakeLaws.{taken-used, taken-wrote, taken-some, closed-wrote}
+use Rattle.text.proofs.TakeLaws.{taken-used, taken-wrote, taken-some, closing-wrote}
 use Rattle.lines.specs.Record.{lineOctets, lineOf}
 use Rattle.records.specs.declared.reader.Carry.{Carry}
 use Rattle.records.specs.Answered.{answerRoom, Receiver, receiver, answered}
@@ -80,14 +80,14 @@ module _ (s : Reading Receiver) (piece out : List ℕ) {n w : ℕ} {out' : List 
       ((taken-used lineReader s piece out t, taken-wrote lineReader s piece out t l), taken-some lineReader s piece out t)
 
 module _ (s : Reading Receiver) (out : List ℕ) {w : ℕ} {out' : List ℕ} where
-  pub as-closed : {line book : List ℕ} {call : Call} → (w, (record { line = line; state = receiver book call }, out')) ≡ closed lineReader s out
+  pub as-closing : {line book : List ℕ} {call : Call} → (w, (record { line = line; state = receiver book call }, out')) ≡ closing lineReader s out
       → (w, (carried line call, (book, out'))) ≡ closeFrom s out
   unfolding closeFrom
-  as-closed q = ap handed q
+  as-closing q = ap handed q
 
-  pub closed-is : {c : Carry} {b : List ℕ} → (w, (c, (b, out'))) ≡ closeFrom s out → (w, (readingOf c b, out')) ≡ closed lineReader s out
+  pub closing-is : {c : Carry} {b : List ℕ} → (w, (c, (b, out'))) ≡ closeFrom s out → (w, (readingOf c b, out')) ≡ closing lineReader s out
   unfolding closeFrom
-  closed-is q = ap readBack q ∙ read-handed (closed lineReader s out)
+  closing-is q = ap readBack q ∙ read-handed (closing lineReader s out)
 
   pub close-bounds : {c : Carry} {b : List ℕ} → (w, (c, (b, out'))) ≡ closeFrom s out → length out' ≡ length out → w ≤ length out'
-  close-bounds q l = closed-wrote lineReader s out (closed-is q) l
+  close-bounds q l = closing-wrote lineReader s out (closing-is q) l

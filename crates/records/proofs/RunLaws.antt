@@ -6,13 +6,13 @@ use lib.ListN.{length, take, drop}
 use lib.Seq.{take-add}
 use borrow.Rule.Slice.PartAt.{part-to-end}
 use Rattle.voice.specs.Call.{noCall}
-use Rattle.text.specs.Reader.{Reading, fresh, andThen, fed, finished, closed}
+use Rattle.text.specs.Reader.{Reading, fresh, andThen, fed, finished, closing}
 use Rattle.text.proofs.ReaderLaws.{fed-append, whole}
-use Rattle.text.proofs.TakeLaws.{taken-fed, closed-all}
+use Rattle.text.proofs.TakeLaws.{taken-fed, closing-all}
 use Rattle.records.specs.declared.reader.Carry.{Carry}
 use Rattle.records.specs.Answered.{answerRoom, Receiver, receiver}
 use Rattle.records.specs.Reader.{lineReader, readingOf, carried, started, Left, wholeOf, takeOf, closeFrom, closeOf, Run, none, some, Whole}
-use Rattle.records.proofs.ReaderLaws.{enough, taken-is, closed-is}
+use Rattle.records.proofs.ReaderLaws.{enough, taken-is, closing-is}
 
 abbrev Fed : Type 0
 Fed = List ℕ × Reading Receiver
@@ -46,10 +46,10 @@ pub run-whole : {book input output e : List ℕ} {d : Carry} → Run started boo
 unfolding closeFrom
 run-whole {book} {input} {output} {e} {d} r out h {w} {c} {b} {out'} q =
     let s = readingOf d e in
-    let last = closed-all lineReader s out h (closed-is s out q) in
+    let last = closing-all lineReader s out h (closing-is s out q) in
     let all : andThen (output, s) (finished lineReader) ≡ wholeOf input book = ap (λ (f : Fed). andThen f (finished lineReader)) (sym (run-fed r)) ∙ whole lineReader enough input (receiver book noCall) in
-    let left = closed lineReader s out in
-    let after : left .1 .0 ≡ fresh (finished lineReader s .1) = closed-all lineReader s out h refl .1 in
+    let left = closing lineReader s out in
+    let after : left .1 .0 ≡ fresh (finished lineReader s .1) = closing-all lineReader s out h refl .1 in
     record {
       output-is = rw (last .0) (ap (λ (x : List ℕ × Receiver). x .0) all);
       book-is = ap (λ (x : Left). x .1 .1 .0) q ∙ ap (λ (t : Reading Receiver). t .state .book) after ∙ ap (λ (x : List ℕ × Receiver). x .1 .book) all;

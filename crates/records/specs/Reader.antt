@@ -6,7 +6,7 @@ use Prim.Native.Nat.{ℕ, _+_, _-_}
 use lib.ListN.{length, take, replicate}
 use Rattle.voice.specs.declared.call.Call.{Call}
 use Rattle.voice.specs.Call.{noCall}
-use Rattle.text.specs.Reader.{linesOf, Reader, Reading, allAnswered, taken, closed}
+use Rattle.text.specs.Reader.{linesOf, Reader, Reading, allAnswered, taken, closing}
 use Rattle.lines.specs.Record.{lineOctets}
 use Rattle.records.specs.declared.reader.Carry.{Carry}
 use Rattle.records.specs.Answered.{answerRoom, Receiver, receiver, answered}
@@ -50,7 +50,7 @@ takeOf carry piece book out = takeFrom (readingOf carry book) piece out
 
 -- the end of the input
 unfoldable pub closeFrom : Reading Receiver → List ℕ → Left
-closeFrom s out = handed (closed lineReader s out)
+closeFrom s out = handed (closing lineReader s out)
 
 abbrev pub closeOf : Carry → List ℕ → List ℕ → Left
 closeOf carry book out = closeFrom (readingOf carry book) out

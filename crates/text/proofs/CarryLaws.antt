@@ -29,10 +29,6 @@ keeps kept count h octets n p m e =
     let all : length (take count kept) + (length kept - count) ≡ length kept = omega (arith, front) in
     ap (take (count + n)) (sym (append-assoc (take count kept) p (postOf count (count + n - count) kept)))
     ∙ take-at (take count kept ++ p) (postOf count (count + n - count) kept) (count + n) f
-    ∙ ap (λ (r : List ℕ). take count kept ++ r) (e ∙ go (decLt (length octets) (length kept - count)))
+    ∙ ap (λ (r : List ℕ). take count kept ++ r) (e ∙ take-least octets (length kept - count) (length octets) n (omega arith) (omega arith))
     ∙ sym (take-append-add (take count kept) octets (length kept - count))
     ∙ ap (λ (k : ℕ). take k (take count kept ++ octets)) all
-  where
-    go : Dec (length octets < length kept - count) → take n octets ≡ take (length kept - count) octets
-    go (yes s) = take-all n octets (omega arith) ∙ sym (take-all (length kept - count) octets (omega arith))
-    go (no s) = let q : n ≡ length kept - count = omega arith in rw q

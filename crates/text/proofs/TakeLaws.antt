@@ -9,9 +9,9 @@ use lib.Seq.{take-all, take-at, drop-at, take-add, take-append-seam, drop-length
 use borrow.Rule.Slice.PartMut.{midOf, postOf, putMid, post-is}
 use borrow.Author.Tests.{lt-ltb, le-ltb, eq-eqb, ne-eqb}
 use Rattle.text.specs.Parted.{lineEnd, partEnd}
-use Rattle.text.specs.Reader.{Reader, Reading, fresh, overlaid, kept, fed, usable, leaves, taken, finished, lastly, closed}
+use Rattle.text.specs.Reader.{Reader, Reading, fresh, overlaid, fed, usable, leaves, taken, finished, lastly, closing}
 use Rattle.text.specs.Responded.{Responded}
-use Rattle.text.proofs.PartedLaws.{Lacks, end-from, end-within, partAt, part-long, part-lacks, part-ends}
+use Rattle.text.proofs.PartedLaws.{Lacks, end-from, partAt, part-long, part-lacks, part-ends}
 use Rattle.text.proofs.ReaderLaws.{fed-append, Enough}
 use Rattle.text.proofs.RoomLaws.{usable-within, usable-some, usable-none, usable-part, usable-line, fed-part, fed-line}
 
@@ -225,34 +225,34 @@ module _ {S : Type 0} (r : Reader S) where
   -- ---- the end of the input
 
   module _ (s : Reading S) (out : List ℕ) where
-    closes : (f : List ℕ × Reading S) → lastly r (length out) s ≡ f → leaves r out f ≡ closed r s out
-    unfolding closed
+    closes : (f : List ℕ × Reading S) → lastly r (length out) s ≡ f → leaves r out f ≡ closing r s out
+    unfolding closing
     closes f q = rw q
 
-    pub closed-wrote : {w : ℕ} {here : Reading S} {out' : List ℕ} → (w, (here, out')) ≡ closed r s out → length out' ≡ length out → w ≤ length out'
-    unfolding closed
-    closed-wrote = left-fits (lastly r (length out) s) out
+    pub closing-wrote : {w : ℕ} {here : Reading S} {out' : List ℕ} → (w, (here, out')) ≡ closing r s out → length out' ≡ length out → w ≤ length out'
+    unfolding closing
+    closing-wrote = left-fits (lastly r (length out) s) out
 
-    pub closed-none : length out < r .room → (0, (s, out)) ≡ closed r s out
-    closed-none h = closes ([], s) (rw (lt-ltb (length out) (r .room) h))
+    pub closing-none : length out < r .room → (0, (s, out)) ≡ closing r s out
+    closing-none h = closes ([], s) (rw (lt-ltb (length out) (r .room) h))
 
     module _ (h : r .room ≤ length out) where
       lastly-is : (a : List ℕ × S) → finished r s ≡ a → lastly r (length out) s ≡ (a .0, fresh (a .1))
       lastly-is a e = rw (le-ltb (length out) (r .room) h, e)
 
       -- with room, the output and the state are those of the end
-      pub closed-all : {w : ℕ} {here : Reading S} {out' : List ℕ} → (w, (here, out')) ≡ closed r s out → (take w out' ≡ finished r s .0) × (here ≡ fresh (finished r s .1))
-      closed-all q =
+      pub closing-all : {w : ℕ} {here : Reading S} {out' : List ℕ} → (w, (here, out')) ≡ closing r s out → (take w out' ≡ finished r s .0) × (here ≡ fresh (finished r s .1))
+      closing-all q =
           let f = left-is (finished r s .0, fresh (finished r s .1)) out (q ∙ sym (closes _ (lastly-is (finished r s) refl))) in
           (sym (ap (λ (x : List ℕ × Reading S). x .0) f), sym (ap (λ (x : List ℕ × Reading S). x .1) f))
 
-      pub closed-empty : length (s .line) ≡ 0 → (0, (fresh (s .state), out)) ≡ closed r s out
+      pub closing-empty : length (s .line) ≡ 0 → (0, (fresh (s .state), out)) ≡ closing r s out
       unfolding finished
-      closed-empty e = closes _ (lastly-is ([], s .state) (rw (eq-eqb (length (s .line)) 0 e)))
+      closing-empty e = closes _ (lastly-is ([], s .state) (rw (eq-eqb (length (s .line)) 0 e)))
 
-      pub closed-line : (length (s .line) ≡ 0 → ⊥) → {n : ℕ} {after : S} {out' : List ℕ} → Responded r (s .line) (s .state) out n after out' → (n, (fresh after, out')) ≡ closed r s out
+      pub closing-line : (length (s .line) ≡ 0 → ⊥) → {n : ℕ} {after : S} {out' : List ℕ} → Responded r (s .line) (s .state) out n after out' → (n, (fresh after, out')) ≡ closing r s out
       unfolding finished
-      closed-line e d =
+      closing-line e d =
           rw (d .long, d .octets, d .state-is) (closes _ (lastly-is (r .act (s .line) (s .state)) (rw (ne-eqb (length (s .line)) 0 e))))
 
   -- what is kept of a line is answered as all of it

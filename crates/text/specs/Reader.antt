@@ -92,5 +92,5 @@ module _ {S : Type 0} (r : Reader S) where
   abbrev pub lastly : ℕ → Reading S → List ℕ × Reading S
   lastly left s = pick (ltb left (r .room)) ([], s) (finished s .0, fresh (finished s .1))
 
-  unfoldable pub closed : Reading S → List ℕ → ℕ × (Reading S × List ℕ)
-  closed s out = leaves out (lastly (length out) s)
+  unfoldable pub closing : Reading S → List ℕ → ℕ × (Reading S × List ℕ)
+  closing s out = leaves out (lastly (length out) s)
