@@ -1,19 +1,19 @@
--- Laws of the columns: the four rows of each, a column as a number turned by rows and added, and that a mixed column is the sum of its four
--- octets' columns, each turned to its row.
+-- Laws of the columns: the four rows of each, a column as a word rotated by rows and added, and that a mixed column is the sum of its four
+-- octets' columns, each rotated to its row.
 use mathlib.Core.Path.{_≡_, refl, sym, ap, ap₂, _∙_}
 use mathlib.Core.List.{List, [], _∷_}
 use Prim.Native.Nat.{ℕ, zero, suc, _+_, _*_, _/_, _%_, _^_, _≤_, _<_}
 use native.Mathlib.Nat.{add-zero}
 use native.Mathlib.Omega.{arith}
 use lib.Bits.{bitOr, bitXor, or-shifted, xor-block, xor-comm, xor-lt, xor-zero-r}
-use lib.ListN.{length, getD, set}
+use lib.ListN.{length, getD, set, length-set}
 use Rattle.octets.specs.Lists.{tab}
 use Rattle.octets.proofs.BitLaws.{xor-assoc}
 use Rattle.octets.proofs.Front.{Front, front-start, front-four, front-to, front-done}
 use Rattle.octets.proofs.ListLaws.{length-tab, getD-tab, tab-same}
 use Rattle.aes.specs.Field.{xtime, reduce, digit, mulBits, mul, sboxOf}
 use Rattle.aes.specs.Cipher.{word, mixed, mixColumns}
-use Rattle.aes.specs.Columns.{mixedAlone, IsColumns, joined}
+use Rattle.aes.specs.Prepared.{mixedAlone, IsColumns, asWord}
 use Rattle.aes.proofs.FieldLaws.{mul-two, mul-three}
 use Rattle.aes.proofs.StateLaws.{mixed-lt, octets-first, column-law}
 
@@ -40,47 +40,47 @@ alone-lt : (v r : ℕ) → v < 256 → mixedAlone v r < 256
 unfolding mixedAlone
 alone-lt v r h = mixed-lt _ r 0 (octets-first v h)
 
--- ---- a column as a number
+-- ---- a column as a word
 
 module _ (f : ℕ → ℕ) (o : (r : ℕ) → f r < 256) where
-  joined-rows : joined f % 256 ∷ joined f / 256 % 256 ∷ joined f / 65536 % 256 ∷ joined f / 16777216 % 256 ∷ [] ≡ tab f 4
-  unfolding joined tab
-  joined-rows =
-      let p : joined f % 256 ≡ f 0 = omega (arith, o 0, o 1, o 2, o 3) in
-      let g : joined f / 256 ≡ f 1 + 256 * f 2 + 65536 * f 3 = omega (arith, o 0, o 1, o 2, o 3) in
-      let h : joined f / 65536 ≡ f 2 + 256 * f 3 = omega (arith, o 0, o 1, o 2, o 3) in
-      let q : joined f / 256 % 256 ≡ f 1 = rw g (omega (arith, o 1)) in
-      let r : joined f / 65536 % 256 ≡ f 2 = rw h (omega (arith, o 2)) in
-      let k : joined f / 16777216 ≡ f 3 = omega (arith, o 0, o 1, o 2, o 3) in
-      let s : joined f / 16777216 % 256 ≡ f 3 = rw k (omega (arith, o 3)) in
+  word-rows : asWord f % 256 ∷ asWord f / 256 % 256 ∷ asWord f / 65536 % 256 ∷ asWord f / 16777216 % 256 ∷ [] ≡ tab f 4
+  unfolding asWord tab
+  word-rows =
+      let p : asWord f % 256 ≡ f 0 = omega (arith, o 0, o 1, o 2, o 3) in
+      let g : asWord f / 256 ≡ f 1 + 256 * f 2 + 65536 * f 3 = omega (arith, o 0, o 1, o 2, o 3) in
+      let h : asWord f / 65536 ≡ f 2 + 256 * f 3 = omega (arith, o 0, o 1, o 2, o 3) in
+      let q : asWord f / 256 % 256 ≡ f 1 = rw g (omega (arith, o 1)) in
+      let r : asWord f / 65536 % 256 ≡ f 2 = rw h (omega (arith, o 2)) in
+      let k : asWord f / 16777216 ≡ f 3 = omega (arith, o 0, o 1, o 2, o 3) in
+      let s : asWord f / 16777216 % 256 ≡ f 3 = rw k (omega (arith, o 3)) in
       rw (p, q, r, s)
 
-  turned-8 : bitOr (joined f * 256 % 4294967296) (joined f / 16777216) ≡ joined (λ r. f ((r + 3) % 4))
-  unfolding joined
-  turned-8 =
-      let h : joined f * 256 % 4294967296 ≡ (f 0 + 256 * f 1 + 65536 * f 2) * 2 ^ 8 = omega (arith, o 0, o 1, o 2, o 3) in
-      let l : joined f / 16777216 ≡ f 3 = omega (arith, o 0, o 1, o 2, o 3) in
+  rotated-8 : bitOr (asWord f * 256 % 4294967296) (asWord f / 16777216) ≡ asWord (λ r. f ((r + 3) % 4))
+  unfolding asWord
+  rotated-8 =
+      let h : asWord f * 256 % 4294967296 ≡ (f 0 + 256 * f 1 + 65536 * f 2) * 2 ^ 8 = omega (arith, o 0, o 1, o 2, o 3) in
+      let l : asWord f / 16777216 ≡ f 3 = omega (arith, o 0, o 1, o 2, o 3) in
       ap₂ bitOr h l ∙ or-shifted (f 0 + 256 * f 1 + 65536 * f 2) 8 (f 3) (o 3) ∙ omega arith
 
-  turned-16 : bitOr (joined f * 65536 % 4294967296) (joined f / 65536) ≡ joined (λ r. f ((r + 2) % 4))
-  unfolding joined
-  turned-16 =
-      let h : joined f * 65536 % 4294967296 ≡ (f 0 + 256 * f 1) * 2 ^ 16 = omega (arith, o 0, o 1, o 2, o 3) in
-      let l : joined f / 65536 ≡ f 2 + 256 * f 3 = omega (arith, o 0, o 1, o 2, o 3) in
+  rotated-16 : bitOr (asWord f * 65536 % 4294967296) (asWord f / 65536) ≡ asWord (λ r. f ((r + 2) % 4))
+  unfolding asWord
+  rotated-16 =
+      let h : asWord f * 65536 % 4294967296 ≡ (f 0 + 256 * f 1) * 2 ^ 16 = omega (arith, o 0, o 1, o 2, o 3) in
+      let l : asWord f / 65536 ≡ f 2 + 256 * f 3 = omega (arith, o 0, o 1, o 2, o 3) in
       ap₂ bitOr h l ∙ or-shifted (f 0 + 256 * f 1) 16 (f 2 + 256 * f 3) (omega (arith, o 2, o 3)) ∙ omega arith
 
-  turned-24 : bitOr (joined f * 16777216 % 4294967296) (joined f / 256) ≡ joined (λ r. f ((r + 1) % 4))
-  unfolding joined
-  turned-24 =
-      let h : joined f * 16777216 % 4294967296 ≡ f 0 * 2 ^ 24 = omega (arith, o 0, o 1, o 2, o 3) in
-      let l : joined f / 256 ≡ f 1 + 256 * f 2 + 65536 * f 3 = omega (arith, o 0, o 1, o 2, o 3) in
+  rotated-24 : bitOr (asWord f * 16777216 % 4294967296) (asWord f / 256) ≡ asWord (λ r. f ((r + 1) % 4))
+  unfolding asWord
+  rotated-24 =
+      let h : asWord f * 16777216 % 4294967296 ≡ f 0 * 2 ^ 24 = omega (arith, o 0, o 1, o 2, o 3) in
+      let l : asWord f / 256 ≡ f 1 + 256 * f 2 + 65536 * f 3 = omega (arith, o 0, o 1, o 2, o 3) in
       ap₂ bitOr h l ∙ or-shifted (f 0) 24 (f 1 + 256 * f 2 + 65536 * f 3) (omega (arith, o 1, o 2, o 3)) ∙ omega arith
 
 -- the sum of two columns
-joined-xor : (f g : ℕ → ℕ) → ((r : ℕ) → f r < 256) → ((r : ℕ) → g r < 256) → bitXor (joined f) (joined g) ≡ joined (λ r. bitXor (f r) (g r))
-unfolding joined
-joined-xor f g o p =
-    let split : (h : ℕ → ℕ) → joined h ≡ ((h 3 * 2 ^ 8 + h 2) * 2 ^ 8 + h 1) * 2 ^ 8 + h 0 = λ h. omega arith in
+word-xor : (f g : ℕ → ℕ) → ((r : ℕ) → f r < 256) → ((r : ℕ) → g r < 256) → bitXor (asWord f) (asWord g) ≡ asWord (λ r. bitXor (f r) (g r))
+unfolding asWord
+word-xor f g o p =
+    let split : (h : ℕ → ℕ) → asWord h ≡ ((h 3 * 2 ^ 8 + h 2) * 2 ^ 8 + h 1) * 2 ^ 8 + h 0 = λ h. omega arith in
     ap₂ bitXor (split f) (split g)
     ∙ xor-block 8 ((f 3 * 2 ^ 8 + f 2) * 2 ^ 8 + f 1) ((g 3 * 2 ^ 8 + g 2) * 2 ^ 8 + g 1) (f 0) (g 0) (o 0) (p 0)
     ∙ ap (λ (z : ℕ). z * 2 ^ 8 + bitXor (f 0) (g 0)) (xor-block 8 (f 3 * 2 ^ 8 + f 2) (g 3 * 2 ^ 8 + g 2) (f 1) (g 1) (o 1) (p 1))
@@ -106,7 +106,7 @@ around a b c d ha hb hc hd i j k l =
     ∙ xor-comm (mixedAlone a i) _
 
 module _ (a b c d : ℕ) (ha : a < 256) (hb : b < 256) (hc : c < 256) (hd : d < 256) where
-  -- a row of the sum of four octets' columns, each turned to its row
+  -- a row of the sum of four octets' columns, each rotated to its row
   abbrev sumRow : ℕ → ℕ
   sumRow r = bitXor (bitXor (bitXor (mixedAlone a r) (mixedAlone b ((r + 3) % 4))) (mixedAlone c ((r + 2) % 4))) (mixedAlone d ((r + 1) % 4))
 
@@ -124,34 +124,34 @@ module _ (a b c d : ℕ) (ha : a < 256) (hb : b < 256) (hc : c < 256) (hd : d < 
       let x = xor-lt 8 in
       x _ _ (x _ _ (x _ _ (alone-lt a r ha) (alone-lt b ((r + 3) % 4) hb)) (alone-lt c ((r + 2) % 4) hc)) (alone-lt d ((r + 1) % 4) hd)
 
-  -- the same sum of the columns as numbers
-  sum-joined : bitXor
-      (bitXor (bitXor (joined (mixedAlone a)) (joined (λ r. mixedAlone b ((r + 3) % 4)))) (joined (λ r. mixedAlone c ((r + 2) % 4))))
-      (joined (λ r. mixedAlone d ((r + 1) % 4))) ≡ joined sumRow
-  sum-joined =
+  -- the same sum of the columns as words
+  sum-words : bitXor
+      (bitXor (bitXor (asWord (mixedAlone a)) (asWord (λ r. mixedAlone b ((r + 3) % 4)))) (asWord (λ r. mixedAlone c ((r + 2) % 4))))
+      (asWord (λ r. mixedAlone d ((r + 1) % 4))) ≡ asWord sumRow
+  sum-words =
       let oa : (r : ℕ) → mixedAlone a r < 256 = λ r. alone-lt a r ha in
       let ob : (r : ℕ) → mixedAlone b ((r + 3) % 4) < 256 = λ r. alone-lt b ((r + 3) % 4) hb in
       let oc : (r : ℕ) → mixedAlone c ((r + 2) % 4) < 256 = λ r. alone-lt c ((r + 2) % 4) hc in
       let od : (r : ℕ) → mixedAlone d ((r + 1) % 4) < 256 = λ r. alone-lt d ((r + 1) % 4) hd in
-      rw (joined-xor _ _ oa ob, joined-xor _ _ (λ r. xor-lt 8 _ _ (oa r) (ob r)) oc)
-      (joined-xor _ _ (λ r. xor-lt 8 _ _ (xor-lt 8 _ _ (oa r) (ob r)) (oc r)) od)
+      rw (word-xor _ _ oa ob, word-xor _ _ (λ r. xor-lt 8 _ _ (oa r) (ob r)) oc)
+      (word-xor _ _ (λ r. xor-lt 8 _ _ (xor-lt 8 _ _ (oa r) (ob r)) (oc r)) od)
 
   -- as `aes::column` makes it, of the column that four entries stand for
   module _ (x : List ℕ) (q i j k l m n o : ℕ) (hq : q < 4)
       (ea : a ≡ getD x (4 * q) 0) (eb : b ≡ getD x (4 * q + 1) 0) (ec : c ≡ getD x (4 * q + 2) 0) (ed : d ≡ getD x (4 * q + 3) 0)
-      (ei : i ≡ joined (mixedAlone a)) (ej : j ≡ joined (mixedAlone b)) (ek : k ≡ joined (mixedAlone c)) (el : l ≡ joined (mixedAlone d))
+      (ei : i ≡ asWord (mixedAlone a)) (ej : j ≡ asWord (mixedAlone b)) (ek : k ≡ asWord (mixedAlone c)) (el : l ≡ asWord (mixedAlone d))
       (em : m ≡ bitOr (j * 256 % 4294967296) (j / 16777216)) (en : n ≡ bitOr (k * 65536 % 4294967296) (k / 65536)) (eo : o ≡ bitOr (l * 16777216 % 4294967296) (l / 256)) where
-    summed : bitXor (bitXor (bitXor i m) n) o ≡ joined sumRow
+    summed : bitXor (bitXor (bitXor i m) n) o ≡ asWord sumRow
     summed =
         rw
-        (em, en, eo, ei, ej, ek, el, turned-8 (mixedAlone b) (λ r. alone-lt b r hb), turned-16 (mixedAlone c) (λ r. alone-lt c r hc), turned-24 (mixedAlone d) (λ r. alone-lt d r hd))
-        sum-joined
+        (em, en, eo, ei, ej, ek, el, rotated-8 (mixedAlone b) (λ r. alone-lt b r hb), rotated-16 (mixedAlone c) (λ r. alone-lt c r hc), rotated-24 (mixedAlone d) (λ r. alone-lt d r hd))
+        sum-words
 
     pub column-sum : bitXor (bitXor (bitXor i m) n) o % 256 ∷ bitXor (bitXor (bitXor i m) n) o / 256 % 256
         ∷ bitXor (bitXor (bitXor i m) n) o / 65536 % 256 ∷ bitXor (bitXor (bitXor i m) n) o / 16777216 % 256 ∷ [] ≡ word (mixColumns x) q
     column-sum =
         ap (λ (w : ℕ). w % 256 ∷ w / 256 % 256 ∷ w / 65536 % 256 ∷ w / 16777216 % 256 ∷ []) summed
-        ∙ joined-rows sumRow sum-lt
+        ∙ word-rows sumRow sum-lt
         ∙ tab-same sumRow (λ r. mixed (a ∷ b ∷ c ∷ d ∷ []) r 0) 4 sum-row
         ∙ column-law x q a b c d hq ea eb ec ed
 
@@ -174,6 +174,11 @@ allColumns-at x r hx hr =
 pub columns-start : (d : List ℕ) → length d ≡ 1024 → Front allColumns d d 0
 columns-start d e = front-start allColumns d (e ∙ sym length-allColumns)
 
+pub four-in : (o : List ℕ) (x t s : ℕ) → x < 256 → length o ≡ 1024
+    → (4 * x + 1 < length (set o (4 * x) t)) × (4 * x + 2 < length (set (set o (4 * x) t) (4 * x + 1) s))
+    × (4 * x + 3 < length (set (set (set o (4 * x) t) (4 * x + 1) s) (4 * x + 2) s))
+four-in o x t s h l = simp length-set (omega arith, omega arith, omega arith)
+
 pub columns-more : (d₀ d : List ℕ) (x s t : ℕ) → x < 256 → s ≡ sboxOf x → t ≡ xtime s → Front allColumns d₀ d (4 * x)
     → Front allColumns d₀ (set (set (set (set d (4 * x) t) (4 * x + 1) s) (4 * x + 2) s) (4 * x + 3) (bitXor s t)) (4 * (x + 1))
 columns-more d₀ d x s t h es et f =
@@ -192,8 +197,8 @@ columns-done d₀ d x f h =
 -- ---- an entry, as `aes::entry` reads it
 
 pub entry-is : (t : List ℕ) (x : ℕ) → IsColumns t → x < 256
-    → getD t (4 * x) 0 + 256 * getD t (4 * x + 1) 0 + 65536 * getD t (4 * x + 2) 0 + 16777216 * getD t (4 * x + 3) 0 ≡ joined (mixedAlone (sboxOf x))
-unfolding joined
+    → getD t (4 * x) 0 + 256 * getD t (4 * x + 1) 0 + 65536 * getD t (4 * x + 2) 0 + 16777216 * getD t (4 * x + 3) 0 ≡ asWord (mixedAlone (sboxOf x))
+unfolding asWord
 entry-is t x c h =
     let z : getD t (4 * x) 0 ≡ mixedAlone (sboxOf x) 0 = simp add-zero at (c .rule x 0 h (omega arith)) in
     rw (z, c .rule x 1 h (omega arith), c .rule x 2 h (omega arith), c .rule x 3 h (omega arith))

@@ -11,7 +11,8 @@ use lib.ListN.{length, getD}
 use borrow.Author.Tests.{ltb-true}
 use Rattle.octets.specs.Tests.{allBelow}
 use Rattle.octets.proofs.TestLaws.{agree, all-at}
-use Rattle.aes.specs.Field.{reduce, xtime, digit, mulBits, mul, squares, inverse, around, affine, sboxOf, IsSbox}
+use Rattle.aes.specs.Field.{reduce, xtime, digit, mulBits, mul, squares, inverse, around, affine, sboxOf}
+use Rattle.aes.specs.Prepared.{IsSbox}
 
 -- the double with no branch
 pub xtime-is : (b : ℕ) → b < 256 → bitXor (b * 2 % 256) (b / 128 * 27) ≡ xtime b

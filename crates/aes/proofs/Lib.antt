@@ -2,4 +2,5 @@ pub mod FieldLaws
 pub mod StateLaws
 pub mod ColumnLaws
 pub mod ScheduleLaws
+pub mod PreparedLaws
 pub mod Examples

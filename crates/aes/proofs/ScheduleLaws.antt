@@ -7,8 +7,8 @@ use Prim.Native.Nat.{ℕ, zero, suc, _+_, _-_, _*_, _/_, _%_, _^_, _≤_, _<_}
 use native.Mathlib.Omega.{arith}
 use lib.Bits.{bitXor, xor-lt, xor-zero-r}
 use lib.Dec.{eqb}
-use lib.ListN.{length, getD, set, take, replicate, length-append}
-use lib.Seq.{getD-take, take-at, length-take-le}
+use lib.ListN.{length, getD, set, take, drop, length-append, length-drop}
+use lib.Seq.{getD-take, take-all, take-at, take-append-le, length-take-le}
 use borrow.Rule.Slice.PartMut.{midOf, putMid, mid-len, same-len-mid}
 use borrow.Author.Tests.{ne-eqb}
 use Rattle.octets.specs.Tests.{pick, allBelow}
@@ -18,9 +18,9 @@ use Rattle.octets.proofs.TestLaws.{agree}
 use Rattle.octets.proofs.ListLaws.{tab-same, octets-tab}
 use Rattle.octets.proofs.BitLaws.{octets-append}
 use Rattle.aes.specs.Field.{xtime, reduce}
-use Rattle.aes.specs.Cipher.{word, xors, rotWord, subWord, rconOf, temp, nextWord, expanded, keyExpansion}
+use Rattle.aes.specs.Cipher.{word, xors, rotWord, subWord, rconOf, temp, nextWord, expanded, keyExpansion, aes}
 use Rattle.aes.proofs.FieldLaws.{xtime-lt, sbox-lt}
-use Rattle.aes.proofs.StateLaws.{octets-first}
+use Rattle.aes.proofs.StateLaws.{octets-first, length-cipher, octets-cipher}
 
 -- ---- the three cases of temp
 
@@ -59,8 +59,8 @@ unfolding nextWord xors tab
 length-next w i = refl
 
 -- before the first turn the words below 8 are the key
-pub key-front : (k w : List ℕ) → length k ≡ 32 → w ≡ k ++ replicate 208 0 → (length w ≡ 240) × (take 32 w ≡ k)
-key-front k w l e = rw e (length-append k (replicate 208 0) ∙ omega arith, take-at k (replicate 208 0) 32 l)
+pub key-front : (k x d : List ℕ) → length k ≡ 32 → length d ≡ 240 → x ≡ k → (length (x ++ drop 32 d) ≡ 240) × (take 32 (x ++ drop 32 d) ≡ k)
+key-front k x d l m e = rw e (length-append k (drop 32 d) ∙ omega (arith, length-drop 32 d), take-at k (drop 32 d) 32 l)
 
 -- v, which is word i, is stored in the place of the four octets at 4 i
 module _ (w v : List ℕ) (i : ℕ) (fits : 4 * i + 4 ≤ length w) (next : v ≡ nextWord w i) where
@@ -90,6 +90,16 @@ unfolding expanded
 length-expanded k zero = omega arith
 length-expanded k (suc n) =
     length-append (expanded k n) (nextWord (expanded k n) (8 + n)) ∙ omega (arith, length-expanded k n, length-next (expanded k n) (8 + n))
+
+first-words : (k : List ℕ) (n : ℕ) → take (length k) (expanded k n) ≡ k
+unfolding expanded
+first-words k zero = take-all (length k) k (omega arith)
+first-words k (suc n) =
+    take-append-le (length k) (expanded k n) (nextWord (expanded k n) (8 + n)) (omega (arith, length-expanded k n)) ∙ first-words k n
+
+pub key-first : (k : List ℕ) → length k ≡ 32 → take 32 (keyExpansion k) ≡ k
+unfolding keyExpansion
+key-first k l = ap (λ (m : ℕ). take m (expanded k 52)) (sym l) ∙ first-words k 52
 
 pub length-keyExpansion : (k : List ℕ) → length k ≡ 32 → length (keyExpansion k) ≡ 240
 unfolding keyExpansion
@@ -138,6 +148,16 @@ unfolding expanded
 octets-expanded k zero o = o
 octets-expanded k (suc n) o = octets-append (expanded k n) (nextWord (expanded k n) (8 + n)) (octets-expanded k n o) (octets-next (expanded k n) (8 + n) (octets-expanded k n o))
 
-pub octets-keyExpansion : (k : List ℕ) → Octets k → Octets (keyExpansion k)
+octets-keyExpansion : (k : List ℕ) → Octets k → Octets (keyExpansion k)
 unfolding keyExpansion
 octets-keyExpansion k o = octets-expanded k 52 o
+
+-- ---- what other crates cite: AES gives sixteen octets
+
+pub length-aes : (k s : List ℕ) → length (aes k s) ≡ 16
+unfolding aes
+length-aes k s = length-cipher (keyExpansion k) s
+
+pub octets-aes : (k s : List ℕ) → Octets k → Octets s → Octets (aes k s)
+unfolding aes
+octets-aes k s ok os = octets-cipher (keyExpansion k) s (octets-keyExpansion k ok) os

@@ -1,12 +1,9 @@
 -- FIPS 197, sections 4.2 and 5.1.1: octets as elements of GF(2^8), and the S-box's rule. An octet is a number below 256, whose bit i has the
 -- weight 2^i; the sum of two elements is their exclusive or, bitXor.
-use mathlib.Core.Path.{_≡_}
-use mathlib.Core.List.{List}
 use mathlib.Core.Bool.{Bool, true, false}
-use Prim.Native.Nat.{ℕ, _<_, zero, suc, _+_, _*_, _/_, _%_, _^_, _-_}
+use Prim.Native.Nat.{ℕ, zero, suc, _+_, _*_, _/_, _%_, _^_, _-_}
 use lib.Bits.{bitXor}
 use lib.Dec.{ltb}
-use lib.ListN.{length, getD}
 
 -- 4.2: a double d modulo x^8 + x^4 + x^3 + x + 1, which is {01}{1b}: d where that is an octet already, as the test says, else their sum
 unfoldable pub reduce : Bool → ℕ → ℕ
@@ -41,7 +38,7 @@ squares (suc n) a = mul a (squares n (mul a a))
 unfoldable pub inverse : ℕ → ℕ
 inverse b = squares 7 (mul b b)
 
--- b turned by k bits: its bit i is b's bit i - k, mod 8
+-- b rotated by k bits: its bit i is b's bit i - k, mod 8
 unfoldable pub around : ℕ → ℕ → ℕ
 around k b = (b * 2 ^ k) % 256 + b / 2 ^ (8 - k)
 
@@ -52,8 +49,3 @@ affine b = bitXor b (bitXor (around 1 b) (bitXor (around 2 b) (bitXor (around 3 
 -- 5.1.1: the S-box's value at b
 unfoldable pub sboxOf : ℕ → ℕ
 sboxOf b = affine (inverse b)
-
--- t is the S-box as a table: entry x is its value at x
-pub record IsSbox (t : List ℕ) : Type 0 where
-  pub size : length t ≡ 256
-  pub rule : (x : ℕ) → x < 256 → getD t x 0 ≡ sboxOf x

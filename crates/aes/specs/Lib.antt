@@ -1,3 +1,3 @@
 pub mod Field
 pub mod Cipher
-pub mod Columns
+pub mod Prepared

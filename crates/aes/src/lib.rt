@@ -1,17 +1,23 @@
-// AES-256's forward cipher (FIPS 197). Whoever enciphers makes the S-box, a key's schedule and the columns once, and lends them to each call.
+// AES-256's forward cipher (FIPS 197).
 mod tables;
 
 ghost use mathlib.Core.Path.{_≡_};
 ghost use Prim.Native.Nat.{_+_, _*_, _/_, _%_, _^_, _-_, _<_, _≤_};
 ghost use lib.Bits.{bitOr};
-ghost use mathlib.Core.List.{_++_};
-ghost use lib.ListN.{length, getD, replicate};
-ghost use Rattle.aes.specs.Field.{sboxOf, IsSbox, xtime as xtimeOf};
-ghost use Rattle.aes.specs.Cipher.{word, subBytes, shiftRows, mixColumns, addRoundKey, cipher, xors, rconOf, rotWord, subWord, temp as tempOf, nextWord, keyExpansion};
-ghost use Rattle.aes.specs.Columns.{mixedAlone, IsColumns, joined};
+ghost use lib.ListN.{length, getD};
+ghost use Rattle.aes.specs.Field.{sboxOf, xtime as xtimeOf};
+ghost use Rattle.aes.specs.Cipher.{word, subBytes, shiftRows, mixColumns, addRoundKey, cipher as cipherOf, xors, rconOf, rotWord, subWord, temp as tempOf, nextWord, keyExpansion, aes};
+ghost use Rattle.aes.specs.Prepared.{IsSbox, mixedAlone, IsColumns, asWord, keyOf, Prepared};
+
+// Where the parts of a prepared key stand: its schedule, and the columns.
+const AT_SCHEDULE: usize = 0;
+
+const AT_COLUMNS: usize = AT_SCHEDULE + 240;
+
+const END: usize = AT_COLUMNS + 1024;
 
 // The S-box. A constant that is indexed is made anew at each read, so this is called once.
-pub fn sbox() -> [u8; 256]
+fn sbox() -> [u8; 256]
     ensures { λ r. ⌜ IsSbox r ⌝ }
 {
     tables::SBOX
@@ -25,11 +31,10 @@ fn xtime(b: u8) -> u8
 }
 
 // SubBytes and MixColumns of each octet alone, which a round's columns are sums of.
-pub fn columns(sbox: &[u8]) -> [u8; 1024]
-    requires { ⌜ IsSbox (now sbox) ⌝ }
-    ensures { λ r. ⌜ IsColumns r ⌝ }
+fn columns(sbox: &[u8], o: &mut [u8])
+    requires { ⌜ IsSbox (now sbox) × (length (now o) ≡ 1024) ⌝ }
+    ensures { λ _. ⌜ IsColumns (now (o .exit)) ⌝ }
 {
-    let mut o = [0u8; 1024];
     for x in 0..256usize {
         let s = sbox[x];
         let d = xtime(s);
@@ -39,7 +44,6 @@ pub fn columns(sbox: &[u8]) -> [u8; 1024]
         o[i + 2] = s;
         o[i + 3] = s ^ d;
     }
-    o
 }
 
 // Octet i after ShiftRows (5.1.2): it stood at place 5 i mod 16.
@@ -51,7 +55,7 @@ fn shifted(s: &[u8; 16], i: usize) -> u8
 }
 
 // Four octets as a word, the first lowest. Of neighbours the compiler makes one load.
-fn join(a: u8, b: u8, c: u8, d: u8) -> u32
+fn as_word(a: u8, b: u8, c: u8, d: u8) -> u32
     ensures { λ r. ⌜ r ≡ a + 256 * b + 65536 * c + 16777216 * d ⌝ }
 {
     a as u32 + 256 * (b as u32) + 65536 * (c as u32) + 16777216 * (d as u32)
@@ -60,21 +64,21 @@ fn join(a: u8, b: u8, c: u8, d: u8) -> u32
 // The columns' entry for x, as a word.
 fn entry(columns: &[u8], x: u8) -> u32
     requires { ⌜ IsColumns (now columns) ⌝ }
-    ensures { λ r. ⌜ r ≡ joined (mixedAlone (sboxOf x)) ⌝ }
+    ensures { λ r. ⌜ r ≡ asWord (mixedAlone (sboxOf x)) ⌝ }
 {
     let i = 4 * x as usize;
-    join(columns[i], columns[i + 1], columns[i + 2], columns[i + 3])
+    as_word(columns[i], columns[i + 1], columns[i + 2], columns[i + 3])
 }
 
-// A word turned by n bits, of which eight are a row.
-fn turned(w: u32, n: u32) -> u32
+// A word rotated by n bits, of which eight are a row.
+fn rotated(w: u32, n: u32) -> u32
     requires { ⌜ (0 < n) × (n < 32) ⌝ }
     ensures { λ r. ⌜ r ≡ bitOr (w * 2 ^ n % 4294967296) (w / 2 ^ (32 - n)) ⌝ }
 {
     (w << n) | (w >> (32 - n))
 }
 
-// Column q of the state after SubBytes, ShiftRows and MixColumns: the sum of its four octets' entries, each turned to its row.
+// Column q of the state after SubBytes, ShiftRows and MixColumns: the sum of its four octets' entries, each rotated to its row.
 fn column(columns: &[u8], s: &[u8; 16], q: usize) -> [u8; 4]
     requires { ⌜ IsColumns (now columns) ⌝ }
     requires { ⌜ q < 4 ⌝ }
@@ -82,9 +86,9 @@ fn column(columns: &[u8], s: &[u8; 16], q: usize) -> [u8; 4]
 {
     let i = 4 * q;
     let w = entry(columns, shifted(s, i))
-        ^ turned(entry(columns, shifted(s, i + 1)), 8)
-        ^ turned(entry(columns, shifted(s, i + 2)), 16)
-        ^ turned(entry(columns, shifted(s, i + 3)), 24);
+        ^ rotated(entry(columns, shifted(s, i + 1)), 8)
+        ^ rotated(entry(columns, shifted(s, i + 2)), 16)
+        ^ rotated(entry(columns, shifted(s, i + 3)), 24);
     [
         (w % 256) as u8,
         (w / 256 % 256) as u8,
@@ -137,11 +141,11 @@ fn add_round_key(schedule: &[u8], s: &[u8], n: usize) -> [u8; 16]
     o
 }
 
-// Enciphers a block in place under a key schedule (5.1).
-pub fn encipher(columns: &[u8], schedule: &[u8], block: &mut [u8])
+// The cipher under a key schedule (5.1), in place.
+fn cipher(columns: &[u8], schedule: &[u8], block: &mut [u8])
     requires { ⌜ IsColumns (now columns) ⌝ }
     requires { ⌜ (length (now schedule) ≡ 240) × (length (now block) ≡ 16) ⌝ }
-    ensures { λ _. ⌜ now (block .exit) ≡ cipher (now (schedule .entry)) (now (block .entry)) ⌝ }
+    ensures { λ _. ⌜ now (block .exit) ≡ cipherOf (now (schedule .entry)) (now (block .entry)) ⌝ }
 {
     let mut s = add_round_key(schedule, block, 0);
     for n in 0..13 {
@@ -150,6 +154,18 @@ pub fn encipher(columns: &[u8], schedule: &[u8], block: &mut [u8])
     let t = sub_shift(columns, &s);
     let o = add_round_key(schedule, &t, 14);
     octets::copy(&o, block);
+}
+
+// Enciphers a block in place, under the key that was prepared.
+pub fn encipher(prepared: &[u8], block: &mut [u8])
+    requires { ⌜ Prepared (now prepared) × (length (now block) ≡ 16) ⌝ }
+    ensures { λ _. ⌜ now (block .exit) ≡ aes (keyOf (now (prepared .entry))) (now (block .entry)) ⌝ }
+{
+    cipher(
+        &prepared[AT_COLUMNS..END],
+        &prepared[AT_SCHEDULE..AT_COLUMNS],
+        block,
+    );
 }
 
 // The first octet of round constant n, {02} to the n - 1, which none of these n has to reduce.
@@ -203,8 +219,8 @@ fn temp(sbox: &[u8], t: &[u8; 4], i: usize) -> [u8; 4]
 }
 
 // Word i of a schedule.
-fn word_at(w: &[u8; 240], i: usize) -> [u8; 4]
-    requires { ⌜ i < 60 ⌝ }
+fn word_at(w: &[u8], i: usize) -> [u8; 4]
+    requires { ⌜ (length (now w) ≡ 240) × (i < 60) ⌝ }
     ensures { λ r. ⌜ r ≡ word (now (w .entry)) i ⌝ }
 {
     let mut o = [0u8; 4];
@@ -225,36 +241,37 @@ fn add_words(a: &[u8; 4], b: &[u8; 4]) -> [u8; 4]
 }
 
 // Word i, made of the words before it.
-fn next_word(sbox: &[u8], w: &[u8; 240], i: usize) -> [u8; 4]
+fn next_word(sbox: &[u8], w: &[u8], i: usize) -> [u8; 4]
     requires { ⌜ IsSbox (now sbox) ⌝ }
-    requires { ⌜ (8 ≤ i) × (i < 60) ⌝ }
+    requires { ⌜ (length (now w) ≡ 240) × (8 ≤ i) × (i < 60) ⌝ }
     ensures { λ r. ⌜ r ≡ nextWord (now (w .entry)) i ⌝ }
 {
     let t = temp(sbox, &word_at(w, i - 1), i);
     add_words(&word_at(w, i - 8), &t)
 }
 
-// The schedule's first eight words, the key, and zeros where the others will stand.
-fn key_words(key: &[u8]) -> [u8; 240]
-    requires { ⌜ length (now key) ≡ 32 ⌝ }
-    ensures { λ r. ⌜ r ≡ now (key .entry) ++ replicate 208 0 ⌝ }
-{
-    let mut w = [0u8; 240];
-    octets::copy(key, &mut w[..32]);
-    w
-}
-
-// The key schedule of a key (5.2).
-pub fn key_expansion(sbox: &[u8], key: &[u8]) -> [u8; 240]
+// The key schedule of a key (5.2), whose first eight words are the key.
+fn key_expansion(sbox: &[u8], key: &[u8], w: &mut [u8])
     requires { ⌜ IsSbox (now sbox) ⌝ }
-    requires { ⌜ length (now key) ≡ 32 ⌝ }
-    ensures { λ r. ⌜ r ≡ keyExpansion (now (key .entry)) ⌝ }
+    requires { ⌜ (length (now key) ≡ 32) × (length (now w) ≡ 240) ⌝ }
+    ensures { λ _. ⌜ now (w .exit) ≡ keyExpansion (now (key .entry)) ⌝ }
 {
-    let mut w = key_words(key);
+    octets::copy(key, &mut w[..32]);
     for i in 8..60 {
-        let v = next_word(sbox, &w, i);
+        let v = next_word(sbox, w, i);
         let a = 4 * i;
         octets::copy(&v, &mut w[a..a + 4]);
     }
-    w
+}
+
+// Prepares a key: all that depends on no block is made here, once.
+pub fn prepare(key: &[u8]) -> [u8; END]
+    requires { ⌜ length (now key) ≡ 32 ⌝ }
+    ensures { λ r. ⌜ Prepared r × (keyOf r ≡ now (key .entry)) ⌝ }
+{
+    let sbox = sbox();
+    let mut prepared = [0u8; END];
+    key_expansion(&sbox, key, &mut prepared[AT_SCHEDULE..AT_COLUMNS]);
+    columns(&sbox, &mut prepared[AT_COLUMNS..END]);
+    prepared
 }

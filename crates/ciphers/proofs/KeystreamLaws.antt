@@ -1,21 +1,22 @@
 -- A keystream is bits, and rests on the key's own octets alone.
-use mathlib.Core.Path.{_≡_, ap}
+use mathlib.Core.Path.{_≡_, sym, ap, _∙_}
 use mathlib.Core.List.{List, _++_, append-nil}
 use Prim.Native.Nat.{ℕ, _-_, _/_, _%_, _≤_, _<_}
 use native.Mathlib.Omega.{arith}
 use lib.ListN.{length, replicate, List·getD-append}
-use Rattle.octets.specs.Lists.{tab}
-use Rattle.octets.specs.Bits.{bit, Bits}
+use lib.Seq.{take-at}
+use Rattle.octets.specs.Bits.{Bits}
 use Rattle.octets.proofs.BitLaws.{bit-lt}
-use Rattle.octets.proofs.ListLaws.{tab-same}
 use Rattle.scramble.specs.Sequence.{keyNumber, P}
 use Rattle.scramble.proofs.Recurrence.{P-bit}
 use Rattle.generator.specs.Generator.{aesVector}
-use Rattle.des.specs.Des.{byKeys, roundKey, des}
+use Rattle.des.specs.Des.{des}
+use Rattle.des.proofs.DesLaws.{first-eight}
 use Rattle.aes.specs.Cipher.{aes}
 use Rattle.sizes.specs.Ciphers.{blockBits, keyOctets}
 use Rattle.ciphers.specs.Keystream.{usedBlock, feedback, stream}
 use Rattle.sizes.proofs.Cases.{by-each, by-range}
+use Rattle.ciphers.proofs.EngineLaws.{feedback-same}
 
 feedback-lt : (encipher : List ℕ → List ℕ) (width : ℕ) (vector : List ℕ) (n : ℕ) → feedback encipher width vector n < 2
 unfolding feedback
@@ -37,12 +38,12 @@ module _ (key rest v : List ℕ) where
   unfolding stream P
   scramble-rest l n = rw (scramble-key l)
 
-  des-key : length key ≡ 8 → tab (bit (key ++ rest)) 64 ≡ tab (bit key) 64
-  des-key l = tab-same (bit (key ++ rest)) (bit key) 64 (λ i h. rw (List·getD-append key rest 0 (i / 8) (omega arith)))
+  des-key : length key ≡ 8 → (block : List ℕ) → des (key ++ rest) block ≡ des key block
+  des-key l block = sym (first-eight (key ++ rest) block) ∙ ap (λ (k : List ℕ). des k block) (take-at key rest 8 l)
 
   des-rest : length key ≡ 8 → (n : ℕ) → stream 2 (key ++ rest) v n ≡ stream 2 key v n
-  unfolding stream des
-  des-rest l n = ap (λ (t : List ℕ). feedback (byKeys (roundKey t)) 64 v n) (des-key l)
+  unfolding stream
+  des-rest l n = feedback-same (des (key ++ rest)) (des key) (blockBits 2) v (des-key l) n
 
 pub stream-rest : (c : ℕ) → (1 ≤ c) × (c ≤ 3) → (key v : List ℕ) → length key ≡ keyOctets c → (n : ℕ)
     → stream c (key ++ replicate (32 - keyOctets c) 0) v n ≡ stream c key v n

@@ -1,4 +1,4 @@
 pub mod KeyLaws
-pub mod Running
+pub mod Chained
 pub mod EngineLaws
 pub mod KeystreamLaws

@@ -8,8 +8,8 @@ ghost use Rattle.aes.specs.Cipher.{aes};
 ghost use Rattle.generator.specs.Generator.{aesVector};
 ghost use Rattle.sizes.specs.Ciphers.{blockBits};
 ghost use Rattle.ciphers.specs.Keystream.{feedback, stream};
+use crate::feedback::Engine;
 use crate::feedback::feed_back;
-use sizes::cipher::Aes;
 use sizes::cipher::Des;
 use sizes::cipher::KEY_ROOM;
 use sizes::cipher::Scramble;
@@ -18,20 +18,17 @@ use sizes::cipher::VECTOR_OCTETS;
 fn des_stream(key: [u8; KEY_ROOM], vector: [u8; VECTOR_OCTETS], from: usize, out: &mut [u8])
     ensures { λ _. ⌜ now (out .exit) ≡ octetsFrom (length (now (out .entry))) (λ k. feedback (des key) (blockBits 2) vector (from + k)) ⌝ }
 {
-    let tables = des::cipher_tables();
-    let schedule = des::schedule(&key);
+    let prepared = des::prepare(&key[..Des::KEY_OCTETS]);
     let mut block = vector;
-    feed_back(Des::TYPE, &tables, &schedule, &mut block, from, out);
+    feed_back(Engine::Des, &prepared, &mut block, from, out);
 }
 
 fn aes_stream(key: [u8; KEY_ROOM], vector: [u8; VECTOR_OCTETS], from: usize, out: &mut [u8])
     ensures { λ _. ⌜ now (out .exit) ≡ octetsFrom (length (now (out .entry))) (λ k. feedback (aes key) (blockBits 3) (aesVector vector) (from + k)) ⌝ }
 {
-    let sbox = aes::sbox();
-    let schedule = aes::key_expansion(&sbox, &key);
-    let columns = aes::columns(&sbox);
+    let prepared = aes::prepare(&key);
     let mut block = generator::aes_vector(&vector);
-    feed_back(Aes::TYPE, &columns, &schedule, &mut block, from, out);
+    feed_back(Engine::Aes, &prepared, &mut block, from, out);
 }
 
 // The bits of a session from bit `from` on. The key's own octets come first in `key`.

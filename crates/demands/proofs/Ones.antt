@@ -13,18 +13,17 @@ use Rattle.octets.specs.Bits.{bit, flip, octet, octetsFrom, Bits, Octets}
 use Rattle.octets.proofs.TestLaws.{all-at}
 use Rattle.octets.proofs.BitLaws.{octets-ext}
 use Rattle.scramble.specs.Sequence.{keyNumber, stepped, P}
-use Rattle.des.specs.Tables.{ipTable, fpTable, eTable, pTable, pc1Table, pc2Table, shifts, sboxes}
-use Rattle.des.specs.Des.{des, byKeys, enciphered, rounds, halved, joined, cipherF, boxInput, substituted, boxPlace, xorBits, permuted, roundKey, keyState, rotated}
+use Rattle.des.specs.Tables as table
+use Rattle.des.specs.Des.{des, enciphered, rounds, halved, preoutput, cipherF, boxInput, substituted, boxPlace, xorBits, permuted, roundKey, keyState, rotated}
 use Rattle.des.proofs.DesLaws.{length-des, octets-des}
 use Rattle.aes.specs.Field as field
 use Rattle.aes.specs.Cipher as aes
-use Rattle.aes.proofs.StateLaws.{length-cipher, octets-cipher}
-use Rattle.aes.proofs.ScheduleLaws.{octets-keyExpansion}
+use Rattle.aes.proofs.ScheduleLaws.{length-aes, octets-aes}
 use Rattle.generator.specs.Generator.{aesVector}
 use Rattle.generator.proofs.VectorLaws.{octets-aesVector}
 use Rattle.sizes.specs.Ciphers.{sessionSlots}
 use Rattle.ciphers.specs.Keystream.{usedBlock, feedback, stream}
-use Rattle.ciphers.proofs.Running.{Wide, wide-bounds}
+use Rattle.ciphers.proofs.Chained.{Wide, wide-bounds}
 use Rattle.sizes.proofs.Cases.{by-range}
 use Rattle.voice.specs.Frame.{inMask}
 use Rattle.demands.specs.Marked.{key0001}
@@ -51,7 +50,7 @@ unturned ks b p f h k l =
 -- ---- zeros enciphered: bit 1 is 1
 
 des-zeros : bit (des keyABCD (replicate 8 0)) 1 ≡ 1
-unfolding octet octetsFrom des byKeys tab ipTable fpTable eTable pTable pc1Table pc2Table shifts sboxes enciphered rounds halved joined cipherF boxInput
+unfolding octet octetsFrom des tab table.IP table.IP⁻¹ table.E table.P table.PC-1 table.PC-2 table.leftShifts table.S enciphered rounds halved preoutput cipherF boxInput
     substituted boxPlace xorBits permuted roundKey keyState rotated
 des-zeros = refl
 
@@ -116,13 +115,13 @@ module _ (v : List ℕ) (o : Octets v) where
   des-some = some-one (des keyABCD) 8 (inl refl) v des-zeros (length-des keyABCD) (λ m. octets-des keyABCD (iterate (des keyABCD) (suc m) v))
 
   aes-octets : (m : ℕ) → Octets (iterate (aes.aes key1F) m (aesVector v))
-  unfolding iterate aes.aes
+  unfolding iterate
   aes-octets zero = octets-aesVector v o
-  aes-octets (suc m) = octets-cipher (aes.keyExpansion key1F) (iterate (aes.aes key1F) m (aesVector v)) (octets-keyExpansion key1F key1F-octets) (aes-octets m)
+  aes-octets (suc m) = octets-aes key1F (iterate (aes.aes key1F) m (aesVector v)) key1F-octets (aes-octets m)
 
   aes-some : (from m : ℕ) → from ≤ 128 * m → 128 * suc m + 1 < from + 196 → Zeros from 3 → ⊥
-  unfolding stream aes.aes
-  aes-some = some-one (aes.aes key1F) 16 (inr refl) (aesVector v) aes-zeros (length-cipher (aes.keyExpansion key1F)) (λ m. aes-octets (suc (suc m)))
+  unfolding stream
+  aes-some = some-one (aes.aes key1F) 16 (inr refl) (aesVector v) aes-zeros (length-aes key1F) (λ m. aes-octets (suc (suc m)))
 
   pub first-some : (c : ℕ) → (1 ≤ c) × (c ≤ 3) → Zeros 0 c → ⊥
   first-some =

@@ -13,7 +13,7 @@ use Rattle.octets.specs.Bits.{bit, flip, Bits}
 use Rattle.octets.proofs.ListLaws.{length-tab, getD-tab}
 use Rattle.octets.proofs.BitLaws.{bit-lt, flip-lt}
 use Rattle.des.specs.Des.{permuted, xorBits, boxPlace, substituted, cipherF}
-use Rattle.des.specs.Tables.{sboxes, pTable}
+use Rattle.des.specs.Tables.{S, P}
 
 -- each element is a bit
 abbrev pub BitList : List ℕ → Type 0
@@ -88,12 +88,12 @@ pub length-substituted : (b : List ℕ) → length (substituted b) ≡ 32
 unfolding substituted
 length-substituted b = length-tab _ 32
 
-pub getD-substituted : (b : List ℕ) (v i r : ℕ) → i < 8 → r < 4 → v ≡ getD sboxes (boxPlace b i) 0 → v / 2 ^ (3 - r) % 2 ≡ getD (substituted b) (4 * i + r) 0
+pub getD-substituted : (b : List ℕ) (v i r : ℕ) → i < 8 → r < 4 → v ≡ getD S (boxPlace b i) 0 → v / 2 ^ (3 - r) % 2 ≡ getD (substituted b) (4 * i + r) 0
 unfolding substituted
 getD-substituted b v i r h s e =
     let q : (4 * i + r) / 4 ≡ i = omega arith in
     let m : (4 * i + r) % 4 ≡ r = omega arith in
-    sym (getD-tab (λ k. getD sboxes (boxPlace b (k / 4)) 0 / 2 ^ (3 - k % 4) % 2) 32 (4 * i + r) (omega arith) ∙ rw (q, m, e))
+    sym (getD-tab (λ k. getD S (boxPlace b (k / 4)) 0 / 2 ^ (3 - k % 4) % 2) 32 (4 * i + r) (omega arith) ∙ rw (q, m, e))
 
 pub bits-substituted : (b : List ℕ) → BitList (substituted b)
 unfolding substituted
@@ -101,4 +101,4 @@ bits-substituted b = bits-tab _ 32 (λ k. omega arith)
 
 pub bits-cipherF : (r k : List ℕ) → BitList (cipherF r k)
 unfolding cipherF
-bits-cipherF r k = bits-permuted pTable _ (bits-substituted _)
+bits-cipherF r k = bits-permuted P _ (bits-substituted _)

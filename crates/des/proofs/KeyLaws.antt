@@ -1,8 +1,7 @@
--- The key schedule: what the shifts do, and that the round keys set out are the round keys.
+-- The key schedule: what the shifts do, and the round keys one after the other.
 use mathlib.Core.Path.{_≡_, sym, ap, _∙_}
 use mathlib.Core.List.{List, _++_}
 use Prim.Native.Nat.{ℕ, zero, suc, _+_, _-_, _*_, _/_, _%_, _≤_, _<_}
-use native.Mathlib.Nat.{add-sub-cancel-left}
 use native.Mathlib.Decide.{decLt}
 use native.Mathlib.Omega.{arith}
 use borrow.Rule.Slice.PartMut.{putMid}
@@ -10,9 +9,10 @@ use lib.ListN.{length, getD, take, drop, length-append, length-drop, List·getD-
 use lib.Seq.{getD-append-add, getD-drop, getD-take, length-take-le, ext-getD}
 use Rattle.octets.proofs.Front.{Front, front-to, front-part}
 use Rattle.octets.proofs.ListLaws.{length-tab, getD-tab}
-use Rattle.des.specs.Tables.{pc1Table, pc2Table, shifts}
-use Rattle.des.specs.Des.{rotated, keyState, roundKey, roundKeys, setOut}
-use Rattle.des.proofs.BitLists.{BitList, bits-tab, bits-append, bits-take, bits-drop, bits-permuted, length-permuted}
+use Rattle.des.specs.Tables.{PC-1, PC-2, leftShifts}
+use Rattle.des.specs.Des.{rotated, keyState, roundKey}
+use Rattle.des.specs.Prepared.{roundKeys}
+use Rattle.des.proofs.BitLists.{BitList, bits-append, bits-take, bits-drop, bits-permuted, length-permuted}
 
 -- ---- shifts
 
@@ -74,8 +74,8 @@ module _ (s : ℕ) (l : List ℕ) (small : s ≤ 28) (long : length l ≡ 56) wh
 -- ---- the round keys
 
 pub length-roundKey : (key : List ℕ) (n : ℕ) → length (roundKey key n) ≡ 48
-unfolding roundKey pc2Table
-length-roundKey key n = length-permuted pc2Table (keyState key (suc n))
+unfolding roundKey PC-2
+length-roundKey key n = length-permuted PC-2 (keyState key (suc n))
 
 pub length-roundKeys : (key : List ℕ) → length (roundKeys key) ≡ 768
 unfolding roundKeys
@@ -106,33 +106,19 @@ bits-shifted s l b =
 
 bits-state : (key : List ℕ) (n : ℕ) → BitList key → BitList (keyState key n)
 unfolding keyState
-bits-state key zero b = bits-permuted pc1Table key b
-bits-state key (suc n) b = bits-shifted (getD shifts n 0) (keyState key n) (bits-state key n b)
+bits-state key zero b = bits-permuted PC-1 key b
+bits-state key (suc n) b = bits-shifted (getD leftShifts n 0) (keyState key n) (bits-state key n b)
 
-pub bits-roundKeys : (key : List ℕ) → BitList key → BitList (roundKeys key)
-unfolding roundKeys roundKey
-bits-roundKeys key b = bits-tab _ 768 (λ k. bits-permuted pc2Table (keyState key (suc (k / 48))) (bits-state key (suc (k / 48)) b) (k % 48))
+pub bits-roundKey : (key : List ℕ) (n : ℕ) → BitList key → BitList (roundKey key n)
+unfolding roundKey
+bits-roundKey key n b = bits-permuted PC-2 (keyState key (suc n)) (bits-state key (suc n) b)
 
--- ---- round n's key among keys set out
+-- ---- round n's key among them
 
--- as the code lends it
-pub lent-key : (keys : List ℕ) (n : ℕ) → take (48 * n + 48 - 48 * n) (drop (48 * n) keys) ≡ setOut keys n
-unfolding setOut
-lent-key keys n = ap (λ (k : ℕ). take k (drop (48 * n) keys)) (add-sub-cancel-left (48 * n) 48)
-
-pub length-setOut : (keys : List ℕ) (n : ℕ) → length keys ≡ 768 → n < 16 → length (setOut keys n) ≡ 48
-unfolding setOut
-length-setOut keys n l h = length-take-le 48 (drop (48 * n) keys) (omega (arith, length-drop (48 * n) keys))
-
-pub bits-setOut : (keys : List ℕ) (n : ℕ) → BitList keys → BitList (setOut keys n)
-unfolding setOut
-bits-setOut keys n b = bits-take 48 (drop (48 * n) keys) (bits-drop (48 * n) keys b)
-
-pub set-out : (key : List ℕ) (n : ℕ) → n < 16 → setOut (roundKeys key) n ≡ roundKey key n
-unfolding setOut
-set-out key n h =
-    let l = length-setOut (roundKeys key) n (length-roundKeys key) h in
-    ext-getD 0 (setOut (roundKeys key) n) (roundKey key n) (l ∙ sym (length-roundKey key n))
+pub key-among : (key : List ℕ) (n : ℕ) → n < 16 → take 48 (drop (48 * n) (roundKeys key)) ≡ roundKey key n
+key-among key n h =
+    let l = length-take-le 48 (drop (48 * n) (roundKeys key)) (omega (arith, length-drop (48 * n) (roundKeys key), length-roundKeys key)) in
+    ext-getD 0 (take 48 (drop (48 * n) (roundKeys key))) (roundKey key n) (l ∙ sym (length-roundKey key n))
     (λ r b.
     let small : r < 48 = omega arith in
     getD-take 48 (drop (48 * n) (roundKeys key)) r 0 small ∙ getD-drop (48 * n) (roundKeys key) r 0 ∙ getD-roundKeys key n r h small)

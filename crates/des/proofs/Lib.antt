@@ -2,6 +2,7 @@ pub mod BitLists
 pub mod PlaceLaws
 pub mod TableLaws
 pub mod KeyLaws
+pub mod PreparedLaws
 pub mod RoundLaws
 pub mod DesLaws
 pub mod TableRules

@@ -8,7 +8,7 @@ use lib.ListN.{length, getD}
 use borrow.Author.Tests.{leb-true}
 use Rattle.octets.specs.Tests.{allBelow}
 use Rattle.octets.proofs.TestLaws.{and-left, and-right, all-at}
-use Rattle.des.specs.Tables.{ipTable, fpTable, eTable, pTable, pc1Table, pc2Table, shifts}
+use Rattle.des.specs.Tables.{IP, IP⁻¹, E, P, PC-1, PC-2, leftShifts}
 
 -- each entry of the table is the place of one of n bits
 abbrev pub Places : ℕ → List ℕ → Type 0
@@ -26,39 +26,39 @@ places n t e i h =
 pub permutable : {m k n : ℕ} {t table : List ℕ} → t ≡ table → Places n table → m ≡ length table → k ≡ n → (m ≡ length t) × Places k t
 permutable e p out bits = rw (e, bits) (out, p)
 
-pub ip-places : Places 64 ipTable
-unfolding allBelow ipTable
-ip-places = places 64 ipTable refl
+pub ip-places : Places 64 IP
+unfolding allBelow IP
+ip-places = places 64 IP refl
 
-pub fp-places : Places 64 fpTable
-unfolding allBelow fpTable
-fp-places = places 64 fpTable refl
+pub inverse-places : Places 64 IP⁻¹
+unfolding allBelow IP⁻¹
+inverse-places = places 64 IP⁻¹ refl
 
-pub e-places : Places 32 eTable
-unfolding allBelow eTable
-e-places = places 32 eTable refl
+pub e-places : Places 32 E
+unfolding allBelow E
+e-places = places 32 E refl
 
-pub p-places : Places 32 pTable
-unfolding allBelow pTable
-p-places = places 32 pTable refl
+pub p-places : Places 32 P
+unfolding allBelow P
+p-places = places 32 P refl
 
-pub pc1-places : Places 64 pc1Table
-unfolding allBelow pc1Table
-pc1-places = places 64 pc1Table refl
+pub pc1-places : Places 64 PC-1
+unfolding allBelow PC-1
+pc1-places = places 64 PC-1 refl
 
-pub pc2-places : Places 56 pc2Table
-unfolding allBelow pc2Table
-pc2-places = places 56 pc2Table refl
+pub pc2-places : Places 56 PC-2
+unfolding allBelow PC-2
+pc2-places = places 56 PC-2 refl
 
-pub length-pc2 : 48 ≡ length pc2Table
-unfolding pc2Table
+pub length-pc2 : 48 ≡ length PC-2
+unfolding PC-2
 length-pc2 = refl
 
-pub length-shifts : length shifts ≡ 16
-unfolding shifts
+pub length-shifts : length leftShifts ≡ 16
+unfolding leftShifts
 length-shifts = refl
 
 -- no shift is past the end of a half
-pub shift-small : (n : ℕ) → n < 16 → getD shifts n 0 ≤ 28
-unfolding allBelow shifts
-shift-small n h = leb-true (getD shifts n 0) 28 (all-at (λ k. leb (getD shifts k 0) 28) 16 n h refl)
+pub shift-small : (n : ℕ) → n < 16 → getD leftShifts n 0 ≤ 28
+unfolding allBelow leftShifts
+shift-small n h = leb-true (getD leftShifts n 0) 28 (all-at (λ k. leb (getD leftShifts k 0) 28) 16 n h refl)

@@ -1,15 +1,15 @@
--- The rounds: bits stay bits, only the keys of rounds that were done count, and what the code has after each round.
-use mathlib.Core.Path.{_≡_, refl, sym, ap, ap₂, _∙_}
+-- The rounds: bits stay bits, and what the code has after each round.
+use mathlib.Core.Path.{_≡_, sym, ap, ap₂, _∙_}
 use mathlib.Core.List.{List, _++_}
-use Prim.Native.Nat.{ℕ, zero, suc, _+_, _<_}
+use Prim.Native.Nat.{ℕ, zero, suc, _+_}
 use native.Mathlib.Numerals.{add-one}
 use native.Mathlib.Omega.{arith}
 use borrow.Rule.Slice.PartMut.{putMid}
 use lib.ListN.{length, take, drop, length-append, length-drop}
 use lib.Seq.{take-all, take-at, drop-at, length-take-le}
 use Rattle.octets.proofs.Front.{Front, front-start, front-done, front-piece}
-use Rattle.des.specs.Tables.{ipTable, fpTable}
-use Rattle.des.specs.Des.{permuted, xorBits, cipherF, Halves, rounds, halved, joined, enciphered}
+use Rattle.des.specs.Tables.{IP, IP⁻¹}
+use Rattle.des.specs.Des.{permuted, xorBits, cipherF, Halves, rounds, halved, preoutput, enciphered}
 use Rattle.des.proofs.BitLists.{BitList, bits-append, bits-take, bits-drop, bits-permuted, bits-xor, length-xor}
 
 -- ---- bits stay bits
@@ -26,20 +26,13 @@ module _ (keys : ℕ → List ℕ) (h : Halves) (l : BitList (h .left)) (r : Bit
   bits-left (suc n) = bits-right n
 
 pub bits-enciphered : (keys : ℕ → List ℕ) (block : List ℕ) → BitList block → BitList (enciphered keys block)
-unfolding enciphered halved joined
+unfolding enciphered halved preoutput
 bits-enciphered keys block b =
-    let p = bits-permuted ipTable block b in
-    let h = halved (permuted ipTable block) in
-    let l = bits-take 32 (permuted ipTable block) p in
-    let r = bits-drop 32 (permuted ipTable block) p in
-    bits-permuted fpTable (joined (rounds keys h 16)) (bits-append (rounds keys h 16 .right) (rounds keys h 16 .left) (bits-right keys h l r 16) (bits-left keys h l r 16))
-
--- ---- only the keys below n count
-
-pub rounds-same : (ks js : ℕ → List ℕ) (h : Halves) (n : ℕ) → ((m : ℕ) → m < n → ks m ≡ js m) → rounds ks h n ≡ rounds js h n
-unfolding rounds
-rounds-same ks js h zero e = refl
-rounds-same ks js h (suc n) e = rw (rounds-same ks js h n (λ m l. e m (omega arith)), e n (omega arith))
+    let p = bits-permuted IP block b in
+    let h = halved (permuted IP block) in
+    let l = bits-take 32 (permuted IP block) p in
+    let r = bits-drop 32 (permuted IP block) p in
+    bits-permuted IP⁻¹ (preoutput (rounds keys h 16)) (bits-append (rounds keys h 16 .right) (rounds keys h 16 .left) (bits-right keys h l r 16) (bits-left keys h l r 16))
 
 -- ---- the halves that the code has after n rounds
 
@@ -79,9 +72,9 @@ module _ (keys : ℕ → List ℕ) (h : Halves) (n : ℕ) (left right : List ℕ
         long-right = ap length en ∙ length-xor left f ∙ w .long-left;
       }
 
-  pub reached-end : (count : ℕ) → n ≡ count → right ++ left ≡ joined (rounds keys h count)
-  unfolding joined
-  reached-end count e = ap₂ _++_ (w .is-right) (w .is-left) ∙ ap (λ (k : ℕ). joined (rounds keys h k)) e
+  pub reached-end : (count : ℕ) → n ≡ count → right ++ left ≡ preoutput (rounds keys h count)
+  unfolding preoutput
+  reached-end count e = ap₂ _++_ (w .is-right) (w .is-left) ∙ ap (λ (k : ℕ). preoutput (rounds keys h k)) e
 
 -- ---- the right half out of the halves in the other order
 
@@ -91,9 +84,9 @@ module _ (keys : ℕ → List ℕ) (b : List ℕ) (long : length b ≡ 64) (bits
   halves-long zero = (length-take-le 32 b (omega arith), length-drop 32 b ∙ omega arith)
   halves-long (suc n) = (halves-long n .1, length-xor (rounds keys (halved b) n .left) _ ∙ halves-long n .0)
 
-  pub right-of : (n : ℕ) (all right : List ℕ) → all ≡ joined (rounds keys (halved b) n) → right ≡ take 32 (drop 0 all)
+  pub right-of : (n : ℕ) (all right : List ℕ) → all ≡ preoutput (rounds keys (halved b) n) → right ≡ take 32 (drop 0 all)
       → (right ≡ rounds keys (halved b) n .right) × (length right ≡ 32) × BitList right
-  unfolding joined halved
+  unfolding preoutput halved
   right-of n all right e f =
       let q : right ≡ rounds keys (halved b) n .right = f ∙ rw e (take-at (rounds keys (halved b) n .right) (rounds keys (halved b) n .left) 32 (halves-long n .1)) in
       (q, ap length q ∙ halves-long n .1, rw q (bits-right keys (halved b) (bits-take 32 b bits) (bits-drop 32 b bits) n))

@@ -13,10 +13,10 @@ use Rattle.octets.specs.Tests.{pick, allBelow}
 use Rattle.octets.specs.Lists.{tab}
 use Rattle.octets.proofs.TestLaws.{and-left, and-right, all-at, agree}
 use Rattle.octets.proofs.ListLaws.{getD-tab}
-use Rattle.des.specs.Tables.{ipTable, fpTable, eTable, pTable, pc1Table, pc2Table, shifts, sboxes}
+use Rattle.des.specs.Tables.{IP, IP⁻¹, E, P, PC-1, PC-2, leftShifts, S}
 use Rattle.des.specs.Des.{permuted}
 use Rattle.des.proofs.BitLists.{length-permuted, getD-permuted}
-use Rattle.des.proofs.PlaceLaws.{fp-places}
+use Rattle.des.proofs.PlaceLaws.{inverse-places}
 
 -- how often v stands in a list
 unfoldable pub times : ℕ → List ℕ → ℕ
@@ -36,81 +36,81 @@ permutation a n l e =
 
 -- ---- the initial permutation and its inverse
 
-length-ip : length ipTable ≡ 64
-unfolding ipTable
+length-ip : length IP ≡ 64
+unfolding IP
 length-ip = refl
 
-length-fp : length fpTable ≡ 64
-unfolding fpTable
-length-fp = refl
+length-inverse : length IP⁻¹ ≡ 64
+unfolding IP⁻¹
+length-inverse = refl
 
 -- the places go up the columns of an eight by eight square, the even ones first
-pub ip-columns : ipTable ≡ tab (λ k. 56 - 8 * (k % 8) + (2 * (k / 8) + 2) % 9) 64
-unfolding ipTable tab
+pub ip-columns : IP ≡ tab (λ k. 56 - 8 * (k % 8) + (2 * (k / 8) + 2) % 9) 64
+unfolding IP tab
 ip-columns = refl
 
 -- the places of 64 bits, permuted by the one and then by the other, are the places again
-pub places-undone : permuted fpTable ipTable ≡ tab suc 64
-unfolding permuted fpTable ipTable tab
+pub places-undone : permuted IP⁻¹ IP ≡ tab suc 64
+unfolding permuted IP⁻¹ IP tab
 places-undone = refl
 
-pub undone : (block : List ℕ) → length block ≡ 64 → permuted fpTable (permuted ipTable block) ≡ block
+pub undone : (block : List ℕ) → length block ≡ 64 → permuted IP⁻¹ (permuted IP block) ≡ block
 undone block l =
-    ext-getD 0 _ _ (length-permuted fpTable _ ∙ length-fp ∙ sym l)
+    ext-getD 0 _ _ (length-permuted IP⁻¹ _ ∙ length-inverse ∙ sym l)
     (λ i h.
-    let small : i < 64 = omega (arith, length-permuted fpTable (permuted ipTable block), length-fp) in
-    let inside : i < length fpTable = omega (arith, length-fp) in
-    let back : getD ipTable (getD fpTable i 0 - 1) 0 ≡ suc i = sym (getD-permuted fpTable ipTable i inside) ∙ ap (λ (t : List ℕ). getD t i 0) places-undone ∙ getD-tab suc 64 i small in
-    getD-permuted fpTable (permuted ipTable block) i inside
-    ∙ getD-permuted ipTable block (getD fpTable i 0 - 1) (omega (arith, fp-places i inside, length-ip))
+    let small : i < 64 = omega (arith, length-permuted IP⁻¹ (permuted IP block), length-inverse) in
+    let inside : i < length IP⁻¹ = omega (arith, length-inverse) in
+    let back : getD IP (getD IP⁻¹ i 0 - 1) 0 ≡ suc i = sym (getD-permuted IP⁻¹ IP i inside) ∙ ap (λ (t : List ℕ). getD t i 0) places-undone ∙ getD-tab suc 64 i small in
+    getD-permuted IP⁻¹ (permuted IP block) i inside
+    ∙ getD-permuted IP block (getD IP⁻¹ i 0 - 1) (omega (arith, inverse-places i inside, length-ip))
     ∙ ap (λ (k : ℕ). getD block k 0) (omega (arith, back)))
 
 -- ---- the selection functions and P
 
 -- row n of the 32, four to a box
 abbrev pub row : ℕ → List ℕ
-row n = take 16 (drop (16 * n) sboxes)
+row n = take 16 (drop (16 * n) S)
 
 pub rows-permute : (n : ℕ) → n < 32 → Permutation 0 16 (row n)
-unfolding allBelow times sboxes
+unfolding allBelow times S
 rows-permute n h = permutation 0 16 (row n) (all-at (λ k. isPermutation 0 16 (row k)) 32 n h refl)
 
-pub p-permutes : Permutation 1 32 pTable
-unfolding allBelow times pTable
-p-permutes = permutation 1 32 pTable refl
+pub p-permutes : Permutation 1 32 P
+unfolding allBelow times P
+p-permutes = permutation 1 32 P refl
 
 -- ---- the expansion: eight windows of six bits, four apart, the first from the last bit on
 
-pub e-windows : eTable ≡ tab (λ k. (31 + 4 * (k / 6) + k % 6) % 32 + 1) 48
-unfolding eTable tab
+pub e-windows : E ≡ tab (λ k. (31 + 4 * (k / 6) + k % 6) % 32 + 1) 48
+unfolding E tab
 e-windows = refl
 
 -- ---- the key schedule
 
 -- permuted choice 1 goes up the columns of the key's square: C takes the first three and half of the fourth, D the seventh to the fifth and the other half
-pub choice-1-columns : pc1Table
+pub choice-1-columns : PC-1
     ≡ tab (λ k. 57 - 8 * (k % 8) + k / 8) 28 ++ (tab (λ k. 63 - 8 * (k % 8) - k / 8) 24 ++ tab (λ k. 28 - 8 * k) 4)
-unfolding pc1Table tab
+unfolding PC-1 tab
 choice-1-columns = refl
 
 -- so it takes each bit of the key once, but leaves out each eighth
-pub choice-1 : (length pc1Table ≡ 56) × ((v : ℕ) → v < 64 → times (suc v) pc1Table ≡ pick (eqb (suc v % 8) 0) 0 1)
-unfolding allBelow times pc1Table
-choice-1 = (refl, agree (λ v. times (suc v) pc1Table) (λ v. pick (eqb (suc v % 8) 0) 0 1) 64 refl)
+pub choice-1 : (length PC-1 ≡ 56) × ((v : ℕ) → v < 64 → times (suc v) PC-1 ≡ pick (eqb (suc v % 8) 0) 0 1)
+unfolding allBelow times PC-1
+choice-1 = (refl, agree (λ v. times (suc v) PC-1) (λ v. pick (eqb (suc v % 8) 0) 0 1) 64 refl)
 
 -- permuted choice 2 takes 24 bits of C and then 24 of D, none of them twice
 abbrev inHalf : ℕ → Bool
-inHalf i = ltb (28 * (i / 24)) (getD pc2Table i 0) && leb (getD pc2Table i 0) (28 * (i / 24) + 28)
+inHalf i = ltb (28 * (i / 24)) (getD PC-2 i 0) && leb (getD PC-2 i 0) (28 * (i / 24) + 28)
 
-pub choice-2 : (length pc2Table ≡ 48) × ((i : ℕ) → i < 48 → (28 * (i / 24) < getD pc2Table i 0) × (getD pc2Table i 0 ≤ 28 * (i / 24) + 28))
-    × ((v : ℕ) → v < 56 → times (suc v) pc2Table ≤ 1)
-unfolding allBelow times pc2Table
+pub choice-2 : (length PC-2 ≡ 48) × ((i : ℕ) → i < 48 → (28 * (i / 24) < getD PC-2 i 0) × (getD PC-2 i 0 ≤ 28 * (i / 24) + 28))
+    × ((v : ℕ) → v < 56 → times (suc v) PC-2 ≤ 1)
+unfolding allBelow times PC-2
 choice-2 = (
   refl,
   λ i h.
       let b = all-at inHalf 48 i h refl in
-      (ltb-true (28 * (i / 24)) (getD pc2Table i 0) (and-left (ltb (28 * (i / 24)) (getD pc2Table i 0)) _ b), leb-true (getD pc2Table i 0) (28 * (i / 24) + 28) (and-right (ltb (28 * (i / 24)) (getD pc2Table i 0)) _ b)),
-  λ v h. leb-true (times (suc v) pc2Table) 1 (all-at (λ k. leb (times (suc k) pc2Table) 1) 56 v h refl),
+      (ltb-true (28 * (i / 24)) (getD PC-2 i 0) (and-left (ltb (28 * (i / 24)) (getD PC-2 i 0)) _ b), leb-true (getD PC-2 i 0) (28 * (i / 24) + 28) (and-right (ltb (28 * (i / 24)) (getD PC-2 i 0)) _ b)),
+  λ v h. leb-true (times (suc v) PC-2) 1 (all-at (λ k. leb (times (suc k) PC-2) 1) 56 v h refl),
 )
 
 unfoldable pub total : List ℕ → ℕ
@@ -118,6 +118,6 @@ total [] = 0
 total (x ∷ xs) = x + total xs
 
 -- after the last round C and D have come around
-pub shifts-around : (length shifts ≡ 16) × (total shifts ≡ 28)
-unfolding total shifts
+pub shifts-around : (length leftShifts ≡ 16) × (total leftShifts ≡ 28)
+unfolding total leftShifts
 shifts-around = (refl, refl)

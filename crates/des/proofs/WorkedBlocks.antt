@@ -8,8 +8,8 @@ use Rattle.octets.specs.Lists.{tab, Each}
 use Rattle.octets.specs.Bits.{bit, octet, octetsFrom}
 use Rattle.octets.proofs.BitLaws.{bit-octetsFrom}
 use Rattle.octets.proofs.ListLaws.{tab-same}
-use Rattle.des.specs.Tables.{ipTable, fpTable, eTable, pTable, pc1Table, pc2Table, shifts, sboxes}
-use Rattle.des.specs.Des.{des, byKeys, enciphered, rounds, halved, joined, cipherF, boxInput, substituted, boxPlace, xorBits, permuted, roundKey, keyState, rotated}
+use Rattle.des.specs.Tables.{IP, IP⁻¹, E, P, PC-1, PC-2, leftShifts, S}
+use Rattle.des.specs.Des.{des, enciphered, rounds, halved, preoutput, cipherF, boxInput, substituted, boxPlace, xorBits, permuted, roundKey, keyState, rotated}
 
 -- bit k of a number of 64 bits, the most significant first
 abbrev numberBit : ℕ → ℕ → ℕ
@@ -41,14 +41,14 @@ rows =
     ∷ []
 
 bits-work : Each (λ (r : ℕ × ℕ × ℕ). enciphered (roundKey (bits (r .0))) (bits (r .1)) ≡ bits (r .2)) rows
-unfolding rows tab ipTable fpTable eTable pTable pc1Table pc2Table shifts sboxes enciphered rounds halved joined cipherF boxInput substituted boxPlace xorBits permuted roundKey keyState rotated
+unfolding rows tab IP IP⁻¹ E P PC-1 PC-2 leftShifts S enciphered rounds halved preoutput cipherF boxInput substituted boxPlace xorBits permuted roundKey keyState rotated
 bits-work = (refl, (refl, (refl, (refl, (refl, (refl, (refl, (refl, (refl, (refl, (refl, (refl, (refl, tt)))))))))))))
 
 octets-bits : (n : ℕ) → tab (bit (octets n)) 64 ≡ bits n
 octets-bits n = tab-same _ _ 64 (λ k h. bit-octetsFrom 8 (numberBit n) (λ i. omega arith) k (omega arith))
 
 octets-work : (key block out : ℕ) → enciphered (roundKey (bits key)) (bits block) ≡ bits out → des (octets key) (octets block) ≡ octets out
-unfolding des byKeys tab octet octetsFrom
+unfolding des tab octet octetsFrom
 octets-work key block out e = rw (octets-bits key, octets-bits block, e) refl
 
 each-works : (rs : List (ℕ × ℕ × ℕ)) → Each (λ (r : ℕ × ℕ × ℕ). enciphered (roundKey (bits (r .0))) (bits (r .1)) ≡ bits (r .2)) rs

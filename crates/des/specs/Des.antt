@@ -4,7 +4,7 @@ use Prim.Native.Nat.{ℕ, zero, suc, _+_, _-_, _*_, _/_, _%_, _^_}
 use lib.ListN.{length, getD, take, drop}
 use Rattle.octets.specs.Lists.{tab}
 use Rattle.octets.specs.Bits.{bit, flip, octetsFrom}
-use Rattle.des.specs.Tables.{ipTable, fpTable, eTable, pTable, pc1Table, pc2Table, shifts, sboxes}
+use Rattle.des.specs.Tables.{IP, IP⁻¹, E, P, PC-1, PC-2, leftShifts, S}
 
 -- a table's entry is the place of the bit that goes here
 unfoldable pub permuted : List ℕ → List ℕ → List ℕ
@@ -18,7 +18,7 @@ xorBits a b = tab (λ i. flip (getD a i 0) (getD b i 0)) (length a)
 
 -- what the boxes are given
 unfoldable pub boxInput : List ℕ → List ℕ → List ℕ
-boxInput r k = xorBits (permuted eTable r) k
+boxInput r k = xorBits (permuted E r) k
 
 -- where box i, counted from 0, looks: its six bits stand from 6 i on, the first and the last are the row, the four between the column
 unfoldable pub boxPlace : List ℕ → ℕ → ℕ
@@ -29,10 +29,10 @@ boxPlace b i =
 
 -- the four bits of each box's entry, one box after the other
 unfoldable pub substituted : List ℕ → List ℕ
-substituted b = tab (λ k. getD sboxes (boxPlace b (k / 4)) 0 / 2 ^ (3 - k % 4) % 2) 32
+substituted b = tab (λ k. getD S (boxPlace b (k / 4)) 0 / 2 ^ (3 - k % 4) % 2) 32
 
 unfoldable pub cipherF : List ℕ → List ℕ → List ℕ
-cipherF r k = permuted pTable (substituted (boxInput r k))
+cipherF r k = permuted P (substituted (boxInput r k))
 
 -- ---- the key schedule
 
@@ -42,14 +42,14 @@ rotated s l = drop s l ++ take s l
 
 -- C and D, one after the other, after n rounds' shifts
 unfoldable pub keyState : List ℕ → ℕ → List ℕ
-keyState key zero = permuted pc1Table key
+keyState key zero = permuted PC-1 key
 keyState key (suc n) =
-    let s = getD shifts n 0 in
+    let s = getD leftShifts n 0 in
     rotated s (take 28 (keyState key n)) ++ rotated s (drop 28 (keyState key n))
 
 -- the key of round n, counted from 0
 unfoldable pub roundKey : List ℕ → ℕ → List ℕ
-roundKey key n = permuted pc2Table (keyState key (suc n))
+roundKey key n = permuted PC-2 (keyState key (suc n))
 
 -- ---- enciphering
 
@@ -69,33 +69,22 @@ rounds keys h (suc n) =
 unfoldable pub halved : List ℕ → Halves
 halved l = record { left = take 32 l; right = drop 32 l }
 
--- the halves in the other order: the last round's are not exchanged
-unfoldable pub joined : Halves → List ℕ
-joined h = h .right ++ h .left
+-- the preoutput: the halves in the other order, since the last round's are not exchanged
+unfoldable pub preoutput : Halves → List ℕ
+preoutput h = h .right ++ h .left
 
+-- a block of 64 bits, by the rounds' keys
 unfoldable pub enciphered : (ℕ → List ℕ) → List ℕ → List ℕ
-enciphered keys block = permuted fpTable (joined (rounds keys (halved (permuted ipTable block)) 16))
-
--- eight octets enciphered by the rounds' keys
-unfoldable pub byKeys : (ℕ → List ℕ) → List ℕ → List ℕ
-byKeys keys block = octetsFrom 8 (λ k. getD (enciphered keys (tab (bit block) 64)) k 0)
+enciphered keys block = permuted IP⁻¹ (preoutput (rounds keys (halved (permuted IP block)) 16))
 
 -- DES of a block of eight octets under a key of eight octets, which come first in the lists
 unfoldable pub des : List ℕ → List ℕ → List ℕ
-des key block = byKeys (roundKey (tab (bit key) 64)) block
-
--- ---- the round keys set out before the first round
-
--- all sixteen, one after the other
-unfoldable pub roundKeys : List ℕ → List ℕ
-roundKeys key = tab (λ k. getD (roundKey key (k / 48)) (k % 48) 0) 768
-
--- round n's among keys set out
-unfoldable pub setOut : List ℕ → ℕ → List ℕ
-setOut keys n = take 48 (drop (48 * n) keys)
+des key block = octetsFrom 8 (λ k. getD (enciphered (roundKey (tab (bit key) 64)) (tab (bit block) 64)) k 0)
 
 -- ---- which entries a block uses
 
--- where box i looks in round n, both counted from 0, of a block of eight octets
-unfoldable pub looksAt : (ℕ → List ℕ) → List ℕ → ℕ → ℕ → ℕ
-looksAt keys block n i = boxPlace (boxInput (rounds keys (halved (permuted ipTable (tab (bit block) 64))) n .right) (keys n)) i
+-- where box i looks in round n, both counted from 0, of a block of eight octets under a key of eight octets
+unfoldable pub looksAt : List ℕ → List ℕ → ℕ → ℕ → ℕ
+looksAt key block n i =
+    let keys = roundKey (tab (bit key) 64) in
+    boxPlace (boxInput (rounds keys (halved (permuted IP (tab (bit block) 64))) n .right) (keys n)) i

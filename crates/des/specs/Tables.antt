@@ -1,10 +1,10 @@
 -- FIPS 46-3's tables, each laid out as the standard prints it.
-use mathlib.Core.List.{List, [], _∷_, _++_}
+use mathlib.Core.List.{List, [], _∷_}
 use Prim.Native.Nat.{ℕ}
 
 -- the initial permutation IP
-unfoldable pub ipTable : List ℕ
-ipTable =
+unfoldable pub IP : List ℕ
+IP =
     58 ∷ 50 ∷ 42 ∷ 34 ∷ 26 ∷ 18 ∷ 10 ∷  2 ∷
     60 ∷ 52 ∷ 44 ∷ 36 ∷ 28 ∷ 20 ∷ 12 ∷  4 ∷
     62 ∷ 54 ∷ 46 ∷ 38 ∷ 30 ∷ 22 ∷ 14 ∷  6 ∷
@@ -14,9 +14,9 @@ ipTable =
     61 ∷ 53 ∷ 45 ∷ 37 ∷ 29 ∷ 21 ∷ 13 ∷  5 ∷
     63 ∷ 55 ∷ 47 ∷ 39 ∷ 31 ∷ 23 ∷ 15 ∷  7 ∷ []
 
--- the inverse initial permutation
-unfoldable pub fpTable : List ℕ
-fpTable =
+-- the inverse of IP
+unfoldable pub IP⁻¹ : List ℕ
+IP⁻¹ =
     40 ∷  8 ∷ 48 ∷ 16 ∷ 56 ∷ 24 ∷ 64 ∷ 32 ∷
     39 ∷  7 ∷ 47 ∷ 15 ∷ 55 ∷ 23 ∷ 63 ∷ 31 ∷
     38 ∷  6 ∷ 46 ∷ 14 ∷ 54 ∷ 22 ∷ 62 ∷ 30 ∷
@@ -27,8 +27,8 @@ fpTable =
     33 ∷  1 ∷ 41 ∷  9 ∷ 49 ∷ 17 ∷ 57 ∷ 25 ∷ []
 
 -- the E bit-selection table
-unfoldable pub eTable : List ℕ
-eTable =
+unfoldable pub E : List ℕ
+E =
     32 ∷  1 ∷  2 ∷  3 ∷  4 ∷  5 ∷
      4 ∷  5 ∷  6 ∷  7 ∷  8 ∷  9 ∷
      8 ∷  9 ∷ 10 ∷ 11 ∷ 12 ∷ 13 ∷
@@ -39,8 +39,8 @@ eTable =
     28 ∷ 29 ∷ 30 ∷ 31 ∷ 32 ∷  1 ∷ []
 
 -- the permutation P
-unfoldable pub pTable : List ℕ
-pTable =
+unfoldable pub P : List ℕ
+P =
     16 ∷  7 ∷ 20 ∷ 21 ∷
     29 ∷ 12 ∷ 28 ∷ 17 ∷
      1 ∷ 15 ∷ 23 ∷ 26 ∷
@@ -51,8 +51,8 @@ pTable =
     22 ∷ 11 ∷  4 ∷ 25 ∷ []
 
 -- the selection functions S1 to S8, each with its four rows of sixteen, one after the other
-unfoldable pub sboxes : List ℕ
-sboxes =
+unfoldable pub S : List ℕ
+S =
     -- S1
     14 ∷  4 ∷ 13 ∷  1 ∷  2 ∷ 15 ∷ 11 ∷  8 ∷  3 ∷ 10 ∷  6 ∷ 12 ∷  5 ∷  9 ∷  0 ∷  7 ∷
      0 ∷ 15 ∷  7 ∷  4 ∷ 14 ∷  2 ∷ 13 ∷  1 ∷ 10 ∷  6 ∷ 12 ∷ 11 ∷  9 ∷  5 ∷  3 ∷  8 ∷
@@ -94,13 +94,9 @@ sboxes =
      7 ∷ 11 ∷  4 ∷  1 ∷  9 ∷ 12 ∷ 14 ∷  2 ∷  0 ∷  6 ∷ 10 ∷ 13 ∷ 15 ∷  3 ∷  5 ∷  8 ∷
      2 ∷  1 ∷ 14 ∷  7 ∷  4 ∷ 10 ∷  8 ∷ 13 ∷ 15 ∷ 12 ∷  9 ∷  0 ∷  3 ∷  5 ∷  6 ∷ 11 ∷ []
 
--- the tables of a block, one after the other
-unfoldable pub cipherTables : List ℕ
-cipherTables = ipTable ++ (eTable ++ (pTable ++ (sboxes ++ fpTable)))
-
--- permuted choice 1: C, then D
-unfoldable pub pc1Table : List ℕ
-pc1Table =
+-- permuted choice 1, PC-1: C, then D
+unfoldable pub PC-1 : List ℕ
+PC-1 =
     57 ∷ 49 ∷ 41 ∷ 33 ∷ 25 ∷ 17 ∷  9 ∷
      1 ∷ 58 ∷ 50 ∷ 42 ∷ 34 ∷ 26 ∷ 18 ∷
     10 ∷  2 ∷ 59 ∷ 51 ∷ 43 ∷ 35 ∷ 27 ∷
@@ -110,9 +106,9 @@ pc1Table =
     14 ∷  6 ∷ 61 ∷ 53 ∷ 45 ∷ 37 ∷ 29 ∷
     21 ∷ 13 ∷  5 ∷ 28 ∷ 20 ∷ 12 ∷  4 ∷ []
 
--- permuted choice 2
-unfoldable pub pc2Table : List ℕ
-pc2Table =
+-- permuted choice 2, PC-2
+unfoldable pub PC-2 : List ℕ
+PC-2 =
     14 ∷ 17 ∷ 11 ∷ 24 ∷  1 ∷  5 ∷
      3 ∷ 28 ∷ 15 ∷  6 ∷ 21 ∷ 10 ∷
     23 ∷ 19 ∷ 12 ∷  4 ∷ 26 ∷  8 ∷
@@ -123,6 +119,6 @@ pc2Table =
     46 ∷ 42 ∷ 50 ∷ 36 ∷ 29 ∷ 32 ∷ []
 
 -- the left shifts before each round
-unfoldable pub shifts : List ℕ
-shifts =
+unfoldable pub leftShifts : List ℕ
+leftShifts =
      1 ∷  1 ∷  2 ∷  2 ∷  2 ∷  2 ∷  2 ∷  2 ∷  1 ∷  2 ∷  2 ∷  2 ∷  2 ∷  2 ∷  2 ∷  1 ∷ []

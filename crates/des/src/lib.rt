@@ -4,40 +4,43 @@ mod tables;
 
 use octets::copy;
 use octets::wide;
-use tables::CHOICE1;
-use tables::CHOICE2;
-use tables::EXPANSION;
-use tables::INITIAL;
-use tables::LAST;
-use tables::PERMUTATION;
-use tables::SELECTION;
-use tables::SHIFTS;
+use tables::E;
+use tables::IP;
+use tables::IP_INVERSE;
+use tables::LEFT_SHIFTS;
+use tables::P;
+use tables::PC1;
+use tables::PC2;
+use tables::S;
 ghost use mathlib.Core.Path.{_≡_};
 ghost use mathlib.Core.List.{_++_};
 ghost use Prim.Native.Nat.{ℕ, _+_, _-_, _*_, _/_, _%_, _^_, _<_, _≤_};
 ghost use lib.ListN.{length, getD, take, drop};
 ghost use Rattle.octets.specs.Bits.{bit, octetsFrom, Bits};
 ghost use Rattle.octets.specs.Lists.{tab};
-ghost use Rattle.des.specs.Tables.{ipTable, cipherTables, pc1Table, pc2Table, sboxes, shifts};
-ghost use Rattle.des.specs.Des.{permuted, xorBits, boxInput, boxPlace, substituted, cipherF, rotated, roundKeys, rounds, halved, joined, enciphered, byKeys, setOut};
+ghost use Rattle.des.specs.Tables.{IP, PC-1, PC-2, S, leftShifts};
+ghost use Rattle.des.specs.Des.{permuted, xorBits, boxInput, boxPlace, substituted, cipherF, rotated, rounds, halved, preoutput, enciphered, des};
+ghost use Rattle.des.specs.Prepared.{cipherTables, roundKeys, keyOf, keysOf, Prepared};
 
-// The tables of a block in one array, made once: a constant is made anew wherever it is read.
-pub fn cipher_tables() -> [u8; 720]
-    ensures { λ r. ⌜ r ≡ cipherTables ⌝ }
-{
-    let initial = INITIAL;
-    let expansion = EXPANSION;
-    let permutation = PERMUTATION;
-    let selection = SELECTION;
-    let last = LAST;
-    let mut all = [0u8; 720];
-    copy(&initial, &mut all[0..64]);
-    copy(&expansion, &mut all[64..112]);
-    copy(&permutation, &mut all[112..144]);
-    copy(&selection, &mut all[144..656]);
-    copy(&last, &mut all[656..720]);
-    all
-}
+// Where the parts of a prepared key stand: the tables of a block, the key, and its round keys.
+const AT_IP: usize = 0;
+
+const AT_E: usize = AT_IP + 64;
+
+const AT_P: usize = AT_E + 48;
+
+const AT_S: usize = AT_P + 32;
+
+const AT_IP_INVERSE: usize = AT_S + 512;
+
+const AT_KEY: usize = AT_IP_INVERSE + 64;
+
+const AT_ROUND_KEYS: usize = AT_KEY + 8;
+
+const END: usize = AT_ROUND_KEYS + 16 * ROUND_KEY;
+
+// The bits of a round key.
+const ROUND_KEY: usize = 48;
 
 // The bits at the places that a table has.
 fn permute(bits: &[u8], table: &[u8], out: &mut [u8])
@@ -136,7 +139,7 @@ fn box_place(bits: &[u8], i: usize) -> usize
 
 // What the boxes select by 48 bits.
 fn substitute(boxes: &[u8], bits: &[u8]) -> [u8; 32]
-    requires { ⌜ (now boxes ≡ sboxes) × (length (now bits) ≡ 48) × Bits (λ k. getD (now bits) k 0) ⌝ }
+    requires { ⌜ (now boxes ≡ S) × (length (now bits) ≡ 48) × Bits (λ k. getD (now bits) k 0) ⌝ }
     ensures { λ r. ⌜ r ≡ substituted (now (bits .entry)) ⌝ }
 {
     let mut out = [0u8; 32];
@@ -154,28 +157,30 @@ fn substitute(boxes: &[u8], bits: &[u8]) -> [u8; 32]
     out
 }
 
-// What the boxes are given: E(R) + K.
-fn box_input(tables: &[u8], right: &[u8], key: &[u8]) -> [u8; 48]
-    requires { ⌜ (now tables ≡ cipherTables) × (length (now right) ≡ 32) × (length (now key) ≡ 48) ⌝ }
-    requires { ⌜ Bits (λ k. getD (now right) k 0) × Bits (λ k. getD (now key) k 0) ⌝ }
-    ensures { λ r. ⌜ r ≡ boxInput (now (right .entry)) (now (key .entry)) ⌝ }
+// What the boxes are given in round n, counted from 0: E(R) + K. The key is copied first: added from where it stands, it makes a block slower by a tenth.
+fn box_input(prepared: &[u8], right: &[u8], n: usize) -> [u8; 48]
+    requires { ⌜ Prepared (now prepared) × (length (now right) ≡ 32) × Bits (λ k. getD (now right) k 0) × (n < 16) ⌝ }
+    ensures { λ r. ⌜ r ≡ boxInput (now (right .entry)) (keysOf (now (prepared .entry)) n) ⌝ }
 {
+    let a = AT_ROUND_KEYS + ROUND_KEY * n;
+    let e = a + ROUND_KEY;
+    let mut key = [0u8; ROUND_KEY];
+    copy(&prepared[a..e], &mut key);
     let mut input = [0u8; 48];
-    permute(right, &tables[64..112], &mut input);
-    add(&mut input, key);
+    permute(right, &prepared[AT_E..AT_P], &mut input);
+    add(&mut input, &key);
     input
 }
 
-// f(R, K)
-fn cipher_function(tables: &[u8], right: &[u8], key: &[u8]) -> [u8; 32]
-    requires { ⌜ (now tables ≡ cipherTables) × (length (now right) ≡ 32) × (length (now key) ≡ 48) ⌝ }
-    requires { ⌜ Bits (λ k. getD (now right) k 0) × Bits (λ k. getD (now key) k 0) ⌝ }
-    ensures { λ r. ⌜ r ≡ cipherF (now (right .entry)) (now (key .entry)) ⌝ }
+// f(R, K) of round n, counted from 0.
+fn cipher_function(prepared: &[u8], right: &[u8], n: usize) -> [u8; 32]
+    requires { ⌜ Prepared (now prepared) × (length (now right) ≡ 32) × Bits (λ k. getD (now right) k 0) × (n < 16) ⌝ }
+    ensures { λ r. ⌜ r ≡ cipherF (now (right .entry)) (keysOf (now (prepared .entry)) n) ⌝ }
 {
-    let input = box_input(tables, right, key);
-    let selected = substitute(&tables[144..656], &input);
+    let input = box_input(prepared, right, n);
+    let selected = substitute(&prepared[AT_S..AT_IP_INVERSE], &input);
     let mut out = [0u8; 32];
-    permute(&selected, &tables[112..144], &mut out);
+    permute(&selected, &prepared[AT_P..AT_S], &mut out);
     out
 }
 
@@ -202,18 +207,15 @@ fn join(first: &[u8], second: &[u8]) -> [u8; 64]
 }
 
 // The first rounds, as many as asked, and the halves in the other order.
-fn first_rounds(tables: &[u8], keys: &[u8], bits: &[u8], count: usize) -> [u8; 64]
-    requires { ⌜ (now tables ≡ cipherTables) × (length (now keys) ≡ 768) × (length (now bits) ≡ 64) ⌝ }
-    requires { ⌜ Bits (λ k. getD (now keys) k 0) × Bits (λ k. getD (now bits) k 0) × (count ≤ 16) ⌝ }
-    ensures { λ r. ⌜ r ≡ joined (rounds (setOut (now (keys .entry))) (halved (now (bits .entry))) count) ⌝ }
+fn first_rounds(prepared: &[u8], bits: &[u8], count: usize) -> [u8; 64]
+    requires { ⌜ Prepared (now prepared) × (length (now bits) ≡ 64) × Bits (λ k. getD (now bits) k 0) × (count ≤ 16) ⌝ }
+    ensures { λ r. ⌜ r ≡ preoutput (rounds (keysOf (now (prepared .entry))) (halved (now (bits .entry))) count) ⌝ }
 {
     let mut left = half(bits, 0);
     let mut right = half(bits, 32);
     let mut n = 0;
     while n < count {
-        let a = 48 * n;
-        let e = a + 48;
-        let f = cipher_function(tables, &right, &keys[a..e]);
+        let f = cipher_function(prepared, &right, n);
         let mut next = left;
         add(&mut next, &f);
         left = right;
@@ -224,34 +226,33 @@ fn first_rounds(tables: &[u8], keys: &[u8], bits: &[u8], count: usize) -> [u8; 6
 }
 
 // The initial permutation, into lent bits: an array given back makes a block slower by a quarter.
-fn initial(tables: &[u8], bits: &[u8], first: &mut [u8])
-    requires { ⌜ (now tables ≡ cipherTables) × (length (now bits) ≡ 64) × (length (now first) ≡ 64) ⌝ }
-    ensures { λ _. ⌜ now (first .exit) ≡ permuted ipTable (now (bits .entry)) ⌝ }
+fn initial(prepared: &[u8], bits: &[u8], first: &mut [u8])
+    requires { ⌜ Prepared (now prepared) × (length (now bits) ≡ 64) × (length (now first) ≡ 64) ⌝ }
+    ensures { λ _. ⌜ now (first .exit) ≡ permuted IP (now (bits .entry)) ⌝ }
 {
-    permute(bits, &tables[0..64], first);
+    permute(bits, &prepared[AT_IP..AT_E], first);
 }
 
 // 64 bits enciphered.
-fn encipher_bits(tables: &[u8], keys: &[u8], bits: &[u8]) -> [u8; 64]
-    requires { ⌜ (now tables ≡ cipherTables) × (length (now keys) ≡ 768) × (length (now bits) ≡ 64) ⌝ }
-    requires { ⌜ Bits (λ k. getD (now keys) k 0) × Bits (λ k. getD (now bits) k 0) ⌝ }
-    ensures { λ r. ⌜ r ≡ enciphered (setOut (now (keys .entry))) (now (bits .entry)) ⌝ }
+fn encipher_bits(prepared: &[u8], bits: &[u8]) -> [u8; 64]
+    requires { ⌜ Prepared (now prepared) × (length (now bits) ≡ 64) × Bits (λ k. getD (now bits) k 0) ⌝ }
+    ensures { λ r. ⌜ r ≡ enciphered (keysOf (now (prepared .entry))) (now (bits .entry)) ⌝ }
 {
     let mut first = [0u8; 64];
-    initial(tables, bits, &mut first);
-    let after = first_rounds(tables, keys, &first, 16);
+    initial(prepared, bits, &mut first);
+    let after = first_rounds(prepared, &first, 16);
     let mut last = [0u8; 64];
-    permute(&after, &tables[656..720], &mut last);
+    permute(&after, &prepared[AT_IP_INVERSE..AT_KEY], &mut last);
     last
 }
 
-// Enciphers a block in place, by the tables and by round keys set out.
-pub fn encipher(tables: &[u8], keys: &[u8], block: &mut [u8])
-    requires { ⌜ (now tables ≡ cipherTables) × (length (now keys) ≡ 768) × Bits (λ k. getD (now keys) k 0) × (length (now block) ≡ 8) ⌝ }
-    ensures { λ _. ⌜ now (block .exit) ≡ byKeys (setOut (now (keys .entry))) (now (block .entry)) ⌝ }
+// Enciphers a block in place, under the key that was prepared.
+pub fn encipher(prepared: &[u8], block: &mut [u8])
+    requires { ⌜ Prepared (now prepared) × (length (now block) ≡ 8) ⌝ }
+    ensures { λ _. ⌜ now (block .exit) ≡ des (keyOf (now (prepared .entry))) (now (block .entry)) ⌝ }
 {
     let bits = unpack(block);
-    let out = encipher_bits(tables, keys, &bits);
+    let out = encipher_bits(prepared, &bits);
     pack(&out, block);
 }
 
@@ -272,15 +273,15 @@ fn shift(cd: &[u8], s: usize) -> [u8; 56]
 }
 
 fn shift_table() -> [u8; 16]
-    ensures { λ r. ⌜ r ≡ shifts ⌝ }
+    ensures { λ r. ⌜ r ≡ leftShifts ⌝ }
 {
-    SHIFTS
+    LEFT_SHIFTS
 }
 
 // How far C and D are shifted before round n.
 fn shift_before(table: &[u8], n: usize) -> usize
-    requires { ⌜ (now table ≡ shifts) × (n < 16) ⌝ }
-    ensures { λ r. ⌜ (r ≡ getD shifts n 0) × (r ≤ 28) ⌝ }
+    requires { ⌜ (now table ≡ leftShifts) × (n < 16) ⌝ }
+    ensures { λ r. ⌜ (r ≡ getD leftShifts n 0) × (r ≤ 28) ⌝ }
 {
     wide(table[n])
 }
@@ -288,45 +289,74 @@ fn shift_before(table: &[u8], n: usize) -> usize
 // C and D before the first shift.
 fn first_state(key: &[u8]) -> [u8; 56]
     requires { ⌜ 8 ≤ length (now key) ⌝ }
-    ensures { λ r. ⌜ r ≡ permuted pc1Table (tab (bit (now (key .entry))) 64) ⌝ }
+    ensures { λ r. ⌜ r ≡ permuted PC-1 (tab (bit (now (key .entry))) 64) ⌝ }
 {
     let bits = unpack(key);
-    let table = CHOICE1;
+    let table = PC1;
     let mut cd = [0u8; 56];
     permute(&bits, &table, &mut cd);
     cd
 }
 
 fn choice_table() -> [u8; 48]
-    ensures { λ r. ⌜ r ≡ pc2Table ⌝ }
+    ensures { λ r. ⌜ r ≡ PC-2 ⌝ }
 {
-    CHOICE2
+    PC2
 }
 
 // The key that C and D make.
 fn choose(table: &[u8], cd: &[u8], key: &mut [u8])
-    requires { ⌜ (now table ≡ pc2Table) × (length (now cd) ≡ 56) × (length (now key) ≡ 48) ⌝ }
-    ensures { λ _. ⌜ now (key .exit) ≡ permuted pc2Table (now (cd .entry)) ⌝ }
+    requires { ⌜ (now table ≡ PC-2) × (length (now cd) ≡ 56) × (length (now key) ≡ 48) ⌝ }
+    ensures { λ _. ⌜ now (key .exit) ≡ permuted PC-2 (now (cd .entry)) ⌝ }
 {
     permute(cd, table, key);
 }
 
-// The sixteen round keys, one after the other.
-pub fn schedule(key: &[u8]) -> [u8; 768]
-    requires { ⌜ 8 ≤ length (now key) ⌝ }
-    ensures { λ r. ⌜ r ≡ roundKeys (tab (bit (now (key .entry))) 64) ⌝ }
+// The sixteen round keys of a key, one after the other.
+fn schedule(key: &[u8], keys: &mut [u8])
+    requires { ⌜ (length (now key) ≡ 8) × (length (now keys) ≡ 768) ⌝ }
+    ensures { λ _. ⌜ now (keys .exit) ≡ roundKeys (tab (bit (now (key .entry))) 64) ⌝ }
 {
     let amounts = shift_table();
     let choice = choice_table();
     let mut cd = first_state(key);
-    let mut keys = [0u8; 768];
     let mut n = 0;
     while n < 16 {
         cd = shift(&cd, shift_before(&amounts, n));
-        let a = 48 * n;
-        let e = a + 48;
+        let a = ROUND_KEY * n;
+        let e = a + ROUND_KEY;
         choose(&choice, &cd, &mut keys[a..e]);
         n += 1;
     }
-    keys
+}
+
+// ---- preparing
+
+// The tables of a block, one after the other. They are made once for a key: a constant is made anew wherever it is read.
+fn put_tables(all: &mut [u8])
+    requires { ⌜ length (now all) ≡ 720 ⌝ }
+    ensures { λ _. ⌜ now (all .exit) ≡ cipherTables ⌝ }
+{
+    let ip = IP;
+    let e = E;
+    let p = P;
+    let s = S;
+    let inverse = IP_INVERSE;
+    copy(&ip, &mut all[AT_IP..AT_E]);
+    copy(&e, &mut all[AT_E..AT_P]);
+    copy(&p, &mut all[AT_P..AT_S]);
+    copy(&s, &mut all[AT_S..AT_IP_INVERSE]);
+    copy(&inverse, &mut all[AT_IP_INVERSE..AT_KEY]);
+}
+
+// Prepares a key: all that depends on no block is made here, once.
+pub fn prepare(key: &[u8]) -> [u8; END]
+    requires { ⌜ length (now key) ≡ 8 ⌝ }
+    ensures { λ r. ⌜ Prepared r × (keyOf r ≡ now (key .entry)) ⌝ }
+{
+    let mut prepared = [0u8; END];
+    put_tables(&mut prepared[AT_IP..AT_KEY]);
+    copy(key, &mut prepared[AT_KEY..AT_ROUND_KEYS]);
+    schedule(key, &mut prepared[AT_ROUND_KEYS..END]);
+    prepared
 }

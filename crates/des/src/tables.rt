@@ -1,7 +1,7 @@
 // FIPS 46-3's tables, each laid out as the standard prints it.
 
 // The initial permutation IP.
-pub const INITIAL: [u8; 64] = [
+pub const IP: [u8; 64] = [
     58, 50, 42, 34, 26, 18, 10,  2,
     60, 52, 44, 36, 28, 20, 12,  4,
     62, 54, 46, 38, 30, 22, 14,  6,
@@ -12,8 +12,8 @@ pub const INITIAL: [u8; 64] = [
     63, 55, 47, 39, 31, 23, 15,  7,
 ];
 
-// The inverse initial permutation.
-pub const LAST: [u8; 64] = [
+// The inverse of IP.
+pub const IP_INVERSE: [u8; 64] = [
     40,  8, 48, 16, 56, 24, 64, 32,
     39,  7, 47, 15, 55, 23, 63, 31,
     38,  6, 46, 14, 54, 22, 62, 30,
@@ -25,7 +25,7 @@ pub const LAST: [u8; 64] = [
 ];
 
 // The E bit-selection table.
-pub const EXPANSION: [u8; 48] = [
+pub const E: [u8; 48] = [
     32,  1,  2,  3,  4,  5,
      4,  5,  6,  7,  8,  9,
      8,  9, 10, 11, 12, 13,
@@ -37,7 +37,7 @@ pub const EXPANSION: [u8; 48] = [
 ];
 
 // The permutation P.
-pub const PERMUTATION: [u8; 32] = [
+pub const P: [u8; 32] = [
     16,  7, 20, 21,
     29, 12, 28, 17,
      1, 15, 23, 26,
@@ -49,7 +49,7 @@ pub const PERMUTATION: [u8; 32] = [
 ];
 
 // The selection functions S1 to S8, each with its four rows of sixteen, one after the other.
-pub const SELECTION: [u8; 512] = [
+pub const S: [u8; 512] = [
     // S1
     14,  4, 13,  1,  2, 15, 11,  8,  3, 10,  6, 12,  5,  9,  0,  7,
      0, 15,  7,  4, 14,  2, 13,  1, 10,  6, 12, 11,  9,  5,  3,  8,
@@ -92,8 +92,8 @@ pub const SELECTION: [u8; 512] = [
      2,  1, 14,  7,  4, 10,  8, 13, 15, 12,  9,  0,  3,  5,  6, 11,
 ];
 
-// Permuted choice 1: C, then D.
-pub const CHOICE1: [u8; 56] = [
+// Permuted choice 1, PC-1: C, then D.
+pub const PC1: [u8; 56] = [
     57, 49, 41, 33, 25, 17,  9,
      1, 58, 50, 42, 34, 26, 18,
     10,  2, 59, 51, 43, 35, 27,
@@ -104,8 +104,8 @@ pub const CHOICE1: [u8; 56] = [
     21, 13,  5, 28, 20, 12,  4,
 ];
 
-// Permuted choice 2.
-pub const CHOICE2: [u8; 48] = [
+// Permuted choice 2, PC-2.
+pub const PC2: [u8; 48] = [
     14, 17, 11, 24,  1,  5,
      3, 28, 15,  6, 21, 10,
     23, 19, 12,  4, 26,  8,
@@ -117,6 +117,6 @@ pub const CHOICE2: [u8; 48] = [
 ];
 
 // The left shifts before each round.
-pub const SHIFTS: [u8; 16] = [
+pub const LEFT_SHIFTS: [u8; 16] = [
      1,  1,  2,  2,  2,  2,  2,  2,  1,  2,  2,  2,  2,  2,  2,  1,
 ];

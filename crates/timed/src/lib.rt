@@ -7,11 +7,10 @@ use data::packet::Packet;
 fn des_chain(key: &[u8], block: &mut [u8], n: usize)
     requires { ⌜ (length (now key) ≡ 8) × (length (now block) ≡ 8) ⌝ }
 {
-    let tables = des::cipher_tables();
-    let keys = des::schedule(key);
+    let prepared = des::prepare(key);
     let mut i = 0;
     while i < n {
-        des::encipher(&tables, &keys, block);
+        des::encipher(&prepared, block);
         i += 1;
     }
 }
@@ -19,12 +18,10 @@ fn des_chain(key: &[u8], block: &mut [u8], n: usize)
 fn aes_chain(key: &[u8], block: &mut [u8], n: usize)
     requires { ⌜ (length (now key) ≡ 32) × (length (now block) ≡ 16) ⌝ }
 {
-    let sbox = aes::sbox();
-    let schedule = aes::key_expansion(&sbox, key);
-    let columns = aes::columns(&sbox);
+    let prepared = aes::prepare(key);
     let mut i = 0;
     while i < n {
-        aes::encipher(&columns, &schedule, block);
+        aes::encipher(&prepared, block);
         i += 1;
     }
 }

@@ -8,18 +8,15 @@ ghost use lib.ListN.{length};
 fn by_des(key: &[u8], block: &mut [u8])
     requires { ⌜ (length (now key) ≡ 8) × (length (now block) ≡ 8) ⌝ }
 {
-    let tables = des::cipher_tables();
-    let keys = des::schedule(key);
-    des::encipher(&tables, &keys, block);
+    let prepared = des::prepare(key);
+    des::encipher(&prepared, block);
 }
 
 fn by_aes(key: &[u8], block: &mut [u8])
     requires { ⌜ (length (now key) ≡ 32) × (length (now block) ≡ 16) ⌝ }
 {
-    let sbox = aes::sbox();
-    let schedule = aes::key_expansion(&sbox, key);
-    let columns = aes::columns(&sbox);
-    aes::encipher(&columns, &schedule, block);
+    let prepared = aes::prepare(key);
+    aes::encipher(&prepared, block);
 }
 
 // Enciphers a block where it stands, by the cipher that has keys and blocks of these widths. Where there is none, the block stays.

@@ -5,21 +5,19 @@ use text::part::LINE_END;
 use text::part::part_end;
 ghost use mathlib.Core.Path.{_≡_};
 ghost use Prim.Native.Nat.{_<_};
-ghost use lib.ListN.{length, getD};
-ghost use Rattle.octets.specs.Bits.{Bits};
-ghost use Rattle.des.specs.Tables.{cipherTables};
+ghost use lib.ListN.{length};
+ghost use Rattle.des.specs.Prepared.{Prepared};
 
 // The entries of the eight boxes.
 pub const ENTRIES: usize = 512;
 
 // Marks the entries that a block's round n looks at.
-fn mark_round(tables: &[u8], keys: &[u8], block: &[u8], n: usize, marks: &mut [u8])
-    requires { ⌜ (now tables ≡ cipherTables) × (length (now keys) ≡ 768) × Bits (λ k. getD (now keys) k 0) × (length (now block) ≡ 8) ⌝ }
-    requires { ⌜ (n < 16) × (length (now marks) ≡ 512) ⌝ }
+fn mark_round(prepared: &[u8], block: &[u8], n: usize, marks: &mut [u8])
+    requires { ⌜ Prepared (now prepared) × (length (now block) ≡ 8) × (n < 16) × (length (now marks) ≡ 512) ⌝ }
 {
     let mut i = 0;
     while i < 8 {
-        let at = des::looks::looks_at(tables, keys, block, n, i);
+        let at = des::looks::looks_at(prepared, block, n, i);
         marks[at] = 1;
         i += 1;
     }
@@ -29,11 +27,10 @@ fn mark_round(tables: &[u8], keys: &[u8], block: &[u8], n: usize, marks: &mut [u
 fn mark_block(key: &[u8], block: &[u8], marks: &mut [u8])
     requires { ⌜ (length (now key) ≡ 8) × (length (now block) ≡ 8) × (length (now marks) ≡ 512) ⌝ }
 {
-    let tables = des::cipher_tables();
-    let keys = des::schedule(key);
+    let prepared = des::prepare(key);
     let mut n = 0;
     while n < 16 {
-        mark_round(&tables, &keys, block, n, marks);
+        mark_round(&prepared, block, n, marks);
         n += 1;
     }
 }

@@ -17,7 +17,7 @@ returns c =
     _ _ _ _ _ _ _ _ _ (search needs)
     (sub-shifted _ _ _ (search needs) (b0 .before .shifted .ensures)) (sub-shifted _ _ _ (search needs) (b1 .before .shifted2 .ensures)) (sub-shifted _ _ _ (search needs) (b2 .before .shifted3 .ensures)) (sub-shifted _ _ _ (search needs) (b3 .before .shifted4 .ensures))
     (b0 .entry .ensures) (b1 .entry2 .ensures) (b2 .entry3 .ensures) (b3 .entry4 .ensures)
-    (b2 .before .before .turned .ensures) (b3 .before .before .turned2 .ensures) (c .turned3 .ensures)
+    (b2 .before .before .rotated .ensures) (b3 .before .before .rotated2 .ensures) (c .rotated3 .ensures)
 
 pub column-spec : {M : Type 1} → statement M
 column-spec =

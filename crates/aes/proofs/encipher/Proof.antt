@@ -1,43 +1,38 @@
 -- `aes::encipher` meets its contract.
-use mathlib.Core.Path.{_≡_, _∙_}
-use Prim.Native.Nat.{_≤_, _-_}
+use mathlib.Core.Path.{ap, _∙_}
+use mathlib.Core.List.{List}
+use Prim.Native.Nat.{ℕ}
+use native.Mathlib.Omega.{arith}
 use borrow.Author.Needs.{needs}
-use Rattle.aes.specs.Cipher.{rounds}
-use Rattle.aes.proofs.StateLaws.{length-shiftRows, length-addRoundKey, rounds-more, rounds-last}
+use denote.Ref.{now}
+use Rattle.aes.specs.Cipher.{cipher as cipherOf, aes}
+use Rattle.aes.proofs.PreparedLaws.{within, columns-part, length-schedule}
 use Rattle.aes.proofs.encipher.Statement.{statement}
 use Rattle.aes.proofs.encipher.Tie as tie
 
-abbrev Inv-loop : tie.InvT-loop
-Inv-loop table schedule block s₀ n₀ s n = (n ≤ 13) × (s ≡ rounds schedule block n)
+part-cipher-end : tie.Need-part-cipher-end
+part-cipher-end c = within _ (c .before .before .pre .0) (omega arith)
 
-abbrev μ-loop : tie.MeasureT-loop
-μ-loop table schedule block s₀ n₀ s n = 13 - n
+part-cipher-end-2 : tie.Need-part-cipher-end-2
+part-cipher-end-2 c = within _ (c .before .before .before .pre .0) (omega arith)
 
-returns : tie.Need-returns Inv-loop μ-loop
-returns c =
-    let key = c .before .before .before .before .before in
-    let after = key .before .before .before .before in
-    c .before .before .copy .ensures
-    ∙ rounds-last _ _ _ (after .before .loop .n) (after .before .loop .inv .1) _ _ (search needs) (key .before .before .sub-shift .ensures) (key .add-round-key2 .ensures)
+cipher-requires : tie.Need-cipher-requires
+cipher-requires c κs = (columns-part _ (c .before .before .before .before .before .pre .0), (length-schedule _ (c .before .before .before .before .before .pre .0), search needs))
+
+returns : tie.Need-returns
+unfolding aes
+returns c = c .before .before .cipher .ensures ∙ ap (λ (w : List ℕ). cipherOf w (now (c .before .before .before .before .before .before .before .before .args .block))) (c .before .before .before .before .before .before .before .before .pre .0 .schedule)
 
 pub encipher-spec : {M : Type 1} → statement M
-unfolding rounds
 encipher-spec =
     tie.close
     (tie.spec
-    Inv-loop
-    μ-loop
-    (λ c κs. search needs)
     (λ c. search needs)
     (λ c. search needs)
-    (λ c κs. search needs)
+    part-cipher-end
     (λ c. search needs)
     (λ c. search needs)
-    (λ c. let at = c .before .before .before in (search needs, rounds-more _ _ _ (at .loop .n) (at .loop .inv .1) _ (c .round .ensures)))
-    (λ c κs. search needs)
+    part-cipher-end-2
+    cipher-requires
     (λ c. search needs)
-    (λ c κs. ((search needs, search needs), rw (c .before .sub-shift .ensures, length-shiftRows)))
-    (λ c. search needs)
-    (λ c κs. rw (c .before .before .add-round-key2 .ensures, length-addRoundKey) (search needs))
-    (λ c. rw (c .before .before .copy .ensures, c .before .before .before .before .before .add-round-key2 .ensures, length-addRoundKey) (search needs))
     returns)

@@ -18,4 +18,4 @@ entry-spec =
     (λ c. search needs)
     (λ c. search needs)
     (λ c κs. search needs)
-    (λ c. c .join .ensures ∙ entry-is (c .before .before .before .before .before .before .args .columns .now) (c .before .before .before .before .before .before .args .x) (search needs) (search needs)))
+    (λ c. c .as-word .ensures ∙ entry-is (c .before .before .before .before .before .before .args .columns .now) (c .before .before .before .before .before .before .args .x) (search needs) (search needs)))

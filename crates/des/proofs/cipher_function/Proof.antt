@@ -3,30 +3,31 @@ use mathlib.Core.Path.{refl}
 use native.Mathlib.Omega.{arith}
 use borrow.Author.Needs.{needs}
 use Rattle.des.specs.Des.{boxInput, cipherF}
-use Rattle.des.specs.Tables.{pTable}
+use Rattle.des.specs.Tables.{P}
 use Rattle.des.proofs.BitLists.{bits-xor}
 use Rattle.des.proofs.PlaceLaws.{permutable, p-places}
-use Rattle.des.proofs.TableLaws.{long-enough, p-part, s-part}
+use Rattle.des.proofs.TableLaws.{p-part, s-part}
+use Rattle.des.proofs.PreparedLaws.{within}
 use Rattle.des.proofs.cipher_function.Statement.{statement}
 use Rattle.des.proofs.cipher_function.Tie as tie
 
 part-substitute-end : tie.Need-part-substitute-end
-part-substitute-end c = long-enough (c .before .before .before .before .pre .0 .0) (omega arith)
+part-substitute-end c = within _ (c .before .before .before .pre .0) (omega arith)
 
 substitute-requires : tie.Need-substitute-requires
 unfolding boxInput
-substitute-requires c κs = (s-part _ (c .before .before .before .before .before .before .pre .0 .0), search needs, rw (c .before .before .box-input .ensures) (bits-xor _ _))
+substitute-requires c κs = (s-part _ _ (c .before .before .before .before .before .pre .0 .parts), search needs, rw (c .before .before .box-input .ensures) (bits-xor _ _))
 
 part-permute-end : tie.Need-part-permute-end
-part-permute-end c = long-enough (c .before .before .before .before .before .before .before .before .pre .0 .0) (omega arith)
+part-permute-end c = within _ (c .before .before .before .before .before .before .before .pre .0) (omega arith)
 
 permute-requires : tie.Need-permute-requires
-unfolding pTable
-permute-requires c κs = permutable (p-part _ (c .before .before .before .before .before .before .before .before .before .before .pre .0 .0)) p-places refl (search needs)
+unfolding P
+permute-requires c κs = permutable (p-part _ _ (c .before .before .before .before .before .before .before .before .before .pre .0 .parts)) p-places refl (search needs)
 
 returns : tie.Need-returns
 unfolding cipherF
-returns c = cc (p-part _ (c .before .before .before .before .before .before .before .before .before .before .before .before .pre .0 .0))
+returns c = cc (p-part _ _ (c .before .before .before .before .before .before .before .before .before .before .before .pre .0 .parts))
 
 pub cipher-function-spec : {M : Type 1} → statement M
 cipher-function-spec =

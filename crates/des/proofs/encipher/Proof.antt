@@ -6,27 +6,21 @@ use borrow.Author.Needs.{needs}
 use denote.Ref.{now}
 use lib.ListN.{getD}
 use Rattle.octets.specs.Bits.{octetsFrom}
-use Rattle.des.specs.Des.{enciphered, byKeys}
+use Rattle.des.specs.Des.{enciphered, des}
 use Rattle.des.proofs.BitLists.{bits-of}
 use Rattle.des.proofs.RoundLaws.{bits-enciphered}
 use Rattle.des.proofs.encipher.Statement.{statement}
 use Rattle.des.proofs.encipher.Tie as tie
 
 encipher-bits-requires : tie.Need-encipher-bits-requires
-encipher-bits-requires c κs =
-    let s = c .before .before .before .before .before .before in
-    ((s .pre .0, s .pre .1, search needs), (s .pre .2, rw (c .before .unpack .ensures) (bits-of (now (s .args .block)) 64)))
+encipher-bits-requires c κs = (c .before .before .before .before .before .pre .0, search needs, rw (c .before .unpack .ensures) (bits-of (now (c .before .before .before .before .before .args .block)) 64))
 
 pack-requires : tie.Need-pack-requires
 pack-requires c κs =
-    let s = c .before .before .before .before .before .before .before .before .before in (
-      search needs,
-      rw (c .before .before .encipher-bits .ensures, c .before .before .before .before .unpack .ensures) (bits-enciphered _ _ (bits-of (now (s .args .block)) 64)),
-      search needs,
-    )
+    (search needs, rw (c .before .before .encipher-bits .ensures, c .before .before .before .before .unpack .ensures) (bits-enciphered _ _ (bits-of (now (c .before .before .before .before .before .before .before .before .args .block)) 64)), search needs)
 
 returns : tie.Need-returns
-unfolding byKeys
+unfolding des
 returns c = c .before .before .pack .ensures ∙ ap (λ (bits : List ℕ). octetsFrom 8 (λ k. getD bits k 0)) (c .before .before .before .before .before .encipher-bits .ensures ∙ ap (enciphered _) (c .before .before .before .before .before .before .before .unpack .ensures))
 
 pub encipher-spec : {M : Type 1} → statement M

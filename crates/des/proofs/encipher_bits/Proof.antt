@@ -3,25 +3,29 @@ use mathlib.Core.Path.{refl}
 use native.Mathlib.Omega.{arith}
 use borrow.Author.Needs.{needs}
 use Rattle.des.specs.Des.{enciphered}
-use Rattle.des.specs.Tables.{fpTable}
+use Rattle.des.specs.Tables.{IP⁻¹}
 use Rattle.des.proofs.BitLists.{bits-permuted}
-use Rattle.des.proofs.PlaceLaws.{permutable, fp-places}
-use Rattle.des.proofs.TableLaws.{long-enough, fp-part}
+use Rattle.des.proofs.PlaceLaws.{permutable, inverse-places}
+use Rattle.des.proofs.TableLaws.{inverse-part}
+use Rattle.des.proofs.PreparedLaws.{within}
 use Rattle.des.proofs.encipher_bits.Statement.{statement}
 use Rattle.des.proofs.encipher_bits.Tie as tie
 
 rounds-asked : tie.Need-first-rounds-requires
 rounds-asked c κs =
-    let p = c .before .before .before .before .before .before .before .pre in
-    ((p .0 .0, p .0 .1, search needs), (p .1 .0, rw (c .before .before .initial .ensures) (bits-permuted _ _ (p .1 .1)), omega arith))
+    let p = c .before .before .before .before .before .before .pre in
+    (p .0, search needs, rw (c .before .before .initial .ensures) (bits-permuted _ _ (p .2)), omega arith)
+
+last-within : tie.Need-part-permute-end
+last-within c = within _ (c .before .before .before .before .before .before .before .before .pre .0) (omega arith)
 
 last-asked : tie.Need-permute-requires
-unfolding fpTable
-last-asked c κs = permutable (fp-part _ (c .before .before .before .before .before .before .before .before .before .before .before .pre .0 .0)) fp-places refl (search needs)
+unfolding IP⁻¹
+last-asked c κs = permutable (inverse-part _ _ (c .before .before .before .before .before .before .before .before .before .before .pre .0 .parts)) inverse-places refl (search needs)
 
 composed : tie.Need-returns
 unfolding enciphered
-composed c = cc (fp-part _ (c .before .before .before .before .before .before .before .before .before .before .before .before .before .pre .0 .0))
+composed c = cc (inverse-part _ _ (c .before .before .before .before .before .before .before .before .before .before .before .before .pre .0 .parts))
 
 pub encipher-bits-spec : {M : Type 1} → statement M
 encipher-bits-spec =
@@ -34,7 +38,7 @@ encipher-bits-spec =
     (λ c. search needs)
     (λ c. search needs)
     (λ c. search needs)
-    (λ c. long-enough (c .before .before .before .before .before .before .before .before .before .pre .0 .0) (omega arith))
+    last-within
     (λ c. search needs)
     last-asked
     composed)

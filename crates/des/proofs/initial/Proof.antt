@@ -1,23 +1,24 @@
 -- `des::initial` meets its contract.
 use native.Mathlib.Omega.{arith}
 use borrow.Author.Needs.{needs}
-use Rattle.des.specs.Tables.{ipTable}
+use Rattle.des.specs.Tables.{IP}
 use Rattle.des.proofs.PlaceLaws.{permutable, ip-places}
-use Rattle.des.proofs.TableLaws.{long-enough, ip-part}
+use Rattle.des.proofs.TableLaws.{ip-part}
+use Rattle.des.proofs.PreparedLaws.{within}
 use Rattle.des.proofs.initial.Statement.{statement}
 use Rattle.des.proofs.initial.Tie as tie
 
 part-permute-end : tie.Need-part-permute-end
-part-permute-end c = long-enough (c .before .before .before .pre .0) (omega arith)
+part-permute-end c = within _ (c .before .before .before .pre .0) (omega arith)
 
 permute-requires : tie.Need-permute-requires
-unfolding ipTable
+unfolding IP
 permute-requires c κs =
     let p = c .before .before .before .before .before .pre in
-    permutable (ip-part _ (p .0)) ip-places (p .2) (p .1)
+    permutable (ip-part _ _ (p .0 .parts)) ip-places (p .2) (p .1)
 
 returns : tie.Need-returns
-returns c = cc (ip-part _ (c .before .before .before .before .before .before .before .before .pre .0))
+returns c = cc (ip-part _ _ (c .before .before .before .before .before .before .before .before .pre .0 .parts))
 
 pub initial-spec : {M : Type 1} → statement M
 initial-spec =

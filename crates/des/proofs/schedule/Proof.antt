@@ -1,5 +1,5 @@
 -- `des::schedule` meets its contract.
-use mathlib.Core.Path.{_≡_, refl, sym, ap, _∙_}
+use mathlib.Core.Path.{_≡_, sym, ap, _∙_}
 use Prim.Native.Nat.{suc, _+_, _-_, _*_}
 use native.Mathlib.Nat.{add-sub-cancel-left}
 use native.Mathlib.Numerals.{add-one}
@@ -11,22 +11,23 @@ use lib.Seq.{length-take-le}
 use Rattle.octets.specs.Bits.{bit}
 use Rattle.octets.specs.Lists.{tab}
 use Rattle.octets.proofs.Front.{Front, front-start, front-done}
-use Rattle.des.specs.Des.{keyState, roundKey, roundKeys}
+use Rattle.des.specs.Des.{keyState, roundKey}
+use Rattle.des.specs.Prepared.{roundKeys}
 use Rattle.des.proofs.KeyLaws.{length-roundKeys, key-put}
 use Rattle.des.proofs.schedule.Statement.{statement}
 use Rattle.des.proofs.schedule.Tie as tie
 
 abbrev Inv-loop : tie.InvT-loop
-Inv-loop key amounts choice cd₀ keys₀ n₀ cd keys n =
+Inv-loop key keys₀ amounts choice cd₀ n₀ keys cd n =
     let k = tab (bit key) 64 in
     (cd ≡ keyState k n) × (length cd ≡ 56) × (length keys ≡ 768) × Front (roundKeys k) keys₀ keys (48 * n)
 
 abbrev μ-loop : tie.MeasureT-loop
-μ-loop key amounts choice cd₀ keys₀ n₀ cd keys n = 16 - n
+μ-loop key keys₀ amounts choice cd₀ n₀ keys cd n = 16 - n
 
 loop-holds : tie.Need-loop-holds Inv-loop μ-loop
 unfolding keyState
-loop-holds c = (c .first-state .ensures, search needs, refl, front-start _ _ (sym (length-roundKeys _)))
+loop-holds c = (c .first-state .ensures, search needs, search needs, front-start _ _ (c .before .before .before .before .before .pre .1 ∙ sym (length-roundKeys _)))
 
 choose-requires : tie.Need-choose-requires Inv-loop μ-loop
 choose-requires c κs =
@@ -40,11 +41,11 @@ choose-requires c κs =
 loop-again : tie.Need-loop-again Inv-loop μ-loop
 unfolding keyState roundKey
 loop-again c =
-    let k = tab (bit (now (c .before .before .before .before .before .before .before .before .before .before .before .before .before .before .before .args .key))) 64 in
-    let n = c .before .before .before .before .before .before .before .before .before .before .loop .n in
-    let s : c .before .before .before .before .before .shift .result ≡ keyState k (suc n) = cc in
-    let e : c .before .choose .last .1 .1 .0 ≡ roundKey k n = cc in
-    let f = key-put k _ _ _ n (c .before .before .before .before .before .before .before .before .before .before .loop .inv .3) (search needs) e in
+    let k = tab (bit (now (c .before .before .before .before .before .before .before .before .before .before .before .before .before .before .before .before .before .args .key))) 64 in
+    let n = c .before .before .before .before .before .before .before .before .before .before .before .loop .n in
+    let s : c .before .before .before .before .before .before .shift .result ≡ keyState k (suc n) = cc in
+    let e : c .before .before .choose .last .1 .1 .0 ≡ roundKey k n = cc in
+    let f = key-put k _ _ _ n (c .before .before .before .before .before .before .before .before .before .before .before .loop .inv .3) (search needs) e in
     (s ∙ ap (keyState k) (sym (add-one n)), search needs, f .size ∙ length-roundKeys k, f)
 
 returns : tie.Need-returns Inv-loop μ-loop
@@ -75,4 +76,5 @@ schedule-spec =
     (λ c. search needs)
     (λ c. search needs)
     loop-again
+    (λ c. search needs)
     returns)

@@ -5,7 +5,7 @@ use Prim.Native.Nat.{ℕ}
 use native.Mathlib.Omega.{arith}
 use borrow.Author.Needs.{needs}
 use lib.ListN.{length, getD}
-use Rattle.des.specs.Tables.{shifts}
+use Rattle.des.specs.Tables.{leftShifts}
 use Rattle.des.proofs.PlaceLaws.{shift-small, length-shifts}
 use Rattle.des.proofs.shift_before.Statement.{statement}
 use Rattle.des.proofs.shift_before.Tie as tie
@@ -15,7 +15,7 @@ reads c = omega (arith, ap length (c .before .before .pre .0) ∙ length-shifts)
 
 shift : tie.Need-returns
 shift c =
-    let e : c .wide .result ≡ getD shifts (c .before .before .before .args .n) 0 = c .wide .ensures .0 ∙ ap (λ (t : List ℕ). getD t (c .before .before .before .args .n) 0) (c .before .before .before .pre .0) in
+    let e : c .wide .result ≡ getD leftShifts (c .before .before .before .args .n) 0 = c .wide .ensures .0 ∙ ap (λ (t : List ℕ). getD t (c .before .before .before .args .n) 0) (c .before .before .before .pre .0) in
     (e, omega (arith, shift-small (c .before .before .before .args .n) (search needs)))
 
 pub shift-before-spec : {M : Type 1} → statement M

@@ -7,10 +7,10 @@ use Rattle.timed.proofs.aes_chain.Statement.{statement}
 use Rattle.timed.proofs.aes_chain.Tie as tie
 
 abbrev Inv-loop : tie.InvT-loop
-Inv-loop key block₀ n schedule columns i₀ block i = (i ≤ n) × (length block ≡ length block₀)
+Inv-loop key block₀ n prepared i₀ block i = (i ≤ n) × (length block ≡ length block₀)
 
 abbrev μ-loop : tie.MeasureT-loop
-μ-loop key block₀ n schedule columns i₀ block i = n - i
+μ-loop key block₀ n prepared i₀ block i = n - i
 
 pub aes-chain-spec : {M : Type 1} → statement M
 aes-chain-spec =
@@ -19,12 +19,7 @@ aes-chain-spec =
     Inv-loop
     μ-loop
     (λ c κs. search needs)
-    (λ c. search needs)
-    (λ c κs. search needs)
-    (λ c. search needs)
-    (λ c κs. search needs)
     (λ c. (search needs, refl))
-    (λ c. search needs)
     (λ c. search needs)
     (λ c κs. search needs)
     (λ c. search needs)

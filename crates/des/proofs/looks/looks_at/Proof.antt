@@ -3,36 +3,27 @@ use borrow.Author.Needs.{needs}
 use denote.Ref.{now}
 use Rattle.des.specs.Des.{boxInput}
 use Rattle.des.proofs.BitLists.{bits-xor}
-use Rattle.des.proofs.KeyLaws.{lent-key, length-setOut, bits-setOut}
 use Rattle.des.proofs.DesLaws.{bits-first, looks-right, looks}
 use Rattle.des.proofs.looks.looks_at.Statement.{statement}
 use Rattle.des.proofs.looks.looks_at.Tie as tie
 
 rounds-asked : tie.Need-first-rounds-requires
-rounds-asked c κs =
-    let s = c .before .before .before .before .before .before .before .before .before in
-    let first-bits = bits-first (now (s .args .block)) _ _ (c .before .before .before .before .before .unpack .ensures) (c .before .before .initial .ensures) in
-    ((s .pre .0 .0, s .pre .0 .1, search needs), (s .pre .0 .2, first-bits, search needs))
+rounds-asked c κs = (c .before .before .before .before .before .before .before .before .pre .0, search needs, bits-first (now (c .before .before .before .before .before .before .before .before .args .block)) _ _ (c .before .before .before .before .before .unpack .ensures) (c .before .before .initial .ensures), search needs)
 
 input-asked : tie.Need-box-input-requires
 input-asked c κs =
-    let s = c .before .before .before .before .before .before .before .before .before .before .before .before .before .before in
-    let p = s .pre in
-    let k = lent-key (now (s .args .keys)) (s .args .n) in
-    let r = looks-right (now (s .args .block)) _ _ (c .before .before .before .before .before .before .before .before .before .before .unpack .ensures) (c .before .before .before .before .before .before .before .initial .ensures) _ _ _ _ (search needs) (c .before .before .before .before .first-rounds .ensures) (c .before .before .half .ensures) in
-    ((p .0 .0, r .1, rw k (length-setOut _ _ (p .0 .1) (p .1 .0))), (r .2, rw k (bits-setOut _ _ (p .0 .2))))
+    let r = looks-right (now (c .before .before .before .before .before .before .before .before .before .before .before .before .args .block)) _ _ (c .before .before .before .before .before .before .before .before .before .unpack .ensures) (c .before .before .before .before .before .before .initial .ensures) _ _ _ _ (search needs) (c .before .before .before .first-rounds .ensures) (c .before .half .ensures) in
+    (c .before .before .before .before .before .before .before .before .before .before .before .before .pre .0, r .1, r .2, search needs)
 
 place-asked : tie.Need-box-place-requires
 unfolding boxInput
 place-asked c κs = (search needs, rw (c .before .box-input .ensures) (bits-xor _ _), search needs)
 
 found : tie.Need-returns
-found c =
-    let s = c .before .before .before .before .before .before .before .before .before .before .before .before .before .before .before .before .before in
-    let k = lent-key (now (s .args .keys)) (s .args .n) in (
-      looks _ _ _ (c .before .before .before .before .before .before .before .before .before .before .before .before .before .unpack .ensures) (c .before .before .before .before .before .before .before .before .before .before .initial .ensures) _ _ _ _ (search needs) (c .before .before .before .before .before .before .before .first-rounds .ensures) (c .before .before .before .before .before .half .ensures) _ _ _ _ k (c .before .before .box-input .ensures) (c .box-place .ensures .0),
-      search needs,
-    )
+found c = (
+  looks _ _ _ (c .before .before .before .before .before .before .before .before .before .before .before .before .unpack .ensures) (c .before .before .before .before .before .before .before .before .before .initial .ensures) _ _ _ _ (search needs) (c .before .before .before .before .before .before .first-rounds .ensures) (c .before .before .before .before .half .ensures) _ _ _ (c .before .before .box-input .ensures) (c .box-place .ensures .0),
+  search needs,
+)
 
 pub looks-at-spec : {M : Type 1} → statement M
 looks-at-spec =
@@ -46,11 +37,6 @@ looks-at-spec =
     rounds-asked
     (λ c. search needs)
     (λ c κs. search needs)
-    (λ c. search needs)
-    (λ c. search needs)
-    (λ c. search needs)
-    (λ c. search needs)
-    (λ c. search needs)
     (λ c. search needs)
     input-asked
     (λ c. search needs)

@@ -7,10 +7,10 @@ use Rattle.vectors.proofs.selection.mark_round.Statement.{statement}
 use Rattle.vectors.proofs.selection.mark_round.Tie as tie
 
 abbrev Inv-loop : tie.InvT-loop
-Inv-loop tables keys block n marks₀ i₀ marks i = length marks ≡ length marks₀
+Inv-loop prepared block n marks₀ i₀ marks i = length marks ≡ length marks₀
 
 abbrev μ-loop : tie.MeasureT-loop
-μ-loop tables keys block n marks₀ i₀ marks i = 8 - i
+μ-loop prepared block n marks₀ i₀ marks i = 8 - i
 
 pub mark-round-spec : {M : Type 1} → statement M
 mark-round-spec =

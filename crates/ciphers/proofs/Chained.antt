@@ -16,17 +16,17 @@ use Rattle.octets.proofs.ListLaws.{iterate-add}
 use Rattle.octets.proofs.Front.{Front, front-more}
 use Rattle.octets.proofs.Windows.{window-octet}
 use Rattle.ciphers.specs.Keystream.{usedBlock, feedback}
-use Rattle.sizes.specs.Ciphers.{blockBits}
-use Rattle.ciphers.specs.Engine.{Engine, running}
-use Rattle.ciphers.specs.Engine.Engine.{forDes, forAes}
+use Rattle.ciphers.specs.declared.feedback.Engine.{Engine}
+use Rattle.ciphers.specs.declared.feedback.Engine.the-variants.{Des, Aes}
+use Rattle.ciphers.specs.Engine.{blockOctets, chained}
 
 -- a block has 8 octets, DES's, or 16, AES's
 abbrev pub Wide : ℕ → Type 0
 Wide n = (n ≡ 8) ⊎ (n ≡ 16)
 
-pub wide : (c n : ℕ) (tables schedule : List ℕ) → Engine c tables schedule → 8 * n ≡ blockBits c → Wide n
-wide c n t k (forDes e _ _ _) h = inl (omega (arith, rw e at h))
-wide c n t k (forAes e _ _) h = inr (omega (arith, rw e at h))
+pub wide : (e : Engine) (n : ℕ) → n ≡ blockOctets e → Wide n
+wide Des n h = inl h
+wide Aes n h = inr h
 
 pub wide-bounds : (n : ℕ) → Wide n → (8 ≤ n) × (n ≤ 16)
 wide-bounds n (inl e) = (omega arith, omega arith)
@@ -95,30 +95,30 @@ module _ (E : List ℕ → List ℕ) (b : List ℕ) where
   bits-placed n m k (inr e) h = (rw e (omega arith), rw e (omega arith))
 
   pub octet-bits : (n m : ℕ) → Wide n → (block : List ℕ) (at : ℕ) → Stands E b n m block at → (k : ℕ) → k < 8
-      → getD block at 0 / 2 ^ (7 - k) % 2 ≡ running E (8 * n) b (8 * m + k)
-  unfolding running
+      → getD block at 0 / 2 ^ (7 - k) % 2 ≡ chained E (8 * n) b (8 * m + k)
+  unfolding chained
   octet-bits n m w block at s k h =
       let f = bits-placed n m k w h in
       rw (s .block-is, s .at-is, f .0, f .1) (sym (bit-at (iterate E (m / n) b) (m % n) k h))
 
-  running-bit : (w k : ℕ) → running E w b k < 2
-  unfolding running
-  running-bit w k = bit-lt (iterate E (k / w) b) (k % w)
+  chained-bit : (w k : ℕ) → chained E w b k < 2
+  unfolding chained
+  chained-bit w k = bit-lt (iterate E (k / w) b) (k % w)
 
   -- a turn of the loop: the octet that starts at bit from + 8 i
-  pub run-more : (n from i : ℕ) → Wide n → (o d : List ℕ) (block next : List ℕ) (at then v : ℕ)
+  pub chain-more : (n from i : ℕ) → Wide n → (o d : List ℕ) (block next : List ℕ) (at then v : ℕ)
       → Stands E b n (from / 8 + i) block at → Stands E b n (from / 8 + i + 1) next then → getD next then 0 < 256
       → v ≡ (256 * getD block at 0 + getD next then 0) / 2 ^ (8 - from % 8) % 256
       → i < length o
-      → Front (octetsFrom (length o) (λ k. running E (8 * n) b (from + k))) o d i
-      → Front (octetsFrom (length o) (λ k. running E (8 * n) b (from + k))) o (set d i v) (i + 1)
-  run-more n from i w o d block next at then v s t low e h f =
-      front-more (octetsFrom (length o) (λ k. running E (8 * n) b (from + k))) o d i v f
-      (omega (arith, length-octetsFrom (length o) (λ k. running E (8 * n) b (from + k))))
+      → Front (octetsFrom (length o) (λ k. chained E (8 * n) b (from + k))) o d i
+      → Front (octetsFrom (length o) (λ k. chained E (8 * n) b (from + k))) o (set d i v) (i + 1)
+  chain-more n from i w o d block next at then v s t low e h f =
+      front-more (octetsFrom (length o) (λ k. chained E (8 * n) b (from + k))) o d i v f
+      (omega (arith, length-octetsFrom (length o) (λ k. chained E (8 * n) b (from + k))))
       (e
-      ∙ window-octet (running E (8 * n) b) from i (getD block at 0) (getD next then 0) low
-      (octet-bits n (from / 8 + i) w block at s) (octet-bits n (from / 8 + i + 1) w next then t) (running-bit (8 * n))
-      ∙ sym (getD-octetsFrom (length o) (λ k. running E (8 * n) b (from + k)) i h))
+      ∙ window-octet (chained E (8 * n) b) from i (getD block at 0) (getD next then 0) low
+      (octet-bits n (from / 8 + i) w block at s) (octet-bits n (from / 8 + i + 1) w next then t) (chained-bit (8 * n))
+      ∙ sym (getD-octetsFrom (length o) (λ k. chained E (8 * n) b (from + k)) i h))
 
 pub rest-lt : (n from : ℕ) → Wide n → from % (8 * n) < 8 * n
 rest-lt n from (inl e) = rw e (omega arith)
@@ -135,12 +135,12 @@ from-used : (n from k : ℕ) → Wide n
 from-used n from k (inl e) = (rw e (omega arith), rw e (omega arith))
 from-used n from k (inr e) = (rw e (omega arith), rw e (omega arith))
 
-pub run-used : (E : List ℕ → List ℕ) (v b r : List ℕ) (n m from : ℕ) → Wide n → length b ≡ n → b ≡ iterate E (from / (8 * n) + 2) v
-    → r ≡ octetsFrom m (λ k. running E (8 * length b) b (from % (8 * n) + k)) → r ≡ octetsFrom m (λ k. feedback E (8 * n) v (from + k))
-unfolding running feedback usedBlock
-run-used E v b r n m from w l e q =
+pub chain-used : (E : List ℕ → List ℕ) (v b r : List ℕ) (n m from : ℕ) → Wide n → length b ≡ n → b ≡ iterate E (from / (8 * n) + 2) v
+    → r ≡ octetsFrom m (λ k. chained E (8 * length b) b (from % (8 * n) + k)) → r ≡ octetsFrom m (λ k. feedback E (8 * n) v (from + k))
+unfolding chained feedback usedBlock
+chain-used E v b r n m from w l e q =
     q
-    ∙ octetsFrom-same m (λ k. running E (8 * length b) b (from % (8 * n) + k)) (λ k. feedback E (8 * n) v (from + k))
+    ∙ octetsFrom-same m (λ k. chained E (8 * length b) b (from % (8 * n) + k)) (λ k. feedback E (8 * n) v (from + k))
     (λ k.
     let f = from-used n from k w in
     rw (l, e, iterate-add E ((from % (8 * n) + k) / (8 * n)) (from / (8 * n) + 2) v, f .0, f .1))
@@ -150,7 +150,7 @@ left-used : (n m from : ℕ) → Wide n → (from % (8 * n) / 8 + m) / n + (from
 left-used n m from (inl e) = rw e (omega arith)
 left-used n m from (inr e) = rw e (omega arith)
 
-pub run-left : (E : List ℕ → List ℕ) (v b r : List ℕ) (n m from : ℕ) → Wide n → length b ≡ n → b ≡ iterate E (from / (8 * n) + 2) v
+pub chain-left : (E : List ℕ → List ℕ) (v b r : List ℕ) (n m from : ℕ) → Wide n → length b ≡ n → b ≡ iterate E (from / (8 * n) + 2) v
     → r ≡ iterate E ((from % (8 * n) / 8 + m) / length b) b → r ≡ usedBlock E v ((from / 8 + m) / n)
 unfolding usedBlock
-run-left E v b r n m from w l e q = q ∙ rw (l, e, iterate-add E ((from % (8 * n) / 8 + m) / n) (from / (8 * n) + 2) v, left-used n m from w)
+chain-left E v b r n m from w l e q = q ∙ rw (l, e, iterate-add E ((from % (8 * n) / 8 + m) / n) (from / (8 * n) + 2) v, left-used n m from w)

@@ -1,0 +1,39 @@
+-- A key as `prepare` leaves it for the blocks that come. Other crates pass it on and name `Prepared` and `keyOf` alone; its form, and the tables that it
+-- takes, are cited by this crate's own contracts only.
+use mathlib.Core.Path.{_≡_}
+use mathlib.Core.List.{List, [], _∷_}
+use Prim.Native.Nat.{ℕ, _<_, _+_, _*_}
+use lib.ListN.{length, getD, take, drop}
+use Rattle.aes.specs.Field.{sboxOf}
+use Rattle.aes.specs.Cipher.{mixed, keyExpansion}
+
+-- t is the S-box as a table: entry x is its value at x
+pub record IsSbox (t : List ℕ) : Type 0 where
+  pub size : length t ≡ 256
+  pub rule : (x : ℕ) → x < 256 → getD t x 0 ≡ sboxOf x
+
+-- ---- SubBytes and MixColumns (FIPS 197, 5.1.1 and 5.1.3) as one table
+
+-- row r of what MixColumns makes of a column that is v, 0, 0, 0
+unfoldable pub mixedAlone : ℕ → ℕ → ℕ
+mixedAlone v r = mixed (v ∷ 0 ∷ 0 ∷ 0 ∷ []) r 0
+
+-- t is these columns as a table: octets 4 x to 4 x + 3 are the column of the S-box's value at x
+pub record IsColumns (t : List ℕ) : Type 0 where
+  pub size : length t ≡ 1024
+  pub rule : (x r : ℕ) → x < 256 → r < 4 → getD t (4 * x + r) 0 ≡ mixedAlone (sboxOf x) r
+
+-- the column whose rows are f 0 to f 3 as a word, row 0 lowest
+unfoldable pub asWord : (ℕ → ℕ) → ℕ
+asWord f = f 0 + 256 * f 1 + 65536 * f 2 + 16777216 * f 3
+
+-- ---- the prepared key
+
+-- the key that was prepared: it is the first eight words of its schedule (5.2)
+unfoldable pub keyOf : List ℕ → List ℕ
+keyOf p = take 32 p
+
+-- the key's schedule, and the columns
+pub record Prepared (p : List ℕ) : Type 0 where
+  pub schedule : take 240 p ≡ keyExpansion (keyOf p)
+  pub columns : IsColumns (drop 240 p)
