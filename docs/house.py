@@ -80,7 +80,7 @@ def storeys(rests):
     return storey
 
 
-WIDTH, BOX, LANE, GAP, HEIGHT, STEP = 1000, 208, 14, 16, 60, 90
+WIDTH, BOX, LANE, GAP, HEIGHT, STEP = 1200, 208, 14, 16, 60, 90
 
 
 def lanes(rests, storey):

@@ -1,12 +1,12 @@
 -- A prepared key: where the code looks for its parts, and how `prepare` puts it together.
-use mathlib.Core.Path.{_≡_, sym, ap, _∙_}
+use mathlib.Core.Path.{_≡_, refl, sym, ap, _∙_}
 use mathlib.Core.List.{List, _++_}
 use Prim.Native.Nat.{ℕ, _≤_}
 use native.Mathlib.Omega.{arith}
 use borrow.Rule.Slice.PartMut.{putMid, same-len-mid}
-use lib.ListN.{length, take, drop, length-append, length-drop}
+use lib.ListN.{length, take, drop, length-drop}
 use lib.Seq.{take-all, take-take, take-at, drop-at, length-take-le}
-use Rattle.octets.proofs.Front.{Front, front-start, front-done, front-piece}
+use Rattle.octets.proofs.Front.{put-both}
 use Rattle.aes.specs.Cipher.{keyExpansion}
 use Rattle.aes.specs.Prepared.{IsColumns, keyOf, Prepared}
 use Rattle.aes.proofs.ScheduleLaws.{length-keyExpansion, key-first}
@@ -35,18 +35,8 @@ module _ (d key s : List ℕ) (long : length d ≡ 1264) (key-long : length key 
   put-long = omega (arith, same-len-mid 0 240 d s (s-long ∙ sym (length-take-le 240 d (omega arith))))
 
   module _ (t : List ℕ) (is-t : IsColumns t) where
-    all-long : length (s ++ t) ≡ 1264
-    all-long = length-append s t ∙ omega (arith, s-long, is-t .size)
-
-    put-s : Front (s ++ t) d (putMid 0 240 d s) 240
-    put-s = front-piece (s ++ t) d d s 0 240 (front-start (s ++ t) d (long ∙ sym all-long)) (omega (arith, all-long)) (sym (take-at s t 240 s-long))
-
     both : putMid 240 1024 (putMid 0 240 d s) t ≡ s ++ t
-    both =
-        front-done (s ++ t) d _ 1264
-        (front-piece (s ++ t) d (putMid 0 240 d s) t 240 1024 put-s (omega (arith, all-long))
-        (sym (ap (take 1024) (drop-at s t 240 s-long) ∙ take-all 1024 t (omega (arith, is-t .size)))))
-        (omega (arith, all-long))
+    both = put-both d s t 240 1024 s-long (is-t .size) long s refl t refl
 
     key-stands : take 32 (s ++ t) ≡ key
     key-stands = sym (take-take 32 240 (s ++ t) (omega arith)) ∙ ap (take 32) (take-at s t 240 s-long ∙ is-s) ∙ key-first key key-long

@@ -10,6 +10,7 @@ ghost use Rattle.sizes.specs.Ciphers.{blockBits};
 ghost use Rattle.ciphers.specs.Keystream.{feedback, stream};
 use crate::feedback::Engine;
 use crate::feedback::feed_back;
+use sizes::cipher::Aes;
 use sizes::cipher::Des;
 use sizes::cipher::KEY_ROOM;
 use sizes::cipher::Scramble;
@@ -19,7 +20,7 @@ fn des_stream(key: [u8; KEY_ROOM], vector: [u8; VECTOR_OCTETS], from: usize, out
     ensures { λ _. ⌜ now (out .exit) ≡ octetsFrom (length (now (out .entry))) (λ k. feedback (des key) (blockBits 2) vector (from + k)) ⌝ }
 {
     let prepared = des::prepare(&key[..Des::KEY_OCTETS]);
-    let mut block = vector;
+    let mut block: [u8; Des::BLOCK_BITS / 8] = vector;
     feed_back(Engine::Des, &prepared, &mut block, from, out);
 }
 
@@ -27,7 +28,7 @@ fn aes_stream(key: [u8; KEY_ROOM], vector: [u8; VECTOR_OCTETS], from: usize, out
     ensures { λ _. ⌜ now (out .exit) ≡ octetsFrom (length (now (out .entry))) (λ k. feedback (aes key) (blockBits 3) (aesVector vector) (from + k)) ⌝ }
 {
     let prepared = aes::prepare(&key);
-    let mut block = generator::aes_vector(&vector);
+    let mut block: [u8; Aes::BLOCK_BITS / 8] = generator::aes_vector(&vector);
     feed_back(Engine::Aes, &prepared, &mut block, from, out);
 }
 

@@ -40,7 +40,7 @@ use Rattle.demands.specs.Log.{talkLog}
 use Rattle.demands.specs.Demand3.{Right, ours}
 use Rattle.demands.specs.OurSender.{Said, Saying, slotsMade, afterwards, sessionsMade, talkMade, SaidKept, AllSaid, Follows}
 use Rattle.demands.proofs.AirLaws.{protected-air}
-use Rattle.demands.proofs.Standing.{key-named, key-ranged, has-key-right, slots-some, closed-read, not-zero-for, same-stream}
+use Rattle.demands.proofs.Standing.{pair-in-range, key-ranged, has-key-right, slots-some, closed-read, not-zero-for, same-stream}
 use Rattle.demands.proofs.ReceiverMeets.{ours-meets-3}
 
 -- a sender's vector: the generator makes no zeros of one that isn't
@@ -220,7 +220,7 @@ module _ (b : List ℕ) (c i : ℕ) (key : List ℕ) (h : HasKey b c i key) (lon
   started-at : (v : List ℕ) → VectorKept c v → startOf noCall c i v b ≡ (Done, from (sessionVector c v))
   unfolding startOf openRefusals vectorRefusals keyRefusals
   started-at v s =
-      rw (closed-read, eq-eqb _ _ (s .long), eq-eqb _ _ (good-sized b (h .good)), key-named b c i key h, h .good, h .there, h .ready, not-zero-for c v s)
+      rw (closed-read, eq-eqb _ _ (s .long), eq-eqb _ _ (good-sized b (h .good)), pair-in-range b c i key h, h .good, h .there, h .ready, not-zero-for c v s)
 
   pub ours-keeps : (v : List ℕ) → VectorKept c v → Octets v → (said : List Saying) → AllSaid c said → Kept (talkMade c key i v b said)
   ours-keeps v s o said a =

@@ -40,8 +40,8 @@ use Rattle.demands.specs.Notices.{isReached}
 -- ---- a book that has the key
 
 module _ (b : List ℕ) (c i : ℕ) (key : List ℕ) (h : HasKey b c i key) where
-  pub key-named : inRange c i ≡ true
-  key-named = key-in-range b c i (h .good) (h .there) (h .ready)
+  pub pair-in-range : inRange c i ≡ true
+  pair-in-range = key-in-range b c i (h .good) (h .there) (h .ready)
 
   pub has-key-right : keyRight c (keyFor b c i) ≡ true
   has-key-right = key-right b c i (h .good) (h .there) (h .ready)
@@ -142,7 +142,7 @@ module _ (b : List ℕ) (c i : ℕ) (key : List ℕ) (h : HasKey b c i key) wher
   pub place-opened : (v : List ℕ) → VectorKept c v → openOf noCall c i v b ≡ (Done, written (receiving t 0 (told (sessionVector c v))))
   unfolding openOf openRefusals vectorRefusals keyRefusals
   place-opened v kept =
-      rw (closed-read, eq-eqb _ _ (kept .long), eq-eqb _ _ (good-sized b (h .good)), key-named b c i key h, h .good, h .there, h .ready, not-zero-for c v kept)
+      rw (closed-read, eq-eqb _ _ (kept .long), eq-eqb _ _ (good-sized b (h .good)), pair-in-range b c i key h, h .good, h .there, h .ready, not-zero-for c v kept)
 
   pub opened-stands : (v : List ℕ) → VectorKept c v → standing (written (receiving t 0 (told (sessionVector c v)))) ≡ place t (knowing c true v) 0
   opened-stands v kept =
@@ -150,7 +150,7 @@ module _ (b : List ℕ) (c i : ℕ) (key : List ℕ) (h : HasKey b c i key) wher
 
   pub place-joined : joinOf noCall c i b ≡ (Done, written (joined t))
   unfolding joinOf joinRefusals keyRefusals
-  place-joined = rw (closed-read, eq-eqb _ _ (good-sized b (h .good)), key-named b c i key h, h .good, h .there, h .ready)
+  place-joined = rw (closed-read, eq-eqb _ _ (good-sized b (h .good)), pair-in-range b c i key h, h .good, h .there, h .ready)
 
   pub joined-stands : (v : List ℕ) → standing (written (joined t)) ≡ place t (knowing c (isReached c false) v) superframeSlots
   joined-stands v = stood place-joined (join-good noCall closed-good c i b) refl (joined-at (keyFor b c i) v c (key-ranged b c i key h))

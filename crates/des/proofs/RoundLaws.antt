@@ -90,21 +90,3 @@ module _ (keys : ℕ → List ℕ) (b : List ℕ) (long : length b ≡ 64) (bits
   right-of n all right e f =
       let q : right ≡ rounds keys (halved b) n .right = f ∙ rw e (take-at (rounds keys (halved b) n .right) (rounds keys (halved b) n .left) 32 (halves-long n .1)) in
       (q, ap length q ∙ halves-long n .1, rw q (bits-right keys (halved b) (bits-take 32 b bits) (bits-drop 32 b bits) n))
-
--- two halves put one after the other
-module _ (d a b : List ℕ) (long : length d ≡ 64) (la : length a ≡ 32) (lb : length b ≡ 32) where
-  both-long : length (a ++ b) ≡ 64
-  both-long = length-append a b ∙ omega arith
-
-  module _ (first : List ℕ) (is-first : first ≡ a) where
-    put-first : Front (a ++ b) d (putMid 0 32 d first) 32
-    put-first = front-piece (a ++ b) d d first 0 32 (front-start (a ++ b) d (long ∙ sym both-long)) (omega (arith, both-long)) (is-first ∙ sym (take-at a b 32 la))
-
-    pub first-long : length (putMid 0 32 d first) ≡ 64
-    first-long = put-first .size ∙ both-long
-
-    pub put-both : (second : List ℕ) → second ≡ b → putMid 32 32 (putMid 0 32 d first) second ≡ a ++ b
-    put-both second is-second =
-        front-done (a ++ b) d _ 64
-        (front-piece (a ++ b) d (putMid 0 32 d first) second 32 32 put-first (omega (arith, both-long))
-        (is-second ∙ sym (ap (take 32) (drop-at a b 32 la) ∙ take-all 32 b (omega arith)))) (omega (arith, both-long))

@@ -95,9 +95,9 @@ module _ (b : List ℕ) (c i : ℕ) where
   look-length h = rw (ne-eqb _ _ h)
 
   module _ (h : length b ≡ bookOctets) where
-    pub look-name : inRange c i ≡ false → Refused OutOfRange ≡ lookup b c i
+    pub look-range : inRange c i ≡ false → Refused OutOfRange ≡ lookup b c i
     unfolding lookup bookRefusals
-    look-name n = rw (eq-eqb _ _ h, n)
+    look-range n = rw (eq-eqb _ _ h, n)
 
     module _ (n : inRange c i ≡ true) where
       pub look-bad : goodBook b ≡ false → Refused Bad ≡ lookup b c i

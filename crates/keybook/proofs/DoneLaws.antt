@@ -58,9 +58,9 @@ there b c i rest n =
     }
 
 -- it may be replaced by one that has its cipher and key ID and keeps the rules
-same-name : (b : List ℕ) (c i : ℕ) (e : List ℕ) → There b c i → length e ≡ entryOctets → Used e
+same-parts : (b : List ℕ) (c i : ℕ) (e : List ℕ) → There b c i → length e ≡ entryOctets → Used e
     → cipherIn e ≡ cipherIn (entryFor b c i) → idIn e ≡ idIn (entryFor b c i) → Changed b (withFor b c i e) (findEntry b c i) e
-same-name b c i e t w u p q =
+same-parts b c i e t w u p q =
     record {
       is = refl;
       was-good = t .was-good;
@@ -139,7 +139,7 @@ module _ (b : List ℕ) (c i : ℕ) where
     add-changed =
         let t = add-there in
         let e = entryFor b c i in
-        same-name b c i (extended e xs) t (extend-length e xs (t .long) (t .right) add-fits)
+        same-parts b c i (extended e xs) t (extend-length e xs (t .long) (t .right) add-fits)
         (extend-used e xs (t .long) (t .right) add-fits add-not-ready)
         (extend-cipher e xs (t .long) (t .right) add-fits) (extend-id e xs (t .long) (t .right) add-fits)
 
@@ -168,7 +168,7 @@ module _ (b : List ℕ) (c i : ℕ) where
     finish-changed =
         let t = finish-there in
         let e = entryFor b c i in
-        same-name b c i (completed e) t (complete-length e (t .long)) (complete-used e (t .long) (t .right) finish-whole finish-allowed)
+        same-parts b c i (completed e) t (complete-length e (t .long)) (complete-used e (t .long) (t .right) finish-whole finish-allowed)
         (complete-cipher e (t .long)) (complete-id e (t .long))
 
   module _ (n : NoneHolds (eraseRefusals b c i)) where

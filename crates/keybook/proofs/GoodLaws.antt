@@ -14,7 +14,7 @@ use Rattle.octets.specs.Tests.{firstBelow}
 use Rattle.octets.proofs.TestLaws.{all-at, all-intro, and-left, and-right, first-is, first-all, first-holds}
 use Rattle.keyentry.specs.Entry.{entryOctets, cipherIn, idIn, entryRight, isFor}
 use Rattle.keybook.specs.Book.{entries, bookOctets, entryOf, withEntry, apart, goodBook, findEntry}
-use Rattle.keyentry.proofs.RightLaws.{for-parts, name-for, not-for}
+use Rattle.keyentry.proofs.RightLaws.{for-parts, parts-for, not-for}
 use Rattle.keybook.proofs.BookLaws.{entry-length, rightAt}
 
 -- ---- the entries of a book
@@ -48,7 +48,7 @@ module _ (b : List ℕ) (g : goodBook b ≡ true) where
 
   pub good-apart : Apart b
   good-apart j k lj lk n p q =
-      sym (find-is (cipherIn (entryOf b k)) (idIn (entryOf b k)) j lj n (name-for (entryOf b j) _ _ p q)) ∙ own-place k lk n
+      sym (find-is (cipherIn (entryOf b k)) (idIn (entryOf b k)) j lj n (parts-for (entryOf b j) _ _ p q)) ∙ own-place k lk n
 
 pub good-intro : (b : List ℕ) → length b ≡ bookOctets → ((k : ℕ) → k < entries → entryRight (entryOf b k) ≡ true) → Apart b → goodBook b ≡ true
 unfolding goodBook apart findEntry
@@ -61,7 +61,7 @@ good-intro b h r a = rw (eq-eqb _ _ h) (all-intro (rightAt b) entries (λ k l. r
         rw (ne-eqb _ _ n)
         (eq-eqb _ _ (first-is (λ j. isFor (cipherIn (entryOf b k)) (idIn (entryOf b k)) (entryOf b j)) entries k l
         (λ j m. not-for (entryOf b j) _ _ (λ p q. let z = a j k (omega arith) l n p q in omega arith))
-        (name-for (entryOf b k) _ _ refl refl)))
+        (parts-for (entryOf b k) _ _ refl refl)))
 
 module _ (b : List ℕ) (c i : ℕ) where
   -- no entry is for a name that was not found, and the entry that was found is for it
@@ -119,7 +119,7 @@ module _ (b : List ℕ) (k : ℕ) (e : List ℕ) (h : length b ≡ bookOctets) (
       right j m (no n) = rw (entry-other j m n) (good-entry b g j m)
 
       shares : (i : ℕ) → i < entries → (i ≡ k → ⊥) → (cipherIn e ≡ 0 → ⊥) → cipherIn (entryOf b i) ≡ cipherIn e → idIn (entryOf b i) ≡ idIn e → ⊥
-      shares i li n u p q = true≢false (sym (name-for (entryOf b i) _ _ p q) ∙ a i li n u)
+      shares i li n u p q = true≢false (sym (parts-for (entryOf b i) _ _ p q) ∙ a i li n u)
 
       apart-from : (i j : ℕ) → i < entries → j < entries → Dec (i ≡ k) → Dec (j ≡ k) → (cipherIn (entryOf (withEntry b k e) j) ≡ 0 → ⊥)
           → cipherIn (entryOf (withEntry b k e) i) ≡ cipherIn (entryOf (withEntry b k e) j)

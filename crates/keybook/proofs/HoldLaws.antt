@@ -21,7 +21,7 @@ use Rattle.answers.specs.Outcomes.{Refusals, outcome}
 use Rattle.answers.proofs.OutcomeLaws.{NoneHolds, neverDone, among-not-done, by-refusals}
 use Rattle.keyentry.specs.Entry.{entryOctets, cipherIn, idIn, countIn, isReady, keyIn, keyRest, entryRight, isFor, blank, newEntry, extended, completed}
 use Rattle.sizes.specs.Ciphers.{keyRoom}
-use Rattle.keyentry.proofs.RightLaws.{Used, for-parts, name-for, not-for}
+use Rattle.keyentry.proofs.RightLaws.{Used, for-parts, parts-for, not-for}
 use Rattle.keyentry.proofs.WriteLaws.{keyLoaded, key-length, loaded-count, blank-cipher, new-cipher, new-id, new-octets, new-not-ready, extend-cipher, extend-id, extend-octets, extend-not-ready, complete-cipher, complete-id, complete-octets, complete-ready}
 use Rattle.keybook.specs.Book.{entries, bookOctets, entryOf, withEntry, apart, goodBook, findEntry, freeEntry}
 use Rattle.keybook.specs.Operations.{entryFor, withFor, beginRefusals, beginAfter, beginOf, addRefusals, addOf, finishRefusals, finishOf, eraseRefusals, eraseOf}
@@ -86,9 +86,9 @@ finished-holds e xs h = record { used = used; ready = ready (isReady e) refl; oc
     ready false r = cc (held-loading e used r)
 
 -- the test of an entry for a cipher type and key ID is that of the operation that names its own
-name-test : (e : List ℕ) (c i : ℕ) {d j : ℕ} → cipherIn e ≡ d → idIn e ≡ j → isFor c i e ≡ (eqb d c && eqb j i)
+parts-test : (e : List ℕ) (c i : ℕ) {d j : ℕ} → cipherIn e ≡ d → idIn e ≡ j → isFor c i e ≡ (eqb d c && eqb j i)
 unfolding isFor
-name-test e c i p q = rw (p, q)
+parts-test e c i p q = rw (p, q)
 
 -- no key is held for cipher type 0
 none-held : (b : List ℕ) (i : ℕ) → length b ≡ bookOctets → held (entryFor b 0 i) ≡ nothing
@@ -125,8 +125,8 @@ module _ (b : List ℕ) (c i : ℕ) where
       → cipherIn e ≡ cipherIn (entryFor b d j) → idIn e ≡ idIn (entryFor b d j) → held e ≡ tells o (held (entryFor b d j)) → Then o (Done, withFor b d j e)
   went-on o d j e m s ch p q t =
       renewed o d j (findEntry b d j) e m ch
-      (ap held (its b (findEntry b d j) e ch d j (λ z. s .used (s .cipher ∙ z)) (name-for e d j (p ∙ s .cipher) (q ∙ s .id))) ∙ t)
-      (λ n h. (name-test e c i (p ∙ s .cipher) (q ∙ s .id) ∙ h, name-test (entryFor b d j) c i (s .cipher) (s .id) ∙ h))
+      (ap held (its b (findEntry b d j) e ch d j (λ z. s .used (s .cipher ∙ z)) (parts-for e d j (p ∙ s .cipher) (q ∙ s .id))) ∙ t)
+      (λ n h. (parts-test e c i (p ∙ s .cipher) (q ∙ s .id) ∙ h, parts-test (entryFor b d j) c i (s .cipher) (s .id) ∙ h))
 
   free-not-for : (c ≡ 0 → ⊥) → freeEntry b < entries → isFor c i (entryOf b (freeEntry b)) ≡ false
   unfolding freeEntry
@@ -142,9 +142,9 @@ module _ (b : List ℕ) (c i : ℕ) where
       let n = begin-used b d j m in
       let e = newEntry d j in
       renewed (Begin d j) d j (freeEntry b) e refl ch
-      (ap held (its b (freeEntry b) e ch d j n (name-for e d j (new-cipher d j) (new-id d j)))
+      (ap held (its b (freeEntry b) e ch d j n (parts-for e d j (new-cipher d j) (new-id d j)))
       ∙ held-loading e (λ z. n (sym (new-cipher d j) ∙ z)) (new-not-ready d j) ∙ ap loading (new-octets d j))
-      (λ u h. (name-test e c i (new-cipher d j) (new-id d j) ∙ h, free-not-for u (ch .below))))
+      (λ u h. (parts-test e c i (new-cipher d j) (new-id d j) ∙ h, free-not-for u (ch .below))))
   step-tells (Add d j ys) =
       by-outcome (Add d j ys) (addRefusals b d j ys) (withFor b d j (extended (entryFor b d j) ys)) (add-never-done b d j ys) (λ m.
       let s = add-there b d j ys m in
@@ -172,7 +172,7 @@ module _ (b : List ℕ) (c i : ℕ) where
       let z : d ≡ 0 → ⊥ = λ z. s .used (s .cipher ∙ z) in
       let g = gone b k blank ch d j z (not-for blank d j (λ p q. z (sym p ∙ blank-cipher))) (found-for b d j (s .below)) in
       renewed (Erase d j) d j k blank refl ch (held-nothing (entryFor after d j) (ap cipherIn (none-there after d j (good-sized after (ch .good)) g)))
-      (λ n h. (not-for blank c i (λ p q. n (sym p ∙ blank-cipher)), name-test (entryFor b d j) c i (s .cipher) (s .id) ∙ h)))
+      (λ n h. (not-for blank c i (λ p q. n (sym p ∙ blank-cipher)), parts-test (entryFor b d j) c i (s .cipher) (s .id) ∙ h)))
 
 -- after every list of operations
 pub holds-what-was-told : (os : List Operation) (c i : ℕ) → held (entryFor (bookAfter os) c i) ≡ telling (history os) c i

@@ -13,7 +13,7 @@ use Rattle.answers.specs.declared.Answer.the-variants.{Done}
 use Rattle.answers.specs.Numbers.{isDone}
 use Rattle.answers.proofs.OutcomeLaws.{NoneHolds, none-left, done-none, none-settles}
 use Rattle.keyentry.specs.Entry.{entryOctets, cipherIn, isReady, inRange, isFor, blank, newEntry, extended, completed}
-use Rattle.keyentry.proofs.RightLaws.{free-zero, name-for}
+use Rattle.keyentry.proofs.RightLaws.{free-zero, parts-for}
 use Rattle.keyentry.proofs.WriteLaws.{in-range-used, blank-length, blank-cipher, blank-right, new-cipher, new-id, extend-cipher, extend-id, complete-cipher, complete-id, complete-ready}
 use Rattle.keybook.specs.Book.{entries, bookOctets, entryOf, withEntry, goodBook, findEntry, freeEntry, bookRefusals}
 use Rattle.keybook.specs.Operations.{entryFor, withFor, placeRefusals, beginRefusals, beginAfter, beginOf, addRefusals, addOf, finishRefusals, finishOf, eraseRefusals, eraseOf}
@@ -102,7 +102,7 @@ module _ {b : List ℕ} {c i k : ℕ} {e after : List ℕ} (m : Begun b c i k e 
       let l = add-fits after c i xs n in
       rw (none-settles (addRefusals after c i xs) after (Done, withFor after c i (extended x xs)) n)
       (begun-again (extended x xs) (withFor after c i (extended x xs)) (add-changed after c i xs n)
-      (name-for (extended x xs) c i (extend-cipher x xs (t .long) (t .right) l ∙ t .cipher) (extend-id x xs (t .long) (t .right) l ∙ t .id)))
+      (parts-for (extended x xs) c i (extend-cipher x xs (t .long) (t .right) l ∙ t .cipher) (extend-id x xs (t .long) (t .right) l ∙ t .id)))
 
   module _ (d : isDone (finishOf after c i .0) ≡ true) where
     none-finishes : NoneHolds (finishRefusals after c i)
@@ -116,7 +116,7 @@ module _ {b : List ℕ} {c i k : ℕ} {e after : List ℕ} (m : Begun b c i k e 
         let t = finish-there after c i none-finishes in
         rw (none-settles (finishRefusals after c i) after (Done, withFor after c i (completed x)) none-finishes)
         (begun-again (completed x) (withFor after c i (completed x)) (finish-changed after c i none-finishes)
-        (name-for (completed x) c i (complete-cipher x (t .long) ∙ t .cipher) (complete-id x (t .long) ∙ t .id)))
+        (parts-for (completed x) c i (complete-cipher x (t .long) ∙ t .cipher) (complete-id x (t .long) ∙ t .id)))
 
     pub finish-ready : isReady (completed (entryFor after c i)) ≡ true
     finish-ready = complete-ready (entryFor after c i) (finish-there after c i none-finishes .long)
@@ -131,6 +131,6 @@ begun-begin b c i d =
     (record {
       changed = ch;
       free = begin-takes-first-free b c i at .0 .free;
-      its = name-for (newEntry c i) c i (new-cipher c i) (new-id c i);
+      its = parts-for (newEntry c i) c i (new-cipher c i) (new-id c i);
       in-range = in-range-by b c i (none-left (bookRefusals b c i) (placeRefusals b c i) n);
     })

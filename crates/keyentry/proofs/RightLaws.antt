@@ -62,9 +62,9 @@ module _ (e : List ℕ) where
     unfolding isFor
     for-parts h = (eqb-true _ _ (and-left (eqb (cipherIn e) c) _ h), eqb-true _ _ (and-right (eqb (cipherIn e) c) _ h))
 
-    pub name-for : cipherIn e ≡ c → idIn e ≡ i → isFor c i e ≡ true
+    pub parts-for : cipherIn e ≡ c → idIn e ≡ i → isFor c i e ≡ true
     unfolding isFor
-    name-for p q = rw (eq-eqb _ _ p, eq-eqb _ _ q)
+    parts-for p q = rw (eq-eqb _ _ p, eq-eqb _ _ q)
 
     pub not-for : (cipherIn e ≡ c → idIn e ≡ i → ⊥) → isFor c i e ≡ false
     not-for h = go (isFor c i e) refl

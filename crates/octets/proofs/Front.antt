@@ -5,8 +5,8 @@ use Prim.Native.Nat.{ℕ, _+_, _-_, _≤_, _<_}
 use native.Mathlib.Decide.{decLt}
 use native.Mathlib.Omega.{arith}
 use borrow.Rule.Slice.PartMut.{midOf, postOf, putMid, same-len-mid}
-use lib.ListN.{length, getD, take, drop, set, length-set, length-drop, List·getD-append}
-use lib.Seq.{getD-set-same, getD-set-other, ext-getD, getD-take, getD-drop, getD-append-add, length-take-le}
+use lib.ListN.{length, getD, take, drop, set, length-set, length-drop, length-append, List·getD-append}
+use lib.Seq.{getD-set-same, getD-set-other, ext-getD, getD-take, getD-drop, getD-append-add, length-take-le, take-all, take-at, drop-at}
 use Rattle.octets.specs.Lists.{tab}
 use Rattle.octets.proofs.ListLaws.{length-tab, getD-tab}
 
@@ -101,6 +101,26 @@ module _ (l d₀ : List ℕ) where
       let size : length (take n (drop i l)) ≡ n = length-take-le n (drop i l) (omega (arith, length-drop i l)) in
       front-part d p i n n f refl (ap length e ∙ size) h
       (λ r b. ap (λ (x : List ℕ). getD x r 0) e ∙ getD-take n (drop i l) r 0 b ∙ getD-drop i l r 0)
+
+-- two parts put one after the other, over all of a list
+module _ (d a b : List ℕ) (m n : ℕ) (la : length a ≡ m) (lb : length b ≡ n) (long : length d ≡ m + n) where
+  both-long : length (a ++ b) ≡ m + n
+  both-long = length-append a b ∙ omega arith
+
+  module _ (first : List ℕ) (is-first : first ≡ a) where
+    put-first : Front (a ++ b) d (putMid 0 m d first) m
+    put-first =
+        front-to (a ++ b) d _ (0 + m) m (omega arith)
+        (front-piece (a ++ b) d d first 0 m (front-start (a ++ b) d (long ∙ sym both-long)) (omega (arith, both-long)) (is-first ∙ sym (take-at a b m la)))
+
+    pub first-long : length (putMid 0 m d first) ≡ m + n
+    first-long = put-first .size ∙ both-long
+
+    pub put-both : (second : List ℕ) → second ≡ b → putMid m n (putMid 0 m d first) second ≡ a ++ b
+    put-both second is-second =
+        front-done (a ++ b) d _ (m + n)
+        (front-piece (a ++ b) d (putMid 0 m d first) second m n put-first (omega (arith, both-long))
+        (is-second ∙ sym (ap (take n) (drop-at a b m la) ∙ take-all n b (omega arith)))) (omega (arith, both-long))
 
 -- a loop that fills `tab f n`
 module _ (f : ℕ → ℕ) (n : ℕ) where

@@ -55,8 +55,8 @@ module _ (ranged bad busy : Bool) (c i : ℕ) (b : List ℕ) (n : NoneHolds (key
   unfolding keyRefusals
   none-key = key-right b c i (not-false _ (n .1 .1 .1 .1 .0)) (not-false _ (n .1 .1 .1 .1 .1 .0)) (not-false _ (n .1 .1 .1 .1 .1 .1 .0))
 
-  pub none-named : (1 ≤ c) × (c ≤ 3)
-  none-named = key-ranged c (keyFor b c i) none-key
+  pub none-in-range : (1 ≤ c) × (c ≤ 3)
+  none-in-range = key-ranged c (keyFor b c i) none-key
 
   -- and the book hands the key out
   pub none-ready : readyKeyOf b c i ≡ (Done, keyFor b c i)

@@ -17,10 +17,10 @@ use Rattle.voice.specs.declared.call.Call.{Call}
 use Rattle.voice.specs.Call.{unknownVector, goodCall, standing, knows, endOf}
 use Rattle.sizes.specs.Frame.{frameOctets, sessionOctets}
 use Rattle.voice.specs.Opening.{openOf, joinOf}
-use Rattle.voice.specs.Slot.{lostOf, voiceBy, voiceOf, voiceByOctets, withoutFrame, sessionStreamOf}
+use Rattle.voice.specs.Slot.{lostOf, voiceBy, voiceOf, voiceByOctets, sessionStreamOf}
 use Rattle.voice.specs.Vector.{announceOf}
 use Rattle.voice.proofs.CallLaws.{knows-yes}
-use Rattle.voice.proofs.SlotLaws.{by-long}
+use Rattle.voice.proofs.SlotLaws.{by-long, withoutFrame}
 use Rattle.voice.proofs.SessionOnce.{voice-by-is-voice, session-made, session-kept, session-kept-lost, voice-unknown, voice-done-knows}
 use Rattle.voice.proofs.Settled.{voice-by-octets-keeps}
 use Rattle.lines.specs.declared.record.Parsed.{Parsed}

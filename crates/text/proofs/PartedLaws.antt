@@ -12,7 +12,8 @@ use lib.Seq.{take-all, getD-drop, getD-take, drop-drop, drop-cons, length-take-l
 use borrow.Author.Tests.{lt-ltb, le-ltb, eq-eqb, ne-eqb, eqb-true, not-true}
 use Rattle.octets.specs.Tests.{pick, firstBelow}
 use Rattle.octets.proofs.TestLaws.{all-at, all-intro, first-is, first-none, first-le, first-holds, first-before}
-use Rattle.text.specs.Parted.{onto, parted, isPart, partEnd}
+use Rattle.text.specs.Parted.{onto, parted, partEnd}
+use Rattle.text.specs.Walked.{isPart}
 
 -- no element is the separator
 abbrev pub Lacks : ℕ → List ℕ → Type 0

@@ -1,10 +1,9 @@
 -- Text parted by one octet: lines by line ends, and the fields of a line by tabs (document 01, "The receiver program").
-use mathlib.Core.Bool.{Bool, not}
 use mathlib.Core.List.{List, [], _∷_}
 use Prim.Native.Nat.{ℕ, _+_, _-_}
 use lib.Dec.{eqb}
 use lib.ListN.{length, getD}
-use Rattle.octets.specs.Tests.{pick, allBelow, firstBelow}
+use Rattle.octets.specs.Tests.{pick, firstBelow}
 
 abbrev pub tabOctet : ℕ
 tabOctet = 0x09
@@ -21,10 +20,6 @@ onto x (p ∷ ps) = (x ∷ p) ∷ ps
 unfoldable pub parted : ℕ → List ℕ → List (List ℕ)
 parted sep [] = [] ∷ []
 parted sep (x ∷ xs) = pick (eqb x sep) ([] ∷ parted sep xs) (onto x (parted sep xs))
-
--- no octet is the separator: the text is one part
-unfoldable pub isPart : ℕ → List ℕ → Bool
-isPart sep xs = allBelow (λ k. not (eqb (getD xs k 0) sep)) (length xs)
 
 -- where the part that begins at a place ends: at the next separator, or at the end of the text
 unfoldable pub partEnd : ℕ → List ℕ → ℕ → ℕ

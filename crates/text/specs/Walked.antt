@@ -1,15 +1,20 @@
--- The fields of a line from a place on, as code walks them. Only contracts of functions that read fields cite it.
+-- A text as code walks it: a part of it, and the fields of a line from a place on. Only contracts of functions that read parts and fields cite it.
 use mathlib.Core.Path.{_≡_}
-use mathlib.Core.Bool.{Bool, _&&_}
+use mathlib.Core.Bool.{Bool, _&&_, not}
 use mathlib.Core.List.{List, []}
 use Prim.Native.Nat.{ℕ, _-_, _≤_}
-use lib.ListN.{length, take, drop}
-use Rattle.octets.specs.Tests.{pick}
+use lib.Dec.{eqb}
+use lib.ListN.{length, getD, take, drop}
+use Rattle.octets.specs.Tests.{pick, allBelow}
 use Rattle.text.specs.Parted.{tabOctet, parted}
 use Rattle.text.specs.Hex.{isHex}
 use Rattle.text.specs.Fields.{fieldAt, areFields}
 use Rattle.text.specs.declared.field.Cursor.{Cursor}
 use Rattle.text.specs.declared.field.Field.{Field}
+
+-- no octet is the separator: the text is one part
+unfoldable pub isPart : ℕ → List ℕ → Bool
+isPart sep xs = allBelow (λ k. not (eqb (getD xs k 0) sep)) (length xs)
 
 -- the fields that are left at a cursor
 unfoldable pub left : List ℕ → Cursor → List (List ℕ)

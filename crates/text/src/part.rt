@@ -3,7 +3,8 @@ ghost use mathlib.Core.Path.{_≡_};
 ghost use mathlib.Core.Bool.{true};
 ghost use Prim.Native.Nat.{_-_, _≤_};
 ghost use lib.ListN.{length, take, drop};
-ghost use Rattle.text.specs.Parted.{isPart, partEnd};
+ghost use Rattle.text.specs.Parted.{partEnd};
+ghost use Rattle.text.specs.Walked.{isPart};
 
 pub const TAB: u8 = b'\t';
 

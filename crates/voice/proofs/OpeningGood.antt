@@ -14,7 +14,7 @@ use Rattle.answers.proofs.OutcomeLaws.{NoneHolds, none-left, none-right}
 use Rattle.openings.specs.Ladder.{sessionVector, keyFor, keyRefusals, zeroFor, vectorRefusals}
 use Rattle.ciphers.specs.Keys.{keyRight}
 use Rattle.sizes.proofs.SizeLaws.{no-vector-zero}
-use Rattle.openings.proofs.ReadyLaws.{none-named, none-key}
+use Rattle.openings.proofs.ReadyLaws.{none-in-range, none-key}
 use Rattle.voice.specs.declared.call.Terms.{Terms}
 use Rattle.voice.specs.declared.call.Call.{Call}
 use Rattle.voice.specs.Call.{sendingEnd, receivingEnd, toldVector, vectorRight, goodCall, told, untold, sending, receiving, standing, termsOf, written, isBad, stands}
@@ -43,7 +43,7 @@ session-right end c w z = go (scrambles c) refl
 
 module _ (bad busy : Bool) (c i : ℕ) (b : List ℕ) (n : NoneHolds (keyRefusals true bad busy c i b)) where
   ranged : (1 ≤ c) × (c ≤ 3)
-  ranged = none-named true bad busy c i b n
+  ranged = none-in-range true bad busy c i b n
 
   key : keyRight c (keyFor b c i) ≡ true
   key = none-key true bad busy c i b n

@@ -23,7 +23,7 @@ use Rattle.voice.specs.declared.call.Call.{Call}
 use Rattle.sizes.specs.Frame.{frameOctets, slotBits, sessionOctets}
 use Rattle.voice.specs.Frame.{ofSlot, protect}
 use Rattle.voice.specs.Call.{closedEnd, sendingEnd, goodCall, standing, written, stands, knows}
-use Rattle.voice.specs.Slot.{slotOn, lostRefusals, lostOf, topMask, zeroAfter, zeroNext, voiceRefusals, streamOf, inSlot, voiceAfter, voiceBy, voiceOf, voiceByOctets, withoutFrame}
+use Rattle.voice.specs.Slot.{slotOn, lostRefusals, lostOf, topMask, zeroAfter, zeroNext, voiceRefusals, streamOf, inSlot, voiceAfter, voiceBy, voiceOf, voiceByOctets}
 use Rattle.voice.proofs.FrameLaws.{protect-same}
 use Rattle.voice.proofs.CallLaws.{by-stands, good-by, not-bad, stands-none, stands-some, is-sender, inside, known-written}
 
@@ -131,6 +131,10 @@ module _ (st : Call → ℕ → ℕ) (c : Call) (mask : ℕ) (frame : List ℕ) 
       go true n = absurd (n refl)
       go false n = refl
 
+-- an outcome, the frame aside
+abbrev pub withoutFrame : Answer × (Call × List ℕ) → Answer × Call
+withoutFrame o = (o .0, o .1 .0)
+
 -- the answer and the call after it rest on no bit of the session
 pub voice-beside : (st su : Call → ℕ → ℕ) (c : Call) (mask : ℕ) (frame : List ℕ)
     → withoutFrame (voiceBy st c mask frame) ≡ withoutFrame (voiceBy su c mask frame)
@@ -193,16 +197,13 @@ module _ (c : Call) (mask : ℕ) (frame : List ℕ) where
     pub taken-none : numberOf a < 2 → NoneHolds (voiceRefusals (standing c) mask frame)
     taken-none l = voice-taken streamOf c mask frame (rw e at l)
 
-    pub refused-call : Refusal a → (a, c) ≡ withoutFrame (voiceOf c mask frame)
+    pub refused-call : Refusal a → c ≡ voiceOf c mask frame .1 .0
     refused-call r =
-        rw e
-        (by-voice streamOf c mask frame (λ o. Refusal (o .0) → (o .0, c) ≡ withoutFrame o) (λ b q h. refl)
-        (λ n h. absurd (omega (arith, taken-under-two (knows (standing c))))) (rw e at r))
+        by-voice streamOf c mask frame (λ o. Refusal (o .0) → c ≡ o .1 .0) (λ b q h. refl)
+        (λ n h. absurd (omega (arith, taken-under-two (knows (standing c))))) (rw e at r)
 
-    pub taken-call : numberOf a < 2 → (d : Call) → d ≡ written (slotOn (standing c)) → (a, d) ≡ withoutFrame (voiceOf c mask frame)
-    taken-call l d f =
-        let o = voice-done streamOf c mask frame (taken-none l) in
-        rw (e, f, ← o)
+    pub taken-call : numberOf a < 2 → (d : Call) → d ≡ written (slotOn (standing c)) → d ≡ voiceOf c mask frame .1 .0
+    taken-call l d f = f ∙ ap (λ (o : Answer × (Call × List ℕ)). o .1 .0) (voice-done streamOf c mask frame (taken-none l))
 
 with-frame : (a : Answer) (d : Call) (g : List ℕ) (o : Answer × (Call × List ℕ)) → (a, d) ≡ withoutFrame o → g ≡ o .1 .1 → (a, (d, g)) ≡ o
 with-frame a d g o e f =
@@ -210,7 +211,10 @@ with-frame a d g o e f =
 
 -- the frame
 module _ (st : Call → ℕ → ℕ) (c : Call) (mask : ℕ) (frame : List ℕ)
-    (a : Answer) (d : Call) (e : (a, d) ≡ withoutFrame (voiceOf c mask frame)) where
+    (a : Answer) (d : Call) (stepped : (a ≡ voiceOf c mask frame .0) × (d ≡ voiceOf c mask frame .1 .0)) where
+  e : (a, d) ≡ withoutFrame (voiceOf c mask frame)
+  e = rw (stepped .0, stepped .1)
+
   number-by : numberOf a ≡ numberOf (voiceBy st c mask frame .0)
   number-by = ap (λ (r : Answer × Call). numberOf (r .0)) (e ∙ voice-beside streamOf st c mask frame)
 

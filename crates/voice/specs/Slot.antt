@@ -89,10 +89,6 @@ unfoldable pub voiceByOctets : List ℕ → Call → ℕ → List ℕ → Answer
 voiceByOctets session c mask frame =
     settled (c, frame) ((ltb (length session) sessionOctets, WrongLength) ∷ []) (voiceBy (λ d. bit session) c mask frame)
 
--- an outcome, the frame aside
-abbrev pub withoutFrame : Answer × (Call × List ℕ) → Answer × Call
-withoutFrame o = (o .0, o .1 .0)
-
 -- ---- a session's keystream, made once
 
 -- lent octets of any length, with the session's keystream from bit 0 on; without a session whose vector is known they stay as they are

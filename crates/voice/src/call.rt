@@ -168,14 +168,14 @@ pub(crate) fn untold(cipher: u8) -> u8
     UNKNOWN
 }
 
-// ---- its end
-
 // What a refusal leaves: the call as it was.
 pub(crate) fn refused(answer: Answer, call: Call) -> Stepped
     ensures { λ r. ⌜ (r .answer ≡ answer) × (r .call ≡ call) ⌝ }
 {
     Stepped { answer, call }
 }
+
+// ---- its end
 
 pub fn end(call: Call) -> Stepped
     ensures { λ r. ⌜ (r .answer, r .call) ≡ endOf call ⌝ }

@@ -7,7 +7,7 @@ ghost use Rattle.sizes.specs.Ciphers.{sessionSlots};
 ghost use Rattle.sizes.specs.Frame.{frameOctets};
 ghost use Rattle.octets.specs.Lists.{allZero};
 ghost use Rattle.voice.specs.Call.{closedEnd, receivingEnd, vectorRight, goodCall, knownBy, sending, receiving, standing, written};
-ghost use Rattle.voice.specs.Slot.{goingOn, slotOn, lostOf, zeroAfter, streamOf, inSlot, voiceOf, voiceByOctets, withoutFrame, sessionStreamOf};
+ghost use Rattle.voice.specs.Slot.{goingOn, slotOn, lostOf, zeroAfter, streamOf, inSlot, voiceOf, voiceByOctets, sessionStreamOf};
 use crate::call::CLOSED;
 use crate::call::Call;
 use crate::call::RECEIVING;
@@ -169,7 +169,7 @@ fn answer_to(call: Call, mask: u8, frame: &[u8]) -> Answer
 
 // What a slot is answered, and the call after it. The frame is to be turned where the answer is 0.
 fn step(call: Call, mask: u8, frame: &[u8]) -> Stepped
-    ensures { λ r. ⌜ (r .answer, r .call) ≡ withoutFrame (voiceOf call mask (now (frame .entry))) ⌝ }
+    ensures { λ r. ⌜ (r .answer ≡ voiceOf call mask (now (frame .entry)) .0) × (r .call ≡ voiceOf call mask (now (frame .entry)) .1 .0) ⌝ }
 {
     let answer = answer_to(call, mask, frame);
     if answer.number() > 1 {

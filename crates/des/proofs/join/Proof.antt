@@ -4,19 +4,19 @@ use native.Mathlib.Omega.{arith}
 use borrow.Author.Needs.{needs}
 use denote.Ref.{now}
 use lib.ListN.{replicate}
-use Rattle.des.proofs.RoundLaws.{first-long, put-both}
+use Rattle.octets.proofs.Front.{first-long, put-both}
 use Rattle.des.proofs.join.Statement.{statement}
 use Rattle.des.proofs.join.Tie as tie
 
 part-out-end-2 : tie.Need-part-out-end-2
 part-out-end-2 c =
     let s = c .before .before .before .before .before in
-    omega (arith, first-long (replicate 64 0) (now (s .args .first)) (now (s .args .second)) refl (s .pre .0) (s .pre .1) _ (c .before .copy .ensures))
+    omega (arith, first-long (replicate 64 0) (now (s .args .first)) (now (s .args .second)) 32 32 (s .pre .0) (s .pre .1) refl _ (c .before .copy .ensures))
 
 returns : tie.Need-returns
 returns c =
     let s = c .before .before .before .before .before .before .before .before in
-    put-both (replicate 64 0) _ _ refl (s .pre .0) (s .pre .1) _ (c .before .before .before .before .copy .ensures) _ (c .before .copy2 .ensures)
+    put-both (replicate 64 0) _ _ 32 32 (s .pre .0) (s .pre .1) refl _ (c .before .before .before .before .copy .ensures) _ (c .before .copy2 .ensures)
 
 pub join-spec : {M : Type 1} → statement M
 join-spec =

@@ -1,7 +1,7 @@
 -- `book::look` meets its contract.
 use borrow.Author.Needs.{needs}
 use Rattle.octets.proofs.TestLaws.{fails, holds}
-use Rattle.keybook.proofs.BookLaws.{look-length, look-name, look-bad, look-at, look-missing}
+use Rattle.keybook.proofs.BookLaws.{look-length, look-range, look-bad, look-at, look-missing}
 use Rattle.keybook.proofs.book.look.Statement.{statement}
 use Rattle.keybook.proofs.book.look.Tie as tie
 
@@ -20,7 +20,7 @@ look-spec =
     (tie.spec
     (λ c. look-length _ _ _ (search needs))
     (λ c κs. search needs)
-    (λ c. look-name _ _ _ (search needs) (fails (c .before .in-range .ensures) (c .if2 .taken)))
+    (λ c. look-range _ _ _ (search needs) (fails (c .before .in-range .ensures) (c .if2 .taken)))
     (λ c κs. search needs)
     returns-3
     (λ c κs. search needs)

@@ -9,7 +9,7 @@ use lib.Dec.{eqb}
 use lib.ListN.{length, getD}
 use Rattle.octets.specs.Tests.{allBelow}
 use Rattle.octets.proofs.TestLaws.{all-none, all-step}
-use Rattle.text.specs.Parted.{isPart}
+use Rattle.text.specs.Walked.{isPart}
 use Rattle.text.proofs.part.is_part.Statement.{statement}
 use Rattle.text.proofs.part.is_part.Tie as tie
 
