@@ -7,6 +7,7 @@ use Rattle.des.specs.Des.{des}
 use Rattle.des.specs.Prepared as forDes
 use Rattle.aes.specs.Cipher.{aes}
 use Rattle.aes.specs.Prepared as forAes
+use Rattle.sizes.specs.Ciphers.{blockBits}
 use Rattle.ciphers.specs.declared.feedback.Engine.{Engine}
 use Rattle.ciphers.specs.declared.feedback.Engine.the-variants.{Des, Aes}
 
@@ -17,8 +18,8 @@ PreparedFor Aes p = forAes.Prepared p
 
 -- its block's octets
 abbrev pub blockOctets : Engine → ℕ
-blockOctets Des = 8
-blockOctets Aes = 16
+blockOctets Des = blockBits 2 / 8
+blockOctets Aes = blockBits 3 / 8
 
 -- a block under that key
 unfoldable pub blockBy : Engine → List ℕ → List ℕ → List ℕ

@@ -46,7 +46,8 @@ refusalsOf d (OfBook o) = keyRefusals (d .book) o
 refusalsOf d (OfCall n o) = callRefusals (d .book) (d .calls n) o
 refusalsOf d (OfPacket n o) = packetRefusals (d .book) (d .packets n) o
 
--- what is answered where none of these holds: the operation is done, but a slot in a receiving call whose vector is unknown is held
+-- what is answered where none of these holds: the operation is done, but a slot in a receiving call whose vector is unknown is held (a closed or a bad call
+-- was refused before)
 abbrev pub callUnrefused : Call → CallOperation → Answer
 callUnrefused c (Open cipher i w) = Done
 callUnrefused c (Start cipher i w) = Done

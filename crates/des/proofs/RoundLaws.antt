@@ -4,10 +4,8 @@ use mathlib.Core.List.{List, _++_}
 use Prim.Native.Nat.{ℕ, zero, suc, _+_}
 use native.Mathlib.Numerals.{add-one}
 use native.Mathlib.Omega.{arith}
-use borrow.Rule.Slice.PartMut.{putMid}
-use lib.ListN.{length, take, drop, length-append, length-drop}
-use lib.Seq.{take-all, take-at, drop-at, length-take-le}
-use Rattle.octets.proofs.Front.{Front, front-start, front-done, front-piece}
+use lib.ListN.{length, take, drop, length-drop}
+use lib.Seq.{take-all, take-at, length-take-le}
 use Rattle.des.specs.Tables.{IP, IP⁻¹}
 use Rattle.des.specs.Des.{permuted, xorBits, cipherF, Halves, rounds, halved, preoutput, enciphered}
 use Rattle.des.proofs.BitLists.{BitList, bits-append, bits-take, bits-drop, bits-permuted, bits-xor, length-xor}

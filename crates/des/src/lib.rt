@@ -157,7 +157,7 @@ fn substitute(boxes: &[u8], bits: &[u8]) -> [u8; 32]
     out
 }
 
-// What the boxes are given in round n, counted from 0: E(R) + K. The key is copied first: added from where it stands, it makes a block slower by a tenth.
+// What the boxes are given in round n, counted from 0: E(R) + K. The key is copied first: added from where it stands, it makes a block slower.
 fn box_input(prepared: &[u8], right: &[u8], n: usize) -> [u8; 48]
     requires { ⌜ Prepared (now prepared) × (length (now right) ≡ 32) × Bits (λ k. getD (now right) k 0) × (n < 16) ⌝ }
     ensures { λ r. ⌜ r ≡ boxInput (now (right .entry)) (keysOf (now (prepared .entry)) n) ⌝ }

@@ -11,7 +11,8 @@ use Rattle.answers.proofs.NumberLaws.{one-number}
 use Rattle.keyentry.specs.Entry.{isReady}
 use Rattle.keybook.specs.Operations.{beginOf, addOf, finishOf, eraseOf, loadOf}
 use Rattle.keybook.proofs.Laws.{Refuses, refused-begin-keeps, refused-add-keeps, refused-finish-keeps}
-use Rattle.keybook.proofs.UndoLaws.{Begun, begun-begin, begun-add, begun-finish, begun-erased, finish-ready}
+use Rattle.keybook.specs.Book.{goodBook}
+use Rattle.keybook.proofs.UndoLaws.{Begun, begun-good, begun-begin, begun-add, begun-finish, begun-erased, finish-ready}
 
 module _ (b : List ℕ) (c i : ℕ) (key : List ℕ) {begun : List ℕ} {a : Answer} (begins : (a, begun) ≡ beginOf b c i) where
   pub begin-refuses : isDone a ≡ false → (a, begun) ≡ loadOf b c i key
@@ -86,3 +87,7 @@ module _ (b : List ℕ) (c i : ℕ) (key : List ℕ) where
   pub load-keeps : Refuses (loadOf b c i key) → loadOf b c i key .1 ≡ b
   load-keeps =
       load-ways (λ o. Refuses o → o .1 ≡ b) (λ y n. refl) (λ k e begun m z n. refl) (λ k e added m w n. refl) (λ k e after m r n. absurd (n refl))
+
+  -- a good book stays good
+  pub load-stays-good : goodBook b ≡ true → goodBook (loadOf b c i key .1) ≡ true
+  load-stays-good g = load-ways (λ o. goodBook (o .1) ≡ true) (λ y. g) (λ k e begun m z. g) (λ k e added m w. g) (λ k e after m r. begun-good m)

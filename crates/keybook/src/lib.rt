@@ -116,7 +116,8 @@ pub struct Ready {
     pub key: [u8; KEY_ROOM],
 }
 
-fn refused(answer: Answer) -> Ready
+// A refusal hands out no key.
+pub fn refused(answer: Answer) -> Ready
     ensures { λ r. ⌜ (r .answer ≡ answer) × (r .key ≡ noKey) ⌝ }
 {
     Ready {

@@ -23,7 +23,7 @@ use Rattle.lines.specs.declared.pair.Pair.{Pair}
 use Rattle.lines.specs.declared.pair.Pair.the-variants as pair
 use Rattle.lines.specs.declared.record.Parsed.{Parsed}
 use Rattle.lines.specs.declared.record.Parsed.the-variants as code
-use Rattle.lines.specs.Record.{Load, Open, Voice, Announce, Malformed, mostNumber, isPair, isNumber, isKey, loadRecord, openRecord, joinRecord, voiceRecord, announceRecord, alone, recordRoom, recordIn, countIn}
+use Rattle.lines.specs.Record.{Load, Open, Voice, Announce, Malformed, mostNumber, isPair, isNumber, isKey, loadRecord, openRecord, joinRecord, voiceRecord, announceRecord, alone, recordRoom, recordIn, keyCount}
 use Rattle.lines.specs.Pairs.{IsPair}
 
 and-mid-false : (a b c : Bool) → (a && c) ≡ false → (a && (b && c)) ≡ false
@@ -67,7 +67,7 @@ module _ (line : List ℕ) (cursor : Cursor) where
 -- ---- a cipher and a key ID, and what comes after them
 
 -- no octets where fields are left over
-pub alone-count : (more : Bool) (p q : Parsed) → q ≡ pick more code.Malformed p → countIn p ≤ recordRoom → countIn q ≤ recordRoom
+pub alone-count : (more : Bool) (p q : Parsed) → q ≡ pick more code.Malformed p → keyCount p ≤ recordRoom → keyCount q ≤ recordRoom
 alone-count true p q e h = rw e (omega arith)
 alone-count false p q e h = rw e h
 
@@ -168,7 +168,7 @@ module _ (line : List ℕ) (cursor : Cursor) (r : Pair) (is : IsPair line (left 
             let is : q ≡ code.Join c i = rw h at e in
             rw (is, eq-eqb (length (left line cursor)) 2 two, is-pair .0, ← is-pair .1, ← is-pair .2)
 
-    pub join-count : (q : Parsed) → q ≡ pick (next .more) code.Malformed (code.Join c i) → countIn q ≤ recordRoom
+    pub join-count : (q : Parsed) → q ≡ pick (next .more) code.Malformed (code.Join c i) → keyCount q ≤ recordRoom
     join-count q e = alone-count (next .more) (code.Join c i) q e (omega arith)
 
 -- ---- a letter alone

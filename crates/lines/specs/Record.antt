@@ -138,12 +138,12 @@ recordIn code.End xs = End
 recordIn code.Malformed xs = Malformed
 
 -- how many of them are a key's
-abbrev pub countIn : Parsed → ℕ
-countIn (code.Load c i n) = n
-countIn (code.Open c i) = 0
-countIn (code.Join c i) = 0
-countIn (code.Voice m) = 0
-countIn code.Announce = 0
-countIn code.Lost = 0
-countIn code.End = 0
-countIn code.Malformed = 0
+abbrev pub keyCount : Parsed → ℕ
+keyCount (code.Load c i n) = n
+keyCount (code.Open c i) = 0
+keyCount (code.Join c i) = 0
+keyCount (code.Voice m) = 0
+keyCount code.Announce = 0
+keyCount code.Lost = 0
+keyCount code.End = 0
+keyCount code.Malformed = 0

@@ -5,7 +5,7 @@ ghost use Prim.Native.Nat.{ℕ, _≤_};
 ghost use lib.ListN.{length};
 ghost use Rattle.octets.specs.Tests.{pick};
 ghost use Rattle.text.specs.Walked.{left};
-ghost use Rattle.lines.specs.Record.{recordRoom, countIn, recordIn, loadRecord, openRecord, joinRecord, voiceRecord, announceRecord, lineOf};
+ghost use Rattle.lines.specs.Record.{recordRoom, keyCount, recordIn, loadRecord, openRecord, joinRecord, voiceRecord, announceRecord, lineOf};
 use crate::pair::MOST_NUMBER;
 use crate::pair::Pair;
 use crate::pair::next_pair;
@@ -53,7 +53,7 @@ fn alone(parsed: Parsed, cursor: Cursor) -> Parsed
 fn load_record(line: &[u8], cursor: Cursor, octets: &mut [u8]) -> Parsed
     requires { ⌜ (cursor .at ≤ length (now line)) × (length (now octets) ≡ recordRoom) ⌝ }
     ensures { λ r. ⌜ recordIn r (now (octets .exit)) ≡ loadRecord (left (now (line .entry)) cursor) ⌝ }
-    ensures { λ r. ⌜ countIn r ≤ recordRoom ⌝ }
+    ensures { λ r. ⌜ keyCount r ≤ recordRoom ⌝ }
 {
     let pair = next_pair(line, cursor);
     let Pair::Of { cipher, id, next } = pair else {
@@ -77,7 +77,7 @@ fn load_record(line: &[u8], cursor: Cursor, octets: &mut [u8]) -> Parsed
 fn open_record(line: &[u8], cursor: Cursor, octets: &mut [u8]) -> Parsed
     requires { ⌜ (cursor .at ≤ length (now line)) × (length (now octets) ≡ recordRoom) ⌝ }
     ensures { λ r. ⌜ recordIn r (now (octets .exit)) ≡ openRecord (left (now (line .entry)) cursor) ⌝ }
-    ensures { λ r. ⌜ countIn r ≤ recordRoom ⌝ }
+    ensures { λ r. ⌜ keyCount r ≤ recordRoom ⌝ }
 {
     let pair = next_pair(line, cursor);
     let Pair::Of { cipher, id, next } = pair else {
@@ -92,7 +92,7 @@ fn open_record(line: &[u8], cursor: Cursor, octets: &mut [u8]) -> Parsed
 fn join_record(line: &[u8], cursor: Cursor) -> Parsed
     requires { ⌜ cursor .at ≤ length (now line) ⌝ }
     ensures { λ r. ⌜ ((xs : List ℕ) → recordIn r xs ≡ joinRecord (left (now (line .entry)) cursor)) ⌝ }
-    ensures { λ r. ⌜ countIn r ≤ recordRoom ⌝ }
+    ensures { λ r. ⌜ keyCount r ≤ recordRoom ⌝ }
 {
     let pair = next_pair(line, cursor);
     let Pair::Of { cipher, id, next } = pair else {
@@ -104,7 +104,7 @@ fn join_record(line: &[u8], cursor: Cursor) -> Parsed
 fn voice_record(line: &[u8], cursor: Cursor, octets: &mut [u8]) -> Parsed
     requires { ⌜ (cursor .at ≤ length (now line)) × (length (now octets) ≡ recordRoom) ⌝ }
     ensures { λ r. ⌜ recordIn r (now (octets .exit)) ≡ voiceRecord (left (now (line .entry)) cursor) ⌝ }
-    ensures { λ r. ⌜ countIn r ≤ recordRoom ⌝ }
+    ensures { λ r. ⌜ keyCount r ≤ recordRoom ⌝ }
 {
     let first = next_number(line, cursor, MOST_NUMBER);
     let mask_field = first.number;
@@ -121,7 +121,7 @@ fn voice_record(line: &[u8], cursor: Cursor, octets: &mut [u8]) -> Parsed
 fn announce_record(line: &[u8], cursor: Cursor, octets: &mut [u8]) -> Parsed
     requires { ⌜ (cursor .at ≤ length (now line)) × (length (now octets) ≡ recordRoom) ⌝ }
     ensures { λ r. ⌜ recordIn r (now (octets .exit)) ≡ announceRecord (left (now (line .entry)) cursor) ⌝ }
-    ensures { λ r. ⌜ countIn r ≤ recordRoom ⌝ }
+    ensures { λ r. ⌜ keyCount r ≤ recordRoom ⌝ }
 {
     if last_hex(line, cursor, &mut octets[..VECTOR_OCTETS]) {
         return Parsed::Announce;
@@ -134,7 +134,7 @@ pub fn read(line: &[u8], octets: &mut [u8]) -> Parsed
     requires { ⌜ length (now octets) ≡ recordRoom ⌝ }
     ensures { λ r. ⌜ recordIn r (now (octets .exit)) ≡ lineOf (now (line .entry)) ⌝ }
     ensures { λ _. ⌜ length (now (octets .exit)) ≡ recordRoom ⌝ }
-    ensures { λ r. ⌜ countIn r ≤ recordRoom ⌝ }
+    ensures { λ r. ⌜ keyCount r ≤ recordRoom ⌝ }
 {
     if line.len() > LINE_OCTETS {
         return Parsed::Malformed;

@@ -11,7 +11,7 @@ use Rattle.answers.specs.Outcomes.{Refusals, settled, outcome}
 use Rattle.answers.proofs.OutcomeLaws.{neverDone, none-settles, asked-refused}
 use Rattle.keybook.specs.Operations.{noKey}
 use Rattle.sizes.specs.Ciphers.{vectorOctets}
-use Rattle.openings.specs.Ladder.{keyFor, keyRefusals, keyOf, vectorRefusals, vectorKeyOf}
+use Rattle.openings.specs.Ladder.{keyFor, keyRefusals, openingKeyOf, vectorRefusals, vectorKeyOf}
 use Rattle.openings.proofs.LadderLaws.{given-none, given-is, key-never, vector-never, vector-sized}
 
 -- two words on what is to be opened that refuse alike: bad by both, or the same
@@ -40,13 +40,13 @@ module _ {S : Type 0} (before : S) (make : List ℕ → S) where
         go (both-bad p q) = rw (p, q)
         go (the-same p q) = rw (p, q)
 
-    module _ (a : Answer) (key : List ℕ) (e : (a, key) ≡ keyOf ranged bad busy c i b) where
+    module _ (a : Answer) (key : List ℕ) (e : (a, key) ≡ openingKeyOf ranged bad busy c i b) where
       pub key-begun-refused : isDone a ≡ false → (a, before) ≡ outcome before (keyRefusals ranged bad′ busy′ c i b) (make (keyFor b c i))
-      unfolding keyOf
+      unfolding openingKeyOf
       key-begun-refused d = began-refused (keyRefusals ranged bad busy c i b) (keyFor b c i) (key-never ranged bad busy c i b) e d ∙ key-alike (Done, make (keyFor b c i))
 
       pub key-begun : isDone a ≡ true → (Done, make key) ≡ outcome before (keyRefusals ranged bad′ busy′ c i b) (make (keyFor b c i))
-      unfolding keyOf
+      unfolding openingKeyOf
       key-begun d = began-done (keyRefusals ranged bad busy c i b) (keyFor b c i) (key-never ranged bad busy c i b) e d ∙ key-alike (Done, make (keyFor b c i))
 
     module _ (w : List ℕ) where

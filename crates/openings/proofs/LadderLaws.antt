@@ -15,7 +15,7 @@ use Rattle.keyentry.specs.Entry.{inRange}
 use Rattle.keybook.specs.Book.{bookOctets, bookRefusals}
 use Rattle.keybook.specs.Operations.{noKey, notReady, readyRefusals, readyKeyOf}
 use Rattle.sizes.specs.Ciphers.{vectorOctets}
-use Rattle.openings.specs.Ladder.{keyFor, keyRefusals, keyOf, zeroFor, vectorRefusals, vectorKeyOf}
+use Rattle.openings.specs.Ladder.{keyFor, keyRefusals, openingKeyOf, zeroFor, vectorRefusals, vectorKeyOf}
 
 -- a key that was handed out: nothing refused it, and it is the one of the book
 module _ (rs : Refusals) (key : List ℕ) (never : neverDone rs ≡ true) {o : Answer × List ℕ} (e : o ≡ outcome noKey rs key) where
@@ -34,21 +34,21 @@ module _ (ranged isBad busy : Bool) (c i : ℕ) (b : List ℕ) where
   unfolding keyRefusals
   key-in-order = refl
 
-  pub key-refused : (n : ℕ) → Refuses asked n → (answerAt asked n, noKey) ≡ keyOf ranged isBad busy c i b
-  unfolding keyOf
+  pub key-refused : (n : ℕ) → Refuses asked n → (answerAt asked n, noKey) ≡ openingKeyOf ranged isBad busy c i b
+  unfolding openingKeyOf
   key-refused = refused-at noKey asked (Done, keyFor b c i)
 
   pub key-ready : length b ≡ bookOctets → ranged ≡ true → inRange c i ≡ true → isBad ≡ false → busy ≡ false
-      → readyKeyOf b c i ≡ keyOf ranged isBad busy c i b
-  unfolding keyOf keyRefusals readyKeyOf readyRefusals bookRefusals notReady
+      → readyKeyOf b c i ≡ openingKeyOf ranged isBad busy c i b
+  unfolding openingKeyOf keyRefusals readyKeyOf readyRefusals bookRefusals notReady
   key-ready l r n e f = rw (eq-eqb _ _ l, r, n, e, f)
 
   pub key-never : neverDone asked ≡ true
   unfolding keyRefusals
   key-never = refl
 
-  pub key-none : {o : Answer × List ℕ} → o ≡ keyOf ranged isBad busy c i b → isDone (o .0) ≡ true → NoneHolds asked
-  unfolding keyOf
+  pub key-none : {o : Answer × List ℕ} → o ≡ openingKeyOf ranged isBad busy c i b → isDone (o .0) ≡ true → NoneHolds asked
+  unfolding openingKeyOf
   key-none = given-none asked (keyFor b c i) key-never
 
   module _ (w : List ℕ) where
@@ -65,8 +65,8 @@ module _ (ranged isBad busy : Bool) (c i : ℕ) (b : List ℕ) where
 
     module _ (l : length w ≡ vectorOctets) where
       -- the ladder without the vector refuses first
-      pub vector-key-refused : {o : Answer × List ℕ} → o ≡ keyOf ranged isBad busy c i b → isDone (o .0) ≡ false → o ≡ vectorKeyOf ranged isBad busy c i w b
-      unfolding vectorKeyOf vectorRefusals keyOf
+      pub vector-key-refused : {o : Answer × List ℕ} → o ≡ openingKeyOf ranged isBad busy c i b → isDone (o .0) ≡ false → o ≡ vectorKeyOf ranged isBad busy c i w b
+      unfolding vectorKeyOf vectorRefusals openingKeyOf
       vector-key-refused e d =
           e
           ∙ first-decides asked ((zeroFor c w, ZeroVector) ∷ []) noKey (keyFor b c i) (sym (ap (λ (o : Answer × List ℕ). isDone (o .0)) e) ∙ d)
@@ -79,8 +79,8 @@ module _ (ranged isBad busy : Bool) (c i : ℕ) (b : List ℕ) where
       pub vector-zero : NoneHolds asked → zeroFor c w ≡ true → (ZeroVector, noKey) ≡ vectorKeyOf ranged isBad busy c i w b
       vector-zero n z = sym (vector-left n ∙ rw z)
 
-      pub vector-ready : {o : Answer × List ℕ} → o ≡ keyOf ranged isBad busy c i b → NoneHolds asked → zeroFor c w ≡ false → o ≡ vectorKeyOf ranged isBad busy c i w b
-      unfolding keyOf
+      pub vector-ready : {o : Answer × List ℕ} → o ≡ openingKeyOf ranged isBad busy c i b → NoneHolds asked → zeroFor c w ≡ false → o ≡ vectorKeyOf ranged isBad busy c i w b
+      unfolding openingKeyOf
       vector-ready e n z = e ∙ none-settles asked noKey (Done, keyFor b c i) n ∙ sym (vector-left n ∙ rw z)
 
     pub vector-never : neverDone askedWith ≡ true

@@ -16,7 +16,7 @@ use Rattle.keybook.specs.Book.{entries, findEntry, goodBook, bookRefusals}
 use Rattle.keybook.specs.Operations.{hasEntry, entryFor, noKey, notReady, readyRefusals, readyKeyOf}
 use Rattle.keybook.proofs.GoodLaws.{good-sized, good-entry, found-for}
 use Rattle.keybook.proofs.Laws.{ready-key-is-right}
-use Rattle.openings.specs.Ladder.{keyFor, keyRefusals, keyOf, vectorRefusals}
+use Rattle.openings.specs.Ladder.{keyFor, keyRefusals, openingKeyOf, vectorRefusals}
 use Rattle.openings.proofs.LadderLaws.{key-ready, vector-none}
 
 module _ (b : List ℕ) (c i : ℕ) (good : goodBook b ≡ true) (there : hasEntry b c i ≡ true) (ready : isReady (entryFor b c i) ≡ true) where
@@ -60,7 +60,7 @@ module _ (ranged bad busy : Bool) (c i : ℕ) (b : List ℕ) (n : NoneHolds (key
 
   -- and the book hands the key out
   pub none-ready : readyKeyOf b c i ≡ (Done, keyFor b c i)
-  unfolding keyRefusals keyOf
+  unfolding keyRefusals openingKeyOf
   none-ready =
       key-ready ranged bad busy c i b (eqb-true _ _ (not-false _ (n .0))) (none-ranged .0) (none-ranged .1) (n .1 .1 .0) (n .1 .1 .1 .0)
       ∙ none-settles (keyRefusals ranged bad busy c i b) noKey (Done, keyFor b c i) n

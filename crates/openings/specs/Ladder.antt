@@ -27,8 +27,8 @@ keyRefusals ranged isBad busy c i b =
     ∷ (not (hasEntry b c i), NoEntry) ∷ (not (isReady (entryFor b c i)), NotReady) ∷ []
 
 -- the ready key, or the refusal and no key
-unfoldable pub keyOf : Bool → Bool → Bool → ℕ → ℕ → List ℕ → Answer × List ℕ
-keyOf ranged isBad busy c i b = outcome noKey (keyRefusals ranged isBad busy c i b) (keyFor b c i)
+unfoldable pub openingKeyOf : Bool → Bool → Bool → ℕ → ℕ → List ℕ → Answer × List ℕ
+openingKeyOf ranged isBad busy c i b = outcome noKey (keyRefusals ranged isBad busy c i b) (keyFor b c i)
 
 -- ---- the vector
 

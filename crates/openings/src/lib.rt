@@ -2,31 +2,21 @@
 ghost use mathlib.Core.Path.{_≡_};
 ghost use lib.ListN.{length};
 ghost use Rattle.sizes.specs.Ciphers.{vectorOctets};
-ghost use Rattle.keybook.specs.Operations.{noKey};
-ghost use Rattle.openings.specs.Ladder.{keyOf, sessionVector, zeroFor, vectorKeyOf};
+ghost use Rattle.openings.specs.Ladder.{openingKeyOf, sessionVector, zeroFor, vectorKeyOf};
 use answers::Answer;
 use keybook::BOOK_OCTETS;
 use keybook::Ready;
 use keybook::ready_key;
+use keybook::refused;
 use keyentry::in_range;
 use octets::all_zero;
 use octets::copy;
-use sizes::cipher::KEY_ROOM;
 use sizes::cipher::Scramble;
 use sizes::cipher::VECTOR_OCTETS;
 
-fn refused(answer: Answer) -> Ready
-    ensures { λ r. ⌜ (r .answer ≡ answer) × (r .key ≡ noKey) ⌝ }
-{
-    Ready {
-        answer,
-        key: [0; KEY_ROOM],
-    }
-}
-
 // The ready key for what is to be opened. By the caller's word, its own numbers are in range, and it is bad, or busy.
 pub fn opening_key(ranged: bool, bad: bool, busy: bool, cipher: u8, id: u8, book: &[u8]) -> Ready
-    ensures { λ r. ⌜ (r .answer, r .key) ≡ keyOf ranged bad busy cipher id (now (book .entry)) ⌝ }
+    ensures { λ r. ⌜ (r .answer, r .key) ≡ openingKeyOf ranged bad busy cipher id (now (book .entry)) ⌝ }
 {
     if book.len() != BOOK_OCTETS {
         return refused(Answer::WrongLength);

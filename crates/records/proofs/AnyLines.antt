@@ -13,7 +13,7 @@ use Rattle.lines.specs.Record.{Record, Load, Open, Join, Voice, Announce, Lost,
 use Rattle.records.specs.Step.{stepOf}
 use Rattle.records.specs.Reach.{answersTo}
 use Rattle.records.specs.declared.reader.Carry.{Carry}
-use Rattle.records.specs.Answered.{answerLine, answerRoom, Receiver, receiver, answered}
+use Rattle.records.specs.Answered.{answerLine, answerRoom, Recorder, recorder, answered}
 use Rattle.text.specs.Reader.{linesOf, allAnswered}
 use Rattle.records.specs.Reader.{lineReader, started, closeOf, Run}
 use Rattle.records.proofs.RunLaws.{run-whole}
@@ -48,12 +48,12 @@ other : (ns : List ℕ) {n m : ℕ} → isOneOf n ns ≡ true → isOneOf m ns �
 other ns t f e = true≢false (sym t ∙ ap (λ (x : ℕ). isOneOf x ns) e ∙ f)
 
 -- before any line
-abbrev pub first : Receiver
-first = receiver (replicate bookOctets 0) noCall
+abbrev pub first : Recorder
+first = recorder (replicate bookOctets 0) noCall
 
 -- lines from the start, and one line more
 module _ (ls : List (List ℕ)) (l : List ℕ) where
-  abbrev pub then : Receiver
+  abbrev pub then : Recorder
   then = allAnswered lineReader ls first .1
 
   abbrev pub numberThen : ℕ
@@ -78,7 +78,7 @@ pub data Printed : List (List ℕ) → List ℕ → Type 0 where
   a-line : {ls : List (List ℕ)} {rest : List ℕ} (l : List ℕ) (a : Answer) (call : Call) (frame : List ℕ) → isOneOf (numberOf a) (answersTo (lineOf l)) ≡ true
       → Printed ls rest → Printed (l ∷ ls) (answerLine a call frame ++ rest)
 
-lines-print : (ls : List (List ℕ)) (r : Receiver) → Sound (r .book) (r .call) → Printed ls (allAnswered lineReader ls r .0)
+lines-print : (ls : List (List ℕ)) (r : Recorder) → Sound (r .book) (r .call) → Printed ls (allAnswered lineReader ls r .0)
 unfolding allAnswered answered
 lines-print [] r s = no-line
 lines-print (l ∷ ls) r s =

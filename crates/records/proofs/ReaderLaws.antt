@@ -15,7 +15,7 @@ use Rattle.text.proofs.CarryLaws.{take-least}
 use Rattle.text.proofs.TakeLaws.{taken-used, taken-wrote, taken-some, closing-wrote}
 use Rattle.lines.specs.Record.{lineOctets, lineOf}
 use Rattle.records.specs.declared.reader.Carry.{Carry}
-use Rattle.records.specs.Answered.{answerRoom, Receiver, receiver, answered}
+use Rattle.records.specs.Answered.{answerRoom, Recorder, recorder, answered}
 use Rattle.records.specs.Reader.{keptOctets, lineReader, reading, readingOf, carried, started, Left, handed, takeFrom, closeFrom}
 
 -- ---- what is kept of a line is as good as the whole
@@ -54,23 +54,23 @@ reading-is line count n call book l m = rw (take-least line count keptOctets n (
 
 -- ---- what is handed back, and the same read
 
-abbrev readBack : Left → ℕ × (Reading Receiver × List ℕ)
+abbrev readBack : Left → ℕ × (Reading Recorder × List ℕ)
 readBack l = (l .0, (readingOf (l .1 .0) (l .1 .1 .0), l .1 .1 .1))
 
-read-handed : (l : ℕ × (Reading Receiver × List ℕ)) → readBack (handed l) ≡ l
+read-handed : (l : ℕ × (Reading Recorder × List ℕ)) → readBack (handed l) ≡ l
 read-handed l = rw (take-append-seam (l .1 .0 .line))
 
-module _ (s : Reading Receiver) (piece out : List ℕ) {n w : ℕ} {out' : List ℕ} where
-  pub as-taken : {line book : List ℕ} {call : Call} → (n, (w, (record { line = line; state = receiver book call }, out'))) ≡ taken lineReader s piece out
+module _ (s : Reading Recorder) (piece out : List ℕ) {n w : ℕ} {out' : List ℕ} where
+  pub as-taken : {line book : List ℕ} {call : Call} → (n, (w, (record { line = line; state = recorder book call }, out'))) ≡ taken lineReader s piece out
       → (n, (w, (carried line call, (book, out')))) ≡ takeFrom s piece out
   unfolding takeFrom
-  as-taken q = ap (λ (t : ℕ × (ℕ × (Reading Receiver × List ℕ))). (t .0, handed (t .1))) q
+  as-taken q = ap (λ (t : ℕ × (ℕ × (Reading Recorder × List ℕ))). (t .0, handed (t .1))) q
 
   pub taken-is : {c : Carry} {b : List ℕ} → (n, (w, (c, (b, out')))) ≡ takeFrom s piece out → (n, (w, (readingOf c b, out'))) ≡ taken lineReader s piece out
   unfolding takeFrom
   taken-is q =
       let t = taken lineReader s piece out in
-      ap (λ (x : ℕ × Left). (x .0, readBack (x .1))) q ∙ ap (λ (l : ℕ × (Reading Receiver × List ℕ)). (t .0, l)) (read-handed (t .1))
+      ap (λ (x : ℕ × Left). (x .0, readBack (x .1))) q ∙ ap (λ (l : ℕ × (Reading Recorder × List ℕ)). (t .0, l)) (read-handed (t .1))
 
   -- how much was used and written
   pub take-bounds : {c : Carry} {b : List ℕ} → (n, (w, (c, (b, out')))) ≡ takeFrom s piece out → length out' ≡ length out
@@ -79,8 +79,8 @@ module _ (s : Reading Receiver) (piece out : List ℕ) {n w : ℕ} {out' : List 
       let t = taken-is q in
       ((taken-used lineReader s piece out t, taken-wrote lineReader s piece out t l), taken-some lineReader s piece out t)
 
-module _ (s : Reading Receiver) (out : List ℕ) {w : ℕ} {out' : List ℕ} where
-  pub as-closing : {line book : List ℕ} {call : Call} → (w, (record { line = line; state = receiver book call }, out')) ≡ closing lineReader s out
+module _ (s : Reading Recorder) (out : List ℕ) {w : ℕ} {out' : List ℕ} where
+  pub as-closing : {line book : List ℕ} {call : Call} → (w, (record { line = line; state = recorder book call }, out')) ≡ closing lineReader s out
       → (w, (carried line call, (book, out'))) ≡ closeFrom s out
   unfolding closeFrom
   as-closing q = ap handed q

@@ -10,26 +10,26 @@ use Rattle.text.specs.Reader.{Reading, fresh, andThen, fed, finished, closing}
 use Rattle.text.proofs.ReaderLaws.{fed-append, whole}
 use Rattle.text.proofs.TakeLaws.{taken-fed, closing-all}
 use Rattle.records.specs.declared.reader.Carry.{Carry}
-use Rattle.records.specs.Answered.{answerRoom, Receiver, receiver}
+use Rattle.records.specs.Answered.{answerRoom, Recorder, recorder}
 use Rattle.records.specs.Reader.{lineReader, readingOf, carried, started, Left, wholeOf, takeOf, closeFrom, closeOf, Run, none, some, Whole}
 use Rattle.records.proofs.ReaderLaws.{enough, taken-is, closing-is}
 
 abbrev Fed : Type 0
-Fed = List ℕ × Reading Receiver
+Fed = List ℕ × Reading Recorder
 
 -- ---- a piece taken in parts: what is carried, and the book, are those of as much of it as was taken
 
-pub fed-none : (s : Reading Receiver) (piece : List ℕ) → s ≡ fed lineReader s (take 0 piece) .1
+pub fed-none : (s : Reading Recorder) (piece : List ℕ) → s ≡ fed lineReader s (take 0 piece) .1
 unfolding fed
 fed-none s piece = refl
 
-pub fed-more : (s : Reading Receiver) (piece out : List ℕ) (at : ℕ) (c : Carry) (b : List ℕ) {c' : Carry} {b' out' : List ℕ} {n w : ℕ}
+pub fed-more : (s : Reading Recorder) (piece out : List ℕ) (at : ℕ) (c : Carry) (b : List ℕ) {c' : Carry} {b' out' : List ℕ} {n w : ℕ}
     → readingOf c b ≡ fed lineReader s (take at piece) .1 → (n, (w, (c', (b', out')))) ≡ takeOf c (take (length piece - at) (drop at piece)) b out
     → readingOf c' b' ≡ fed lineReader s (take (at + n) piece) .1
 fed-more s piece out at c b {n = n} before q =
     let rest = drop at piece in
     sym (ap (λ (f : Fed). f .1) (taken-fed lineReader (readingOf c b) rest out (taken-is (readingOf c b) rest out (rw (part-to-end piece at) at q))))
-    ∙ ap (λ (t : Reading Receiver). fed lineReader t (take n rest) .1) before
+    ∙ ap (λ (t : Reading Recorder). fed lineReader t (take n rest) .1) before
     ∙ sym (ap (λ (k : List ℕ). fed lineReader s k .1) (take-add at n piece) ∙ ap (λ (f : Fed). f .1) (fed-append lineReader (take at piece) s (take n rest)))
 
 -- ---- a run
@@ -47,11 +47,11 @@ unfolding closeFrom
 run-whole {book} {input} {output} {e} {d} r out h {w} {c} {b} {out'} q =
     let s = readingOf d e in
     let last = closing-all lineReader s out h (closing-is s out q) in
-    let all : andThen (output, s) (finished lineReader) ≡ wholeOf input book = ap (λ (f : Fed). andThen f (finished lineReader)) (sym (run-fed r)) ∙ whole lineReader enough input (receiver book noCall) in
+    let all : andThen (output, s) (finished lineReader) ≡ wholeOf input book = ap (λ (f : Fed). andThen f (finished lineReader)) (sym (run-fed r)) ∙ whole lineReader enough input (recorder book noCall) in
     let left = closing lineReader s out in
     let after : left .1 .0 ≡ fresh (finished lineReader s .1) = closing-all lineReader s out h refl .1 in
     record {
-      output-is = rw (last .0) (ap (λ (x : List ℕ × Receiver). x .0) all);
-      book-is = ap (λ (x : Left). x .1 .1 .0) q ∙ ap (λ (t : Reading Receiver). t .state .book) after ∙ ap (λ (x : List ℕ × Receiver). x .1 .book) all;
-      carry-is = ap (λ (x : Left). x .1 .0) q ∙ ap (λ (t : Reading Receiver). carried (t .line) (t .state .call)) after ∙ ap (λ (x : List ℕ × Receiver). carried [] (x .1 .call)) all;
+      output-is = rw (last .0) (ap (λ (x : List ℕ × Recorder). x .0) all);
+      book-is = ap (λ (x : Left). x .1 .1 .0) q ∙ ap (λ (t : Reading Recorder). t .state .book) after ∙ ap (λ (x : List ℕ × Recorder). x .1 .book) all;
+      carry-is = ap (λ (x : Left). x .1 .0) q ∙ ap (λ (t : Reading Recorder). carried (t .line) (t .state .call)) after ∙ ap (λ (x : List ℕ × Recorder). carried [] (x .1 .call)) all;
     }

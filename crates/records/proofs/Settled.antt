@@ -13,7 +13,7 @@ use Rattle.voice.proofs.Settled.{end-keeps, lost-keeps, announce-keeps, voice-k
 use Rattle.lines.specs.Record.{Record, Load, Open, Join, Voice, Announce, Lost, End, Malformed}
 use Rattle.records.specs.declared.reader.Carry.{Carry}
 use Rattle.keybook.specs.Operations.{loadOf}
-use Rattle.records.specs.Step.{stepOf, asStepped}
+use Rattle.records.specs.Step.{stepOf, asEffect}
 use Rattle.records.specs.Reader.{started, Left, takeOf, closeOf}
 use Rattle.keybook.proofs.LoadLaws.{load-keeps}
 
@@ -33,10 +33,10 @@ module _ (book out : List ℕ) where
 -- ---- a refusal changes nothing
 
 -- a record of any kind leaves book and call, good or bad, and shows no frame
-pub step-keeps : (r : Record) (book : List ℕ) (call : Call) → Refusal (stepOf r book call .answer) → stepOf r book call ≡ asStepped (stepOf r book call .answer) book call []
+pub step-keeps : (r : Record) (book : List ℕ) (call : Call) → Refusal (stepOf r book call .answer) → stepOf r book call ≡ asEffect (stepOf r book call .answer) book call []
 unfolding stepOf
 step-keeps (Load c i key) book call h =
-    ap (λ (x : List ℕ). asStepped (loadOf book c i key .0) x call []) (load-keeps book c i key (λ e. omega (arith, ap numberOf e)))
+    ap (λ (x : List ℕ). asEffect (loadOf book c i key .0) x call []) (load-keeps book c i key (λ e. omega (arith, ap numberOf e)))
 step-keeps (Open c i w) book call h = rw (open-keeps call c i book w h)
 step-keeps (Join c i) book call h = rw (join-keeps call c i book h)
 step-keeps (Voice mask frame) book call h =

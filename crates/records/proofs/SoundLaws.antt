@@ -33,10 +33,10 @@ use Rattle.lines.specs.Record.{Record, Load, Open, Join, Voice, Announce, Lost,
 use Rattle.keybook.specs.Operations.{loadOf}
 use Rattle.records.specs.Step.{stepOf}
 use Rattle.text.specs.Reader.{allAnswered}
-use Rattle.records.specs.Answered.{Receiver, answered}
+use Rattle.records.specs.Answered.{Recorder, answered}
 use Rattle.records.specs.Reader.{lineReader}
-use Rattle.keybook.proofs.UndoLaws.{Begun, begun-good, begun-entry, begun-other}
-use Rattle.keybook.proofs.LoadLaws.{load-ways}
+use Rattle.keybook.proofs.UndoLaws.{Begun, begun-entry, begun-other}
+use Rattle.keybook.proofs.LoadLaws.{load-ways, load-stays-good}
 
 -- ---- what book and call are in a run
 
@@ -72,9 +72,6 @@ begun-ready {b} {c} {i} {k} {e} {after} all m r j l = go (ℕ-discrete j k)
     go (no q) u = let o = begun-other m j l q in rw o (all j l (rw o at u))
 
 module _ (b : List ℕ) (c i : ℕ) (key : List ℕ) where
-  load-good : goodBook b ≡ true → goodBook (loadOf b c i key .1) ≡ true
-  load-good g = load-ways b c i key (λ o. goodBook (o .1) ≡ true) (λ y. g) (λ k e begun m z. g) (λ k e added m w. g) (λ k e after m r. begun-good m)
-
   load-ready : AllReady b → AllReady (loadOf b c i key .1)
   load-ready all = load-ways b c i key (λ o. AllReady (o .1)) (λ y. all) (λ k e begun m z. all) (λ k e added m w. all) (λ k e after m r. begun-ready all m r)
 
@@ -141,7 +138,7 @@ pub step-sound : (r : Record) {book : List ℕ} {call : Call} → Sound book cal
 unfolding stepOf
 step-sound (Load c i key) {book} {call} s =
     record {
-      book-good = load-good book c i key (s .book-good);
+      book-good = load-stays-good book c i key (s .book-good);
       all-ready = load-ready book c i key (s .all-ready);
       call-good = s .call-good;
       no-sender = s .no-sender;
@@ -156,7 +153,7 @@ step-sound End {book} {call} s = with-call s (end-good call (s .call-good)) (end
 step-sound Malformed s = s
 
 -- and so do any lines
-pub lines-sound : (ls : List (List ℕ)) (r : Receiver) → Sound (r .book) (r .call)
+pub lines-sound : (ls : List (List ℕ)) (r : Recorder) → Sound (r .book) (r .call)
     → let after = allAnswered lineReader ls r .1 in
     Sound (after .book) (after .call)
 unfolding allAnswered answered

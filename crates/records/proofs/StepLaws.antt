@@ -25,10 +25,10 @@ use Rattle.voice.proofs.SessionOnce.{voice-by-is-voice, session-made, session-k
 use Rattle.voice.proofs.Settled.{voice-by-octets-keeps}
 use Rattle.lines.specs.declared.record.Parsed.{Parsed}
 use Rattle.lines.specs.declared.record.Parsed.the-variants as code
-use Rattle.lines.specs.Record.{recordRoom, recordIn, countIn}
+use Rattle.lines.specs.Record.{recordRoom, recordIn, keyCount}
 use Rattle.records.specs.declared.step.Outcome.{Outcome}
 use Rattle.keybook.specs.Operations.{loadOf}
-use Rattle.records.specs.Step.{Stepped, ofBook, ofCall, ofSlot, stepOf, asStepped}
+use Rattle.records.specs.Step.{Effect, bookStep, callStep, slotStep, stepOf, asEffect}
 use Rattle.records.specs.Lent.{Cached}
 
 -- ---- the session's octets
@@ -100,53 +100,53 @@ lost-cached c session {made} {goes} {a} {after} h q g =
 -- ---- what each record is
 
 module _ (p : Parsed) (octets book : List ℕ) (call : Call) where
-  pub load-is : {c i n : ℕ} → p ≡ code.Load c i n → stepOf (recordIn p octets) book call ≡ ofBook call (loadOf book c i (take n octets))
+  pub load-is : {c i n : ℕ} → p ≡ code.Load c i n → stepOf (recordIn p octets) book call ≡ bookStep call (loadOf book c i (take n octets))
   unfolding stepOf
   load-is e = rw e
 
-  pub open-is : {c i : ℕ} → p ≡ code.Open c i → stepOf (recordIn p octets) book call ≡ ofCall book (openOf call c i (take vectorOctets octets) book)
+  pub open-is : {c i : ℕ} → p ≡ code.Open c i → stepOf (recordIn p octets) book call ≡ callStep book (openOf call c i (take vectorOctets octets) book)
   unfolding stepOf
   open-is e = rw e
 
-  pub join-is : {c i : ℕ} → p ≡ code.Join c i → stepOf (recordIn p octets) book call ≡ ofCall book (joinOf call c i book)
+  pub join-is : {c i : ℕ} → p ≡ code.Join c i → stepOf (recordIn p octets) book call ≡ callStep book (joinOf call c i book)
   unfolding stepOf
   join-is e = rw e
 
-  pub voice-is : {mask : ℕ} → p ≡ code.Voice mask → stepOf (recordIn p octets) book call ≡ ofSlot book (voiceOf call mask (take frameOctets octets))
+  pub voice-is : {mask : ℕ} → p ≡ code.Voice mask → stepOf (recordIn p octets) book call ≡ slotStep book (voiceOf call mask (take frameOctets octets))
   unfolding stepOf
   voice-is e = rw e
 
-  pub announce-is : p ≡ code.Announce → stepOf (recordIn p octets) book call ≡ ofCall book (announceOf call (take vectorOctets octets))
+  pub announce-is : p ≡ code.Announce → stepOf (recordIn p octets) book call ≡ callStep book (announceOf call (take vectorOctets octets))
   unfolding stepOf
   announce-is e = rw e
 
-  pub lost-is : p ≡ code.Lost → stepOf (recordIn p octets) book call ≡ ofCall book (lostOf call)
+  pub lost-is : p ≡ code.Lost → stepOf (recordIn p octets) book call ≡ callStep book (lostOf call)
   unfolding stepOf
   lost-is e = rw e
 
-  pub end-is : p ≡ code.End → stepOf (recordIn p octets) book call ≡ ofCall book (endOf call)
+  pub end-is : p ≡ code.End → stepOf (recordIn p octets) book call ≡ callStep book (endOf call)
   unfolding stepOf
   end-is e = rw e
 
-  pub malformed-is : p ≡ code.Malformed → stepOf (recordIn p octets) book call ≡ ofCall book (answer.Malformed, call)
+  pub malformed-is : p ≡ code.Malformed → stepOf (recordIn p octets) book call ≡ callStep book (answer.Malformed, call)
   unfolding stepOf
   malformed-is e = rw e
 
 -- the octets of a key are among those lent
-pub count-fits : (p : Parsed) {c i n : ℕ} → p ≡ code.Load c i n → countIn p ≤ recordRoom → n ≤ recordRoom
+pub count-fits : (p : Parsed) {c i n : ℕ} → p ≡ code.Load c i n → keyCount p ≤ recordRoom → n ≤ recordRoom
 count-fits p e h = rw e at h
 
 -- ---- what the code hands back is that
 
 -- no frame is shown
-pub comes : (r : Outcome) (octets after : List ℕ) {a : Answer} {call : Call} {s : Stepped} → r .answer ≡ a → r .call ≡ call → r .shown ≡ 0
-    → s ≡ asStepped a after call [] → asStepped (r .answer) after (r .call) (take (r .shown) octets) ≡ s
+pub comes : (r : Outcome) (octets after : List ℕ) {a : Answer} {call : Call} {s : Effect} → r .answer ≡ a → r .call ≡ call → r .shown ≡ 0
+    → s ≡ asEffect a after call [] → asEffect (r .answer) after (r .call) (take (r .shown) octets) ≡ s
 comes r octets after p q z e = rw (p, q, z) (sym e)
 
 -- the frame is shown where the slot is done
-pub slot-comes : (r : Outcome) (book frame rest : List ℕ) {o : Answer × (Call × List ℕ)} {s : Stepped} → length frame ≡ frameOctets
+pub slot-comes : (r : Outcome) (book frame rest : List ℕ) {o : Answer × (Call × List ℕ)} {s : Effect} → length frame ≡ frameOctets
     → (r .answer, (r .call, frame)) ≡ o → r .shown ≡ pick (isDone (r .answer)) frameOctets 0
-    → s ≡ ofSlot book o → asStepped (r .answer) book (r .call) (take (r .shown) (frame ++ rest)) ≡ s
+    → s ≡ slotStep book o → asEffect (r .answer) book (r .call) (take (r .shown) (frame ++ rest)) ≡ s
 slot-comes r book frame rest l q z e = rw (e, ← q, z, go (isDone (r .answer)))
   where
     go : (b : Bool) → take (pick b frameOctets 0) (frame ++ rest) ≡ pick b frame []

@@ -13,7 +13,7 @@ use Rattle.text.specs.Parted.{tabOctet, lineEnd}
 use Rattle.text.specs.Decimal.{decimal}
 use Rattle.text.specs.Hex.{hexText}
 use Rattle.lines.specs.Record.{lineOf}
-use Rattle.records.specs.Step.{Stepped, stepOf}
+use Rattle.records.specs.Step.{Effect, stepOf}
 
 -- what stands for nothing
 abbrev pub dash : List ℕ
@@ -39,16 +39,16 @@ abbrev pub answerRoom : ℕ
 answerRoom = numberRoom + 1 + numberRoom + 1 + 2 * frameOctets + 1
 
 -- the book and the call
-pub record Receiver : Type 0 where
+pub record Recorder : Type 0 where
   pub book : List ℕ
   pub call : Call
 
-abbrev pub receiver : List ℕ → Call → Receiver
-receiver book call = record { book = book; call = call }
+abbrev pub recorder : List ℕ → Call → Recorder
+recorder book call = record { book = book; call = call }
 
 -- what a line of text comes to: its output line, the book and the call
-abbrev pub answeredBy : Stepped → List ℕ × Receiver
-answeredBy s = (answerLine (s .answer) (s .call) (s .frame), receiver (s .book) (s .call))
+abbrev pub answeredBy : Effect → List ℕ × Recorder
+answeredBy s = (answerLine (s .answer) (s .call) (s .frame), recorder (s .book) (s .call))
 
-unfoldable pub answered : List ℕ → Receiver → List ℕ × Receiver
+unfoldable pub answered : List ℕ → Recorder → List ℕ × Recorder
 answered line s = answeredBy (stepOf (lineOf line) (s .book) (s .call))

@@ -14,33 +14,33 @@ use Rattle.lines.specs.Record.{Record, Load, Open, Join, Voice, Announce, Lost,
 use Rattle.keybook.specs.Operations.{loadOf}
 
 -- an answer, the book and the call after it, and the frame afterwards where a voice slot was done, else none
-pub record Stepped : Type 0 where
+pub record Effect : Type 0 where
   pub answer : Answer
   pub book : List ℕ
   pub call : Call
   pub frame : List ℕ
 
 -- of an operation on the book, and of one on the call
-abbrev pub ofBook : Call → Answer × List ℕ → Stepped
-ofBook call o = record { answer = o .0; book = o .1; call = call; frame = [] }
+abbrev pub bookStep : Call → Answer × List ℕ → Effect
+bookStep call o = record { answer = o .0; book = o .1; call = call; frame = [] }
 
-abbrev pub ofCall : List ℕ → Answer × Call → Stepped
-ofCall book o = record { answer = o .0; book = book; call = o .1; frame = [] }
+abbrev pub callStep : List ℕ → Answer × Call → Effect
+callStep book o = record { answer = o .0; book = book; call = o .1; frame = [] }
 
 -- a slot shows its frame where it is done; a held one does not
-abbrev pub ofSlot : List ℕ → Answer × (Call × List ℕ) → Stepped
-ofSlot book o = record { answer = o .0; book = book; call = o .1 .0; frame = pick (isDone (o .0)) (o .1 .1) [] }
+abbrev pub slotStep : List ℕ → Answer × (Call × List ℕ) → Effect
+slotStep book o = record { answer = o .0; book = book; call = o .1 .0; frame = pick (isDone (o .0)) (o .1 .1) [] }
 
-unfoldable pub stepOf : Record → List ℕ → Call → Stepped
-stepOf (Load c i key) book call = ofBook call (loadOf book c i key)
-stepOf (Open c i vector) book call = ofCall book (openOf call c i vector book)
-stepOf (Join c i) book call = ofCall book (joinOf call c i book)
-stepOf (Voice mask frame) book call = ofSlot book (voiceOf call mask frame)
-stepOf (Announce vector) book call = ofCall book (announceOf call vector)
-stepOf Lost book call = ofCall book (lostOf call)
-stepOf End book call = ofCall book (endOf call)
-stepOf Malformed book call = ofCall book (answer.Malformed, call)
+unfoldable pub stepOf : Record → List ℕ → Call → Effect
+stepOf (Load c i key) book call = bookStep call (loadOf book c i key)
+stepOf (Open c i vector) book call = callStep book (openOf call c i vector book)
+stepOf (Join c i) book call = callStep book (joinOf call c i book)
+stepOf (Voice mask frame) book call = slotStep book (voiceOf call mask frame)
+stepOf (Announce vector) book call = callStep book (announceOf call vector)
+stepOf Lost book call = callStep book (lostOf call)
+stepOf End book call = callStep book (endOf call)
+stepOf Malformed book call = callStep book (answer.Malformed, call)
 
 -- as the code has it
-abbrev pub asStepped : Answer → List ℕ → Call → List ℕ → Stepped
-asStepped answer book call frame = record { answer = answer; book = book; call = call; frame = frame }
+abbrev pub asEffect : Answer → List ℕ → Call → List ℕ → Effect
+asEffect answer book call frame = record { answer = answer; book = book; call = call; frame = frame }

@@ -5,7 +5,7 @@ ghost use Prim.Native.Nat.{_≤_};
 ghost use lib.ListN.{length, take};
 ghost use Rattle.text.specs.Responded.{Responded};
 ghost use Rattle.records.specs.Lent.{Cached};
-ghost use Rattle.records.specs.Answered.{answerRoom, receiver};
+ghost use Rattle.records.specs.Answered.{answerRoom, recorder};
 ghost use Rattle.records.specs.Reader.{keptOctets, lineReader, reading, carried, started, takeFrom, takeOf, closeFrom, closeOf};
 use crate::respond::Response;
 use crate::respond::respond;
@@ -84,7 +84,7 @@ fn end_line(
     out: &mut [u8],
 ) -> Response
     requires { ⌜ (length (now kept) ≡ keptOctets) × (count ≤ keptOctets) × (answerRoom ≤ length (now out)) × Cached made call (now session) ⌝ }
-    ensures { λ r. ⌜ Responded lineReader (take count (now (kept .entry)) ++ now (octets .entry)) (receiver (now (book .entry)) call) (now (out .entry)) (r .length) (receiver (now (book .exit)) (r .call)) (now (out .exit)) ⌝ }
+    ensures { λ r. ⌜ Responded lineReader (take count (now (kept .entry)) ++ now (octets .entry)) (recorder (now (book .entry)) call) (now (out .entry)) (r .length) (recorder (now (book .exit)) (r .call)) (now (out .exit)) ⌝ }
     ensures { λ r. ⌜ Cached (r .made) (r .call) (now (session .exit)) ⌝ }
 {
     if count > 0 {

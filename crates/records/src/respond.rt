@@ -3,7 +3,7 @@ ghost use Prim.Native.Nat.{_≤_};
 ghost use lib.ListN.{length};
 ghost use Rattle.text.specs.Responded.{Responded};
 ghost use Rattle.records.specs.Lent.{Cached};
-ghost use Rattle.records.specs.Answered.{answerRoom, receiver};
+ghost use Rattle.records.specs.Answered.{answerRoom, recorder};
 ghost use Rattle.records.specs.Reader.{lineReader};
 use crate::output::put_answer;
 use crate::step::step;
@@ -28,7 +28,7 @@ pub fn respond(
     out: &mut [u8],
 ) -> Response
     requires { ⌜ (answerRoom ≤ length (now out)) × Cached made call (now session) ⌝ }
-    ensures { λ r. ⌜ Responded lineReader (now (line .entry)) (receiver (now (book .entry)) call) (now (out .entry)) (r .length) (receiver (now (book .exit)) (r .call)) (now (out .exit)) ⌝ }
+    ensures { λ r. ⌜ Responded lineReader (now (line .entry)) (recorder (now (book .entry)) call) (now (out .entry)) (r .length) (recorder (now (book .exit)) (r .call)) (now (out .exit)) ⌝ }
     ensures { λ r. ⌜ Cached (r .made) (r .call) (now (session .exit)) ⌝ }
 {
     let mut octets = [0; RECORD_ROOM];

@@ -9,8 +9,8 @@ ghost use Rattle.sizes.specs.Ciphers.{scrambles};
 ghost use Rattle.voice.specs.Call.{standing, knows};
 ghost use Rattle.sizes.specs.Frame.{frameOctets};
 ghost use Rattle.voice.specs.Slot.{lostOf, voiceOf};
-ghost use Rattle.lines.specs.Record.{recordRoom, recordIn, countIn};
-ghost use Rattle.records.specs.Step.{asStepped, stepOf};
+ghost use Rattle.lines.specs.Record.{recordRoom, recordIn, keyCount};
+ghost use Rattle.records.specs.Step.{asEffect, stepOf};
 ghost use Rattle.records.specs.Lent.{Cached};
 use answers::Answer;
 use keybook::load;
@@ -145,8 +145,8 @@ pub fn step(
     session: &mut [u8],
     made: bool,
 ) -> Outcome
-    requires { ⌜ (length (now octets) ≡ recordRoom) × (countIn parsed ≤ recordRoom) × Cached made call (now session) ⌝ }
-    ensures { λ r. ⌜ asStepped (r .answer) (now (book .exit)) (r .call) (take (r .shown) (now (octets .exit))) ≡ stepOf (recordIn parsed (now (octets .entry))) (now (book .entry)) call ⌝ }
+    requires { ⌜ (length (now octets) ≡ recordRoom) × (keyCount parsed ≤ recordRoom) × Cached made call (now session) ⌝ }
+    ensures { λ r. ⌜ asEffect (r .answer) (now (book .exit)) (r .call) (take (r .shown) (now (octets .exit))) ≡ stepOf (recordIn parsed (now (octets .entry))) (now (book .entry)) call ⌝ }
     ensures { λ r. ⌜ (r .shown ≤ frameOctets) × Cached (r .made) (r .call) (now (session .exit)) ⌝ }
 {
     match parsed {

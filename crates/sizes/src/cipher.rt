@@ -65,7 +65,7 @@ pub fn key_octets(cipher: u8) -> usize
     )
 }
 
-// A cipher type's block length in bits, or 0 where it is no block cipher.
+// A cipher type's block length in bits, or 0 where it is no block cipher: it holds the constants to the paper's numbers.
 pub fn block_bits(cipher: u8) -> usize
     ensures { λ r. ⌜ r ≡ blockBits cipher ⌝ }
 {

@@ -1,7 +1,7 @@
 // The sizes of a voice frame, and of the keystream of a slot and a session.
 use crate::cipher::Des;
 
-pub const WORDS: usize = 4;
+const WORDS: usize = 4;
 
 pub const WORD_OCTETS: usize = 7;
 

@@ -58,7 +58,7 @@ fn thirty_two(octets: &[u8]) -> [u8; 32]
     out
 }
 
-// The keystream of a session from its first bit on, tables and key schedule made anew. The key is 32 octets, its own first.
+// The keystream of a session from its first bit on, the key prepared anew. The key is 32 octets, its own first.
 #[no_mangle]
 pub extern "C" fn timed_session(cipher: u8, key: &[u8], vector: &[u8], out: &mut [u8]) {
     if cipher < 1 {

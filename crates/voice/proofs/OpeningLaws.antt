@@ -9,7 +9,7 @@ use Rattle.sizes.specs.Ciphers.{scrambles}
 use Rattle.answers.specs.declared.Answer.{Answer}
 use Rattle.answers.specs.declared.Answer.the-variants.{Done}
 use Rattle.answers.specs.Numbers.{isDone}
-use Rattle.openings.specs.Ladder.{sessionVector, keyOf, vectorKeyOf}
+use Rattle.openings.specs.Ladder.{sessionVector, openingKeyOf, vectorKeyOf}
 use Rattle.openings.proofs.BegunLaws.{Alike, both-bad, the-same, key-begun-refused, key-begun, vector-begun-refused, vector-begun}
 use Rattle.voice.specs.declared.call.Terms.{Terms}
 use Rattle.voice.specs.declared.call.Call.{Call}
@@ -37,7 +37,7 @@ module _ (call : Call) (good : Bool) (g : good ≡ goodCall call) (c i : ℕ) (b
   abbrev busy : Bool
   busy = not (eqb (call .end) closedEnd)
 
-  module _ (a : Answer) (key : List ℕ) (e : (a, key) ≡ keyOf true (not good) busy c i b) where
+  module _ (a : Answer) (key : List ℕ) (e : (a, key) ≡ openingKeyOf true (not good) busy c i b) where
     pub join-refused : isDone a ≡ false → (a, call) ≡ joinOf call c i b
     unfolding joinOf joinRefusals
     join-refused = key-begun-refused call (λ k. written (joined (termsOf c k))) true (not good) busy _ _ (call-alike call good g) c i b a key e
