@@ -90,13 +90,13 @@ unasked n (r ∷ rs) = pick (eqb (numberOf (r .1)) n) (unasked n rs) (r ∷ unas
 
 -- version one began to talk while the key loader was still sending: the openings of a call that are hasty do not ask whether the entry is ready
 module _ (isHasty : CallOperation → Bool) where
-  abbrev opened : List ℕ → Call → CallOperation → Call → Answer × (Call × List ℕ)
-  opened b c o after = withNone (outcome c (pick (isHasty o) (unasked (numberOf NotReady) (callRefusals b c o)) (callRefusals b c o)) after)
+  abbrev hastily : List ℕ → Call → CallOperation → Call → Answer × (Call × List ℕ)
+  hastily b c o after = withNone (outcome c (pick (isHasty o) (unasked (numberOf NotReady) (callRefusals b c o)) (callRefusals b c o)) after)
 
   abbrev pub hastyCall : List ℕ → Call → CallOperation → Answer × (Call × List ℕ)
-  hastyCall b c (Open cipher i w) = opened b c (Open cipher i w) (written (begun receivingEnd (termsOf cipher (keyFor b cipher i)) (sessionVector cipher w)))
-  hastyCall b c (Start cipher i w) = opened b c (Start cipher i w) (written (begun sendingEnd (termsOf cipher (keyFor b cipher i)) (sessionVector cipher w)))
-  hastyCall b c (Join cipher i) = opened b c (Join cipher i) (written (joined (termsOf cipher (keyFor b cipher i))))
+  hastyCall b c (Open cipher i w) = hastily b c (Open cipher i w) (written (begun receivingEnd (termsOf cipher (keyFor b cipher i)) (sessionVector cipher w)))
+  hastyCall b c (Start cipher i w) = hastily b c (Start cipher i w) (written (begun sendingEnd (termsOf cipher (keyFor b cipher i)) (sessionVector cipher w)))
+  hastyCall b c (Join cipher i) = hastily b c (Join cipher i) (written (joined (termsOf cipher (keyFor b cipher i))))
   hastyCall b c (Voice mask frame) = callStep b c (Voice mask frame)
   hastyCall b c Lost = callStep b c Lost
   hastyCall b c End = callStep b c End

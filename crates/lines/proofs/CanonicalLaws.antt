@@ -14,7 +14,7 @@ use Rattle.text.specs.Parted.{tabOctet, parted}
 use Rattle.text.specs.Decimal.{decimalValue, decimal}
 use Rattle.text.specs.Hex.{isHex, octetsIn, hexText}
 use Rattle.text.specs.Fields.{fieldAt}
-use Rattle.text.proofs.PartedLaws.{joined, joined-parted}
+use Rattle.text.proofs.PartedLaws.{rejoined, rejoined-parted}
 use Rattle.text.proofs.DecimalLaws.{decimal-back, decimal-most}
 use Rattle.text.proofs.HexLaws.{hex-size, hex-back, octets-hexOctets, length-hexOctets}
 use Rattle.sizes.specs.Ciphers.{keyRoom, vectorOctets}
@@ -55,7 +55,7 @@ module _ (field : List ℕ) (h : isNumber field ≡ true) where
 
 -- a line of a letter and fields
 abbrev lineWith : ℕ → List (List ℕ) → List ℕ
-lineWith x fs = joined tabOctet ((x ∷ []) ∷ fs)
+lineWith x fs = rejoined tabOctet ((x ∷ []) ∷ fs)
 
 -- ---- each kind of record, of as many fields as it has
 
@@ -167,12 +167,12 @@ letter-of x fs =
     (either x 0x49 fs _ _ (announce-of fs)
     (either x 0x4C fs _ _ (lost-of fs) (either x 0x45 fs _ _ (end-of fs) (λ n. absurd (n refl))))))))
 
-parts-of : (parts : List (List ℕ)) → (ofParts parts ≡ Malformed → ⊥) → Of (ofParts parts) (joined tabOctet parts)
+parts-of : (parts : List (List ℕ)) → (ofParts parts ≡ Malformed → ⊥) → Of (ofParts parts) (rejoined tabOctet parts)
 unfolding fieldAt
 parts-of [] n = absurd (n refl)
 parts-of (p ∷ fs) n = go p (eqb-true (length p) 1 (passed (eqb (length p) 1) (byLetter (getD p 0 0) fs) n)) n
   where
-    go : (p : List ℕ) → length p ≡ 1 → (ofParts (p ∷ fs) ≡ Malformed → ⊥) → Of (ofParts (p ∷ fs)) (joined tabOctet (p ∷ fs))
+    go : (p : List ℕ) → length p ≡ 1 → (ofParts (p ∷ fs) ≡ Malformed → ⊥) → Of (ofParts (p ∷ fs)) (rejoined tabOctet (p ∷ fs))
     go [] e n = absurd (omega arith)
     go (x ∷ []) e n = letter-of x fs n
     go (x ∷ y ∷ p) e n = absurd (omega arith)
@@ -183,7 +183,7 @@ line-of line = go (ltb lineOctets (length line))
   where
     go : (b : Bool) → (pick b Malformed (ofParts (parted tabOctet line)) ≡ Malformed → ⊥) → Of (pick b Malformed (ofParts (parted tabOctet line))) line
     go true n = absurd (n refl)
-    go false n = subst (λ (l : List ℕ). Of (ofParts (parted tabOctet line)) l) (joined-parted tabOctet line) (parts-of (parted tabOctet line) n)
+    go false n = subst (λ (l : List ℕ). Of (ofParts (parted tabOctet line)) l) (rejoined-parted tabOctet line) (parts-of (parted tabOctet line) n)
 
 -- only one line stands for a record
 pub canonical : (line : List ℕ) (r : Record) → lineOf line ≡ r → (r ≡ Malformed → ⊥) → printed r ≡ line

@@ -12,7 +12,7 @@ use Rattle.text.specs.Parted.{tabOctet}
 use Rattle.text.specs.Decimal.{decimal}
 use Rattle.text.specs.Hex.{isHex, hexOctets, octetsIn, hexText}
 use Rattle.text.specs.Fields.{fieldAt}
-use Rattle.text.proofs.PartedLaws.{Lacks, AllLack, joined, parted-joined}
+use Rattle.text.proofs.PartedLaws.{Lacks, AllLack, rejoined, parted-rejoined}
 use Rattle.text.proofs.DecimalLaws.{decimal-is, decimal-round, decimal-size, decimal-lacks}
 use Rattle.text.proofs.HexLaws.{length-hexText, hexText-hex, hex-round, hex-lacks}
 use Rattle.sizes.specs.Ciphers.{keyRoom, vectorOctets}
@@ -49,19 +49,19 @@ module _ (xs : List ℕ) where
 -- ---- a line and its parts
 
 -- a line that is not too long stands for what its parts say
-by-parts : (p : List ℕ) (ps : List (List ℕ)) → AllLack tabOctet (p ∷ ps) → length (joined tabOctet (p ∷ ps)) ≤ lineOctets → lineOf (joined tabOctet (p ∷ ps)) ≡ ofParts (p ∷ ps)
+by-parts : (p : List ℕ) (ps : List (List ℕ)) → AllLack tabOctet (p ∷ ps) → length (rejoined tabOctet (p ∷ ps)) ≤ lineOctets → lineOf (rejoined tabOctet (p ∷ ps)) ≡ ofParts (p ∷ ps)
 unfolding lineOf
-by-parts p ps h l = rw (le-ltb lineOctets (length (joined tabOctet (p ∷ ps))) l, parted-joined tabOctet p ps h)
+by-parts p ps h l = rw (le-ltb lineOctets (length (rejoined tabOctet (p ∷ ps))) l, parted-rejoined tabOctet p ps h)
 
 -- lengths of lines with one, two and three fields
 module _ (x : ℕ) (a : List ℕ) where
-  one-size : length (joined tabOctet ((x ∷ []) ∷ a ∷ [])) ≡ 2 + length a
+  one-size : length (rejoined tabOctet ((x ∷ []) ∷ a ∷ [])) ≡ 2 + length a
   one-size = omega arith
 
-  two-size : (b : List ℕ) → length (joined tabOctet ((x ∷ []) ∷ a ∷ b ∷ [])) ≡ 3 + length a + length b
+  two-size : (b : List ℕ) → length (rejoined tabOctet ((x ∷ []) ∷ a ∷ b ∷ [])) ≡ 3 + length a + length b
   two-size b = omega (arith, length-append a (tabOctet ∷ b))
 
-  three-size : (b c : List ℕ) → length (joined tabOctet ((x ∷ []) ∷ a ∷ b ∷ c ∷ [])) ≡ 4 + length a + length b + length c
+  three-size : (b c : List ℕ) → length (rejoined tabOctet ((x ∷ []) ∷ a ∷ b ∷ c ∷ [])) ≡ 4 + length a + length b + length c
   three-size b c = omega (arith, length-append a (tabOctet ∷ (b ++ (tabOctet ∷ c))), length-append b (tabOctet ∷ c))
 
 -- every fine record's line stands for it

@@ -4,7 +4,7 @@ pub mod KeyBits
 pub mod Period
 pub mod Polynomials
 pub mod NoShorterPeriod
-pub mod Runs
+pub mod AsNumber
 pub mod HeldBits
 pub mod MovedBits
 pub mod Examples

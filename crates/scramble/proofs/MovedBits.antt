@@ -9,10 +9,10 @@ use lib.Pow.{shr-shr}
 use Rattle.octets.specs.Lists.{iterate}
 use Rattle.octets.specs.Bits.{Bits}
 use Rattle.scramble.specs.Sequence.{keyNumber, P}
-use Rattle.scramble.specs.Held.{run, held, moved}
+use Rattle.scramble.specs.Held.{asNumber, held, moved}
 use Rattle.scramble.proofs.Recurrence.{P-bit, recurrence}
 use Rattle.scramble.proofs.KeyBits.{P-key}
-use Rattle.scramble.proofs.Runs.{run-lt, run-first, run-moved}
+use Rattle.scramble.proofs.AsNumber.{as-number-lt, as-number-first, as-number-moved}
 use Rattle.scramble.proofs.HeldBits.{held-later}
 
 moved-lt : (b : ℕ) → moved b < 2 ^ 15
@@ -29,7 +29,7 @@ unfolding iterate held
 held-moved key n zero = ap (held key) (sym (add-zero n))
 held-moved key n (suc k) =
     let e : n + k + 1 ≡ n + suc k = omega arith in
-    ap moved (held-moved key n k) ∙ run-moved (P key) (P-bit key) (recurrence key) (n + k) ∙ ap (held key) e
+    ap moved (held-moved key n k) ∙ as-number-moved (P key) (P-bit key) (recurrence key) (n + k) ∙ ap (held key) e
 
 -- the key whose bits are those of b, the first of them lowest
 module _ (b : ℕ) (small : b < 2 ^ 15) where
@@ -41,25 +41,25 @@ module _ (b : ℕ) (small : b < 2 ^ 15) where
   bitOf-lt i = omega arith
 
   number : ℕ
-  number = run bitOf 0 15
+  number = asNumber bitOf 0 15
 
   keyOf : List ℕ
   keyOf = number / 256 ∷ number % 256 ∷ []
 
   key-is : keyNumber keyOf ≡ number
   unfolding keyNumber keyOf number
-  key-is = omega (arith, run-lt bitOf bitOf-lt 0 15)
+  key-is = omega (arith, as-number-lt bitOf bitOf-lt 0 15)
 
   place-is : (i : ℕ) → i < 15 → P keyOf i ≡ bitOf (14 - i)
-  unfolding run number
+  unfolding asNumber number
   place-is i h =
       let e : suc (14 - i) ≡ 15 - i = omega arith in
       let f : 15 ≡ 15 - i + i = omega arith in
-      let top : number / 2 ^ i ≡ run bitOf 0 (suc (14 - i)) = ap (λ (k : ℕ). run bitOf 0 k / 2 ^ i) f ∙ run-first bitOf bitOf-lt 0 (15 - i) i ∙ ap (run bitOf 0) (sym e) in
+      let top : number / 2 ^ i ≡ asNumber bitOf 0 (suc (14 - i)) = ap (λ (k : ℕ). asNumber bitOf 0 k / 2 ^ i) f ∙ as-number-first bitOf bitOf-lt 0 (15 - i) i ∙ ap (asNumber bitOf 0) (sym e) in
       P-key keyOf i h ∙ ap (λ (x : ℕ). x / 2 ^ i % 2) key-is ∙ omega (arith, top, bitOf-lt (14 - i), ap bitOf (zero-add (14 - i)))
 
-  gathered : (j : ℕ) → j ≤ 15 → run (P keyOf) 0 j ≡ b / 2 ^ (15 - j)
-  unfolding run bitOf
+  gathered : (j : ℕ) → j ≤ 15 → asNumber (P keyOf) 0 j ≡ b / 2 ^ (15 - j)
+  unfolding asNumber bitOf
   gathered zero h = omega arith
   gathered (suc j) h =
       let e : 15 - j ≡ 14 - j + 1 = omega arith in

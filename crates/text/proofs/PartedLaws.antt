@@ -71,25 +71,25 @@ parted-some sep (x ∷ xs) e = go (eqb x sep) (parted sep xs) e
 -- ---- parts joined
 
 -- parts with the separator between them
-abbrev pub joined : ℕ → List (List ℕ) → List ℕ
-joined sep [] = []
-joined sep (p ∷ []) = p
-joined sep (p ∷ q ∷ ps) = p ++ (sep ∷ joined sep (q ∷ ps))
+abbrev pub rejoined : ℕ → List (List ℕ) → List ℕ
+rejoined sep [] = []
+rejoined sep (p ∷ []) = p
+rejoined sep (p ∷ q ∷ ps) = p ++ (sep ∷ rejoined sep (q ∷ ps))
 
 abbrev pub AllLack : ℕ → List (List ℕ) → Type 0
 AllLack sep [] = Unit {0}
 AllLack sep (p ∷ ps) = Lacks sep p × AllLack sep ps
 
-pub parted-joined : (sep : ℕ) (p : List ℕ) (ps : List (List ℕ)) → AllLack sep (p ∷ ps) → parted sep (joined sep (p ∷ ps)) ≡ p ∷ ps
-parted-joined sep p [] h = parted-none sep p (h .0)
-parted-joined sep p (q ∷ ps) h = parted-append sep p (joined sep (q ∷ ps)) (h .0) ∙ ap (λ (r : List (List ℕ)). p ∷ r) (parted-joined sep q ps (h .1))
+pub parted-rejoined : (sep : ℕ) (p : List ℕ) (ps : List (List ℕ)) → AllLack sep (p ∷ ps) → parted sep (rejoined sep (p ∷ ps)) ≡ p ∷ ps
+parted-rejoined sep p [] h = parted-none sep p (h .0)
+parted-rejoined sep p (q ∷ ps) h = parted-append sep p (rejoined sep (q ∷ ps)) (h .0) ∙ ap (λ (r : List (List ℕ)). p ∷ r) (parted-rejoined sep q ps (h .1))
 
-pub joined-parted : (sep : ℕ) (xs : List ℕ) → joined sep (parted sep xs) ≡ xs
+pub rejoined-parted : (sep : ℕ) (xs : List ℕ) → rejoined sep (parted sep xs) ≡ xs
 unfolding parted
-joined-parted sep [] = refl
-joined-parted sep (x ∷ xs) = go (eqb x sep) refl (parted sep xs) (parted-some sep xs) (joined-parted sep xs)
+rejoined-parted sep [] = refl
+rejoined-parted sep (x ∷ xs) = go (eqb x sep) refl (parted sep xs) (parted-some sep xs) (rejoined-parted sep xs)
   where
-    go : (b : Bool) → eqb x sep ≡ b → (ps : List (List ℕ)) → (ps ≡ [] → ⊥) → joined sep ps ≡ xs → joined sep (pick b ([] ∷ ps) (onto x ps)) ≡ x ∷ xs
+    go : (b : Bool) → eqb x sep ≡ b → (ps : List (List ℕ)) → (ps ≡ [] → ⊥) → rejoined sep ps ≡ xs → rejoined sep (pick b ([] ∷ ps) (onto x ps)) ≡ x ∷ xs
     go b e [] n h = absurd (n refl)
     go true e (p ∷ ps) n h = rw (eqb-true x sep e, h)
     go false e (p ∷ []) n h = ap (λ (r : List ℕ). x ∷ r) h
@@ -97,9 +97,9 @@ joined-parted sep (x ∷ xs) = go (eqb x sep) refl (parted sep xs) (parted-some 
 
 -- a text of one part is that part
 pub parted-one : (sep : ℕ) (xs : List ℕ) → length (parted sep xs) ≡ 1 → getD (parted sep xs) 0 [] ≡ xs
-parted-one sep xs = go (parted sep xs) (joined-parted sep xs)
+parted-one sep xs = go (parted sep xs) (rejoined-parted sep xs)
   where
-    go : (ps : List (List ℕ)) → joined sep ps ≡ xs → length ps ≡ 1 → getD ps 0 [] ≡ xs
+    go : (ps : List (List ℕ)) → rejoined sep ps ≡ xs → length ps ≡ 1 → getD ps 0 [] ≡ xs
     go [] e l = absurd (omega arith)
     go (p ∷ []) e l = e
     go (p ∷ q ∷ ps) e l = absurd (omega arith)
