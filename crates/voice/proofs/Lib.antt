@@ -10,4 +10,5 @@ pub mod Settled
 pub mod VoiceBits
 pub mod Exactly
 pub mod SessionOnce
+pub mod Fourteen
 pub mod Examples
