@@ -1,10 +1,11 @@
--- Document 01's number for each answer, in the order of its table and with its words for when it is given.
+-- Document 01's number for each answer, in the order of its table and with its words for when it is given. 14, a sender whose next vector would be all
+-- zero, is retired (W-208).
 use Prim.Native.Nat.{ℕ}
 use mathlib.Core.Bool.{Bool, false, _||_}
 use mathlib.Core.List.{List, [], _∷_}
 use lib.Dec.{eqb}
 use Rattle.answers.specs.declared.Answer.{Answer}
-use Rattle.answers.specs.declared.Answer.the-variants.{Done, Held, WrongLength, OutOfRange, Bad, NoEntry, NotReady, NotAllowed, ZeroVector, NotNow, BadMask, Already, Full, TooMany, NextZero, Malformed}
+use Rattle.answers.specs.declared.Answer.the-variants.{Done, Held, WrongLength, OutOfRange, Bad, NoEntry, NotReady, NotAllowed, ZeroVector, NotNow, BadMask, Already, Full, TooMany, Malformed}
 
 abbrev pub numberOf : Answer → ℕ
 -- done
@@ -35,8 +36,6 @@ numberOf Already = 11
 numberOf Full = 12
 -- add: the octets would run past the key's length
 numberOf TooMany = 13
--- sender: the next vector would be all zero
-numberOf NextZero = 14
 -- a text record is malformed (program only)
 numberOf Malformed = 15
 
@@ -52,4 +51,4 @@ isOneOf n (m ∷ ms) = eqb n m || isOneOf n ms
 
 -- those that an operation can give: 15 is the program's
 abbrev pub operationNumbers : List ℕ
-operationNumbers = 0 ∷ 1 ∷ 2 ∷ 3 ∷ 4 ∷ 5 ∷ 6 ∷ 7 ∷ 8 ∷ 9 ∷ 10 ∷ 11 ∷ 12 ∷ 13 ∷ 14 ∷ []
+operationNumbers = 0 ∷ 1 ∷ 2 ∷ 3 ∷ 4 ∷ 5 ∷ 6 ∷ 7 ∷ 8 ∷ 9 ∷ 10 ∷ 11 ∷ 12 ∷ 13 ∷ []

@@ -18,9 +18,9 @@ abbrev pub ofBook : List ℕ
 ofBook = 4 ∷ 5 ∷ 11 ∷ 6 ∷ 13 ∷ 7 ∷ 12 ∷ []
 
 abbrev pub ofZeros : List ℕ
-ofZeros = 8 ∷ 14 ∷ []
+ofZeros = 8 ∷ []
 
--- 2, then 3, 10, 4 for the call, 9, 4 for the book, 5, 11, 6, 13, 7, 12, 8, 14, each where the operation can give it
+-- 2, then 3, 10, 4 for the call, 9, 4 for the book, 5, 11, 6, 13, 7, 12, 8, each where the operation can give it
 abbrev pub refusalOrder : List ℕ
 refusalOrder = ofGiven ++ (ofCall ++ (ofBook ++ ofZeros))
 

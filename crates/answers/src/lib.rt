@@ -1,4 +1,4 @@
-// What an operation answers: one case for each row of document 01's table, in its order.
+// What an operation answers: one case for each row of document 01's table, in its order. 14 is retired (W-208).
 ghost use mathlib.Core.Path.{_≡_};
 ghost use Rattle.answers.specs.Numbers.{numberOf};
 
@@ -17,7 +17,6 @@ pub enum Answer {
     Already,
     Full,
     TooMany,
-    NextZero,
     Malformed,
 }
 
@@ -41,7 +40,6 @@ impl Answer {
             Answer::Already => 11,
             Answer::Full => 12,
             Answer::TooMany => 13,
-            Answer::NextZero => 14,
             Answer::Malformed => 15,
         }
     }

@@ -25,7 +25,7 @@ use Rattle.openings.specs.Samples.{seed, desABCD}
 use Rattle.voice.specs.declared.call.Call.{Call}
 use Rattle.voice.specs.Call.{vectorRight, closedTests, openTests, isClosed, isOpen, unknown, told, Standing, sending, receiving, standing, termsOf, noCall, written, stands, knows}
 use Rattle.voice.specs.Opening.{openRefusals, joinRefusals}
-use Rattle.voice.specs.Slot.{zeroAfter, zeroNext, voiceOf}
+use Rattle.voice.specs.Slot.{voiceOf}
 use Rattle.voice.specs.Vector.{announceRefusals}
 use Rattle.voice.proofs.SlotSteps.{voice-at}
 use Rattle.data.specs.Packet as packet
@@ -56,7 +56,7 @@ noisy-thrown-out meets =
     let d = having [] (λ n. listening) in
     let o = OfCall 0 (Voice 15 silence) in
     let e : numberOf (step d o .0) ≡ 1 =
-    ap (λ (r : Answer × (Call × List ℕ)). numberOf (r .0)) (voice-at listening 15 silence (omega arith) refl (receiving (termsOf 2 desABCD) 4 unknown) listens refl refl) in
+    ap (λ (r : Answer × (Call × List ℕ)). numberOf (r .0)) (voice-at listening 15 silence (omega arith) refl (receiving (termsOf 2 desABCD) 4 unknown) listens refl) in
     let u : pick (eqb (numberOf (step d o .0)) 1) noise (step d o .1 .1) ≡ silence = meets .untouched d o (λ z. omega arith) in
     let q : noise ≡ silence = rw e at u in
     let r = ap (λ (xs : List ℕ). getD xs 0 0) q in
@@ -70,7 +70,7 @@ filing-thrown-out meets =
     let d = having [] (λ n. listening) in
     let o = OfCall 0 (Voice 15 silence) in
     let e : numberOf (step d o .0) ≡ 1 =
-    ap (λ (r : Answer × (Call × List ℕ)). numberOf (r .0)) (voice-at listening 15 silence (omega arith) refl (receiving (termsOf 2 desABCD) 4 unknown) listens refl refl) in
+    ap (λ (r : Answer × (Call × List ℕ)). numberOf (r .0)) (voice-at listening 15 silence (omega arith) refl (receiving (termsOf 2 desABCD) 4 unknown) listens refl) in
     let z : numberOf (filing d o .0) ≡ 0 = rw e in
     meets .unopened d o (slot 0 15 silence refl refl) z
 
@@ -181,9 +181,9 @@ stand : (standing (written openedAes) ≡ openedAes) × (standing (written start
 unfolding standing isClosed closedTests isOpen openTests keyRight vectorRight keyAllowed scrambleKey allZero allBelow
 stand = (refl, refl, refl)
 
-turns : (s : Standing) → standing (written s) ≡ s → stands s ≡ true → zeroNext s ≡ false → knows s ≡ true → numberOf (voiceOf (written s) 15 silence .0) ≡ 0
-turns s e o z k =
-    ap (λ (r : Answer × (Call × List ℕ)). numberOf (r .0)) (voice-at (written s) 15 silence (omega arith) refl s e o z)
+turns : (s : Standing) → standing (written s) ≡ s → stands s ≡ true → knows s ≡ true → numberOf (voiceOf (written s) 15 silence .0) ≡ 0
+turns s e o k =
+    ap (λ (r : Answer × (Call × List ℕ)). numberOf (r .0)) (voice-at (written s) 15 silence (omega arith) refl s e o)
     ∙ ap (λ (t : Bool). numberOf (pick t Done Held)) k
 
 -- half a key of cipher c is added, a call is opened all the same, and its first slot is turned
@@ -217,16 +217,16 @@ module _ (isHasty : CallOperation → Bool) where
   unfolding openRefusals vectorRefusals keyRefusals zeroFor standing isClosed closedTests allZero allBelow firstBelow entry.inRange entry.isFor
       entry.entryRight entry.usedRight entry.readyRight entry.lacks rules.entryOf rules.findEntry rules.apart rules.goodBook
   hasty-open-thrown-out e =
-      half-key-fails 3 halfAes (books .0) (books .1) (Open 3 0 seed) (written openedAes) (rw e) (turns openedAes (stand .0) refl refl refl)
+      half-key-fails 3 halfAes (books .0) (books .1) (Open 3 0 seed) (written openedAes) (rw e) (turns openedAes (stand .0) refl refl)
 
   pub hasty-start-thrown-out : isHasty (Start 3 0 seed) ≡ true → Demand1 (hasty isHasty) → ⊥
   unfolding openRefusals vectorRefusals keyRefusals zeroFor standing isClosed closedTests allZero allBelow firstBelow entry.inRange entry.isFor
-      entry.entryRight entry.usedRight entry.readyRight entry.lacks rules.entryOf rules.findEntry rules.apart rules.goodBook zeroAfter
+      entry.entryRight entry.usedRight entry.readyRight entry.lacks rules.entryOf rules.findEntry rules.apart rules.goodBook
   hasty-start-thrown-out e =
-      half-key-fails 3 halfAes (books .0) (books .1) (Start 3 0 seed) (written startedAes) (rw e) (turns startedAes (stand .1) refl refl refl)
+      half-key-fails 3 halfAes (books .0) (books .1) (Start 3 0 seed) (written startedAes) (rw e) (turns startedAes (stand .1) refl refl)
 
   pub hasty-join-thrown-out : isHasty (Join 1 0) ≡ true → Demand1 (hasty isHasty) → ⊥
   unfolding joinRefusals keyRefusals standing isClosed closedTests allZero allBelow firstBelow entry.inRange entry.isFor entry.entryRight entry.usedRight
       entry.readyRight entry.lacks rules.entryOf rules.findEntry rules.apart rules.goodBook
   hasty-join-thrown-out e =
-      half-key-fails 1 halfScramble (books .2) (books .3) (Join 1 0) (written joinedScramble) (rw e) (turns joinedScramble (stand .2) refl refl refl)
+      half-key-fails 1 halfScramble (books .2) (books .3) (Join 1 0) (written joinedScramble) (rw e) (turns joinedScramble (stand .2) refl refl)

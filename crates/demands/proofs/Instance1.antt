@@ -108,7 +108,7 @@ pub word-done : numberOf (step (deviceAfter step opening-call) (OfCall 0 (Voice 
 unfolding step callStep
 word-done =
     ap (λ (c : Call). numberOf (voiceOf c 15 silence .0)) is-open
-    ∙ ap (λ (r : Answer × (Call × List ℕ)). numberOf (r .0)) (voice-at (written heard) 15 silence (omega arith) refl heard heard-stands refl refl)
+    ∙ ap (λ (r : Answer × (Call × List ℕ)). numberOf (r .0)) (voice-at (written heard) 15 silence (omega arith) refl heard heard-stands refl)
 
 pub word-turned : WordsTurned (history step opening-call) 0 (deviceAfter step opening-call .calls 0) 15 silence (step (deviceAfter step opening-call) (OfCall 0 (Voice 15 silence)) .1 .1)
 word-turned = ours-meets-1 .words opening-call 0 15 silence word-done

@@ -48,7 +48,7 @@ scrambling-stands = refl
 pub example-2 : voiceOf (scrambling 0) 3 (replicate frameOctets 0) ≡ (Done, (scrambling 1, frame8001))
 unfolding slotOn
 example-2 =
-    voice-at (scrambling 0) 3 (replicate frameOctets 0) (omega arith) refl (receiving (termsOf 1 scramble0001) 0 (told noVector)) scrambling-stands refl refl
+    voice-at (scrambling 0) 3 (replicate frameOctets 0) (omega arith) refl (receiving (termsOf 1 scramble0001) 0 (told noVector)) scrambling-stands refl
     ∙ ap (λ (f : List ℕ). (Done, (scrambling 1, f))) frame-turned
 
 waiting-stands : (p : ℕ) → p < 8 → standing (waiting p) ≡ receiving (termsOf 2 desABCD) p unknown
@@ -57,7 +57,7 @@ waiting-stands p h = rw (lt-ltb _ _ h)
 
 pub held-on : (p : ℕ) → p < 8 → (mask : ℕ) (frame : List ℕ) → mask ≤ topMask → length frame ≡ frameOctets
     → voiceOf (waiting p) mask frame ≡ (Held, (written (slotOn (receiving (termsOf 2 desABCD) p unknown)), frame))
-held-on p h mask frame m l = voice-at (waiting p) mask frame m l (receiving (termsOf 2 desABCD) p unknown) (waiting-stands p h) refl refl
+held-on p h mask frame m l = voice-at (waiting p) mask frame m l (receiving (termsOf 2 desABCD) p unknown) (waiting-stands p h) refl
 
 pub after-four : (w : List ℕ) → length w ≡ vectorOctets → allZero w ≡ false → announceOf (waiting 0) w ≡ (Done, written (receiving (termsOf 2 desABCD) 0 (told w)))
 unfolding announceOf announceRefusals

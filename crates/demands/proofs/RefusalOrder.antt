@@ -90,5 +90,5 @@ module _ (c i : ℕ) (b : List ℕ) (long : length b ≡ 576) (in-range : inRang
 -- an opening that asks whether a call stands before whether it is bad, or for a good book before whether a call stands; and a slot that asks so
 pub wrong-orders : (inOrder refusalOrder (2 ∷ 2 ∷ 3 ∷ 9 ∷ 4 ∷ 4 ∷ 5 ∷ 6 ∷ 8 ∷ []) ≡ false)
     × (inOrder refusalOrder (2 ∷ 2 ∷ 3 ∷ 4 ∷ 4 ∷ 9 ∷ 5 ∷ 6 ∷ 8 ∷ []) ≡ false)
-    × (inOrder withoutBook (2 ∷ 10 ∷ 9 ∷ 4 ∷ 14 ∷ []) ≡ false)
+    × (inOrder withoutBook (2 ∷ 10 ∷ 9 ∷ 4 ∷ []) ≡ false)
 wrong-orders = (refl, refl, refl)

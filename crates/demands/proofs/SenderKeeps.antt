@@ -9,15 +9,13 @@ use native.Mathlib.Omega.{arith}
 use lib.Dec.{ltb}
 use lib.ListN.{length}
 use borrow.Author.Tests.{eq-eqb, le-ltb, lt-ltb}
-use Rattle.octets.proofs.Zeros.{zeros-octets}
 use Rattle.generator.proofs.NotZero.{next-not-zero}
 use Rattle.generator.proofs.OwnNext.{own-next-zero}
 use Rattle.octets.specs.Tests.{pick}
 use Rattle.octets.specs.Bits.{Octets}
 use Rattle.octets.specs.Lists.{allZero, Each}
-use Rattle.octets.proofs.TestLaws.{and-false-r}
-use Rattle.generator.specs.Generator.{nextVector}
-use Rattle.generator.proofs.VectorLaws.{length-nextVector, octets-nextVector}
+use Rattle.generator.specs.Generator.{IsVector, nextVector}
+use Rattle.generator.proofs.VectorLaws.{next-is-vector}
 use Rattle.sizes.specs.Ciphers.{keyOctets, sessionSlots, noVector, scrambles}
 use Rattle.ciphers.specs.Keystream.{stream}
 use Rattle.answers.specs.declared.Answer.{Answer}
@@ -29,11 +27,12 @@ use Rattle.voice.specs.Frame.{ofSlot, protect}
 use Rattle.openings.specs.Ladder.{sessionVector, keyFor, keyRefusals, vectorRefusals}
 use Rattle.voice.specs.Call.{vectorRight, sending, standing, termsOf, noCall, written}
 use Rattle.voice.specs.Opening.{openRefusals, startOf}
-use Rattle.voice.specs.Slot.{goingOn, slotOn, zeroAfter, voiceOf}
+use Rattle.voice.specs.Slot.{goingOn, slotOn, streamOf, voiceOf}
 use Rattle.voice.specs.Vector.{nextRefusals, nextVectorOf}
 use Rattle.voice.proofs.FrameLaws.{protect-same, protect-frame}
 use Rattle.sizes.proofs.SizeLaws.{no-vector-zero}
 use Rattle.voice.proofs.GoodLaws.{sentRight, good-sender, read-written}
+use Rattle.voice.proofs.NeverZero.{Sends, no-vector, voice-sends, sends-some}
 use Rattle.voice.proofs.SlotSteps.{voice-at}
 use Rattle.demands.specs.Talk.{Slot, Session, SlotKept, SlotsKept, VectorKept, SessionKept, Full, slotCounts, Kept, HasKey, WayIn}
 use Rattle.demands.specs.Log.{talkLog}
@@ -45,22 +44,21 @@ use Rattle.demands.proofs.ReceiverMeets.{ours-meets-3}
 
 -- a sender's vector: the generator makes no zeros of one that isn't
 pub record Sound (c : ℕ) (v : List ℕ) : Type 0 where
-  pub long : length v ≡ 8
+  pub vector : IsVector v
   pub zeros : allZero v ≡ scrambles c
-  pub octets : Octets v
 
 sound-kept : (c : ℕ) (v : List ℕ) → Sound c v → VectorKept c v
-sound-kept c v s = record { long = s .long; some = λ e. s .zeros ∙ e }
+sound-kept c v s = record { long = s .vector .long; some = λ e. s .zeros ∙ e }
 
 no-vector-sound : (c : ℕ) → scrambles c ≡ true → Sound c noVector
-no-vector-sound c e = record { long = refl; zeros = no-vector-zero ∙ sym e; octets = zeros-octets 8 }
+no-vector-sound c e = record { vector = no-vector; zeros = no-vector-zero ∙ sym e }
 
 starts-sound : (c : ℕ) (v : List ℕ) → VectorKept c v → Octets v → Sound c (sessionVector c v)
 starts-sound c v s o = go (scrambles c) refl
   where
     go : (t : Bool) → scrambles c ≡ t → Sound c (pick t noVector v)
     go true e = no-vector-sound c e
-    go false e = record { long = s .long; zeros = s .some e ∙ sym e; octets = o }
+    go false e = record { vector = record { long = s .long; octets = o }; zeros = s .some e ∙ sym e }
 
 going-sound : (c : ℕ) (v : List ℕ) → Sound c v → Sound c (goingOn c v)
 unfolding goingOn
@@ -68,23 +66,7 @@ going-sound c v s = go (scrambles c) refl
   where
     go : (t : Bool) → scrambles c ≡ t → Sound c (pick t noVector (nextVector v))
     go true e = no-vector-sound c e
-    go false e =
-        record {
-          long = length-nextVector v;
-          zeros = next-not-zero v (s .long) (s .octets) (s .zeros ∙ e) ∙ sym e;
-          octets = octets-nextVector v;
-        }
-
--- the next vector is no zeros, so 14 is not given
-not-zero-after : (c p : ℕ) (v : List ℕ) → Sound c (goingOn c v) → zeroAfter c p v ≡ false
-unfolding zeroAfter goingOn
-not-zero-after c p v k = go (scrambles c) refl
-  where
-    go : (t : Bool) → scrambles c ≡ t → zeroAfter c p v ≡ false
-    go true e = rw e
-    go false e =
-        let z : allZero (nextVector v) ≡ false = rw e at (k .zeros) in
-        rw (e, z, and-false-r)
+    go false e = record { vector = next-is-vector v; zeros = next-not-zero v (s .vector) (s .zeros ∙ e) ∙ sym e }
 
 -- the vector that is gone on with is the next one's
 going-next : (c : ℕ) (v : List ℕ) → goingOn c (sessionVector c v) ≡ sessionVector c (nextVector v)
@@ -139,7 +121,6 @@ module _ (b : List ℕ) (c i : ℕ) (key : List ℕ) (h : HasKey b c i key) (lon
     unfolding slotOn
     spot-voice p l x s =
         voice-at (spot v p) (x .mask) (x .spoken) (s .mask) (s .frame .long) (sending t p v) (spot-read v sound p l) refl
-        (not-zero-after c p v (going-sound c v sound))
 
     abbrev made : ℕ → Said → List ℕ → Slot
     made p x f = record { mask = x .mask; spoken = x .spoken; sent = f; arrived = x .arrives }
@@ -210,9 +191,8 @@ module _ (b : List ℕ) (c i : ℕ) (key : List ℕ) (h : HasKey b c i key) (lon
       → nextVectorOf (written (sending t p v)) lent ≡ (Done, afterwards (from v) (x .slots) .vector)
   unfolding nextVectorOf nextRefusals goingOn
   next-announced v a e p l lent h8 x f s =
-      let z : allZero (nextVector v) ≡ false = rw e at (going-sound c v a .zeros) in
       let g : goingOn c v ≡ nextVector v = rw e in
-      rw (sym (spot-in v p l), spot-read v a p l, eq-eqb _ _ h8, e, z)
+      rw (sym (spot-in v p l), spot-read v a p l, eq-eqb _ _ h8, e)
       (ap (λ (w : List ℕ). (Done, w)) (sym g) ∙ ap (λ (d : Call). (Done, d .vector)) (sym (session-after v a x f s)))
 
   -- ---- from the start
@@ -236,13 +216,32 @@ module _ (b : List ℕ) (c i : ℕ) (key : List ℕ) (h : HasKey b c i key) (lon
       let e = ap (λ (r : Answer × Call). r .1) (started-at v s) in
       rw e (sessions-follow v (starts-sound c v s o) said (a .each) (a .full))
 
+  sends-ever : (s : Call) → Sends t s → (xs : List Said) → Sends t (afterwards s xs)
+  sends-ever s a [] = a
+  sends-ever s a (x ∷ xs) = sends-ever (voiceOf s (x .mask) (x .spoken) .1 .0) (voice-sends t s a streamOf (x .mask) (x .spoken)) xs
+
+  -- with DES or AES our sender's vector is never zeros, whatever slots it was given, done or refused
+  pub ours-never-zero : (v : List ℕ) → VectorKept c v → Octets v → scrambles c ≡ false → (said : List Said)
+      → allZero (afterwards (startOf noCall c i v b .1) said .vector) ≡ false
+  ours-never-zero v s o e said =
+      let w = sessionVector c v in
+      let sound = starts-sound c v s o in
+      let first : Sends t (from w) =
+      record {
+        good = good-sender t 0 (has-key-right b c i key h) some w (right-vector w sound);
+        end = refl;
+        terms = refl;
+        vector = sound .vector;
+      } in
+      rw (started-at v s) (sends-some t (afterwards (from w) said) (sends-ever (from w) first said) e)
+
   -- with DES or AES no vector is its own next, so a sender that uses one vector for every session is not ours
   pub one-vector-not-ours : (v : List ℕ) → VectorKept c v → Octets v → scrambles c ≡ false → (said : List Saying) → AllSaid c said
       → (x y : Session) (zs : List Session) → talkMade c key i v b said .sessions ≡ x ∷ y ∷ zs → x .vector ≡ y .vector → ⊥
   one-vector-not-ours v s o e said a x y zs made same =
       let f : Follows c v (x ∷ y ∷ zs) = rw made at (ours-follows v s o said a) in
       let at : (u : List ℕ) → sessionVector c u ≡ u = λ u. ap (λ (t : Bool). pick t noVector u) e in
-      let zeros = own-next-zero v (s .long) o (sym (at (nextVector v)) ∙ sym (f .1 .0) ∙ sym same ∙ f .0 ∙ at v) in
+      let zeros = own-next-zero v (record { long = s .long; octets = o }) (sym (at (nextVector v)) ∙ sym (f .1 .0) ∙ sym same ∙ f .0 ∙ at v) in
       true≢false (sym no-vector-zero ∙ sym (ap allZero zeros) ∙ s .some e)
 
   -- our sender to our receiver, whose book has the key under an ID of its own

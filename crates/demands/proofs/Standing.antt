@@ -109,11 +109,11 @@ module _ (t : Terms) (k : Known) where
         → voiceOf s mask frame
         ≡ (pick (isKnown k) Done Held, (written (place t k (p + 1)), pick (isKnown k) (inSlot streamOf mask frame (written (receiving t p k))) frame))
     unfolding slotOn
-    place-voice mask frame m f = voice-at s mask frame m f (receiving t p k) (e ∙ place-in p l) refl refl
+    place-voice mask frame m f = voice-at s mask frame m f (receiving t p k) (e ∙ place-in p l) refl
 
     pub place-on : standing (written (place t k (p + 1))) ≡ place t k (p + 1)
     unfolding slotOn
-    place-on = slot-stands s (e ∙ place-in p l) refl refl
+    place-on = slot-stands s (e ∙ place-in p l)
 
 module _ (b : List ℕ) (c i : ℕ) (key : List ℕ) (h : HasKey b c i key) where
   abbrev t : Terms

@@ -107,7 +107,7 @@ module _ (voice : OnSlot) (send : OnMessage) where
         opened : numberOf (voiceOf last 15 silence .0) ≡ 0
         opened =
             ap (λ (a : Answer × (Call × List ℕ)). numberOf (a .0))
-            (voice-at last 15 silence (omega arith) refl at-last last-stands refl refl)
+            (voice-at last 15 silence (omega arith) refl at-last last-stands refl)
 
 -- ---- two of them
 

@@ -5,13 +5,13 @@ use mathlib.Core.List.{List}
 use Prim.Native.Nat.{ℕ, zero, suc, _-_, _<_}
 use native.Mathlib.Decide.{decLt}
 use native.Mathlib.Omega.{arith}
-use lib.ListN.{length, replicate}
+use lib.ListN.{replicate}
 use Rattle.octets.specs.Lists.{allZero, iterate}
-use Rattle.octets.specs.Bits.{bit, octetsFrom, Bits, Octets}
+use Rattle.octets.specs.Bits.{bit, octetsFrom, Bits}
 use Rattle.octets.proofs.BitLaws.{bit-octetsFrom, length-octetsFrom, octets-ext}
 use Rattle.octets.proofs.ListLaws.{zeros-are}
 use Rattle.octets.proofs.Zeros.{zeros-all, zeros-octets, zeros-bit}
-use Rattle.generator.specs.Generator.{filled, announced, shifted, nextVector}
+use Rattle.generator.specs.Generator.{IsVector, filled, announced, shifted, nextVector}
 use Rattle.generator.proofs.VectorLaws.{bits-filled, bits-iterate}
 
 abbrev pub NoStage : (ℕ → ℕ) → Type 0
@@ -43,21 +43,21 @@ announced-zero b h z i l =
     ∙ ap (λ (xs : List ℕ). bit xs (63 - i)) (zeros-are (octetsFrom 8 (λ k. b (63 - k))) 8 (length-octetsFrom 8 (λ k. b (63 - k))) z)
     ∙ zeros-bit 8 (63 - i))
 
-pub filled-zero : (s : List ℕ) → length s ≡ 8 → Octets s → NoStage (filled s) → s ≡ replicate 8 0
+pub filled-zero : (s : List ℕ) → IsVector s → NoStage (filled s) → s ≡ replicate 8 0
 unfolding filled
-filled-zero s l o z =
-    octets-ext s (replicate 8 0) o (zeros-octets 8) l
+filled-zero s v z =
+    octets-ext s (replicate 8 0) (v .octets) (zeros-octets 8) (v .long)
     (λ k h.
     let e : 63 - (63 - k) ≡ k = omega arith in
     (rw e at (z (63 - k) (omega arith))) ∙ sym (zeros-bit 8 k))
 
-pub next-not-zero : (s : List ℕ) → length s ≡ 8 → Octets s → allZero s ≡ false → allZero (nextVector s) ≡ false
+pub next-not-zero : (s : List ℕ) → IsVector s → allZero s ≡ false → allZero (nextVector s) ≡ false
 unfolding nextVector
-next-not-zero s l o n = go (allZero (nextVector s)) refl
+next-not-zero s v n = go (allZero (nextVector s)) refl
   where
     go : (t : Bool) → allZero (nextVector s) ≡ t → t ≡ false
     go false e = refl
     go true e =
         let register = announced-zero (iterate shifted 64 (filled s)) (bits-iterate 64 (filled s) (bits-filled s)) e in
-        let zeros = filled-zero s l o (shifts-back 64 (filled s) (bits-filled s) register) in
+        let zeros = filled-zero s v (shifts-back 64 (filled s) (bits-filled s) register) in
         sym (ap allZero zeros ∙ zeros-all 8) ∙ n

@@ -5,11 +5,11 @@ use Prim.Native.Nat.{ℕ, zero, suc, _+_, _-_, _*_, _%_, _<_}
 use native.Mathlib.Nat.{add-zero, add-suc}
 use native.Mathlib.Decide.{decLt}
 use native.Mathlib.Omega.{arith}
-use lib.ListN.{length, replicate}
+use lib.ListN.{replicate}
 use Rattle.octets.specs.Lists.{iterate}
-use Rattle.octets.specs.Bits.{bit, Octets}
+use Rattle.octets.specs.Bits.{bit}
 use Rattle.octets.proofs.BitLaws.{bit-octetsFrom}
-use Rattle.generator.specs.Generator.{filled, announced, shifted, nextVector}
+use Rattle.generator.specs.Generator.{IsVector, filled, announced, shifted, nextVector}
 use Rattle.generator.proofs.VectorLaws.{bits-filled, bits-iterate}
 use Rattle.generator.proofs.NotZero.{NoStage, filled-zero}
 
@@ -141,9 +141,9 @@ module _ (b : ℕ → ℕ) where
     none-in : NoStage b
     none-in i l = let e : 63 - (63 - i) ≡ i = omega arith in rw e at (sym (first (63 - i) (omega arith)) ∙ none-out (63 - i))
 
-pub own-next-zero : (v : List ℕ) → length v ≡ 8 → Octets v → nextVector v ≡ v → v ≡ replicate 8 0
+pub own-next-zero : (v : List ℕ) → IsVector v → nextVector v ≡ v → v ≡ replicate 8 0
 unfolding nextVector announced filled
-own-next-zero v l o e = filled-zero v l o (none-in (filled v) own)
+own-next-zero v i e = filled-zero v i (none-in (filled v) own)
   where
     own : (i : ℕ) → i < 64 → iterate shifted 64 (filled v) i ≡ filled v i
     own i h =

@@ -7,7 +7,7 @@ use lib.ListN.{length, length-append}
 use Rattle.octets.specs.Lists.{iterate}
 use Rattle.octets.specs.Bits.{Bits, Octets}
 use Rattle.octets.proofs.BitLaws.{bit-lt, length-octetsFrom, octets-octetsFrom, octets-append}
-use Rattle.generator.specs.Generator.{filled, announced, shifted, nextVector, aesVector}
+use Rattle.generator.specs.Generator.{IsVector, filled, announced, shifted, nextVector, aesVector}
 
 pub bits-filled : (s : List ℕ) → Bits (filled s)
 unfolding filled
@@ -28,18 +28,16 @@ unfolding announced
 octets-announced b h = octets-octetsFrom 8 (λ k. b (63 - k)) (λ k. h (63 - k))
 
 module _ (s : List ℕ) where
-  pub length-nextVector : length (nextVector s) ≡ 8
+  pub next-is-vector : IsVector (nextVector s)
   unfolding nextVector
-  length-nextVector = length-announced (iterate shifted 64 (filled s))
-
-  pub octets-nextVector : Octets (nextVector s)
-  unfolding nextVector
-  octets-nextVector = octets-announced (iterate shifted 64 (filled s)) (bits-iterate 64 (filled s) (bits-filled s))
+  next-is-vector =
+      let register = iterate shifted 64 (filled s) in
+      record { long = length-announced register; octets = octets-announced register (bits-iterate 64 (filled s) (bits-filled s)) }
 
   pub length-aesVector : length s ≡ 8 → length (aesVector s) ≡ 16
   unfolding aesVector
-  length-aesVector h = length-append s (nextVector s) ∙ omega (arith, length-nextVector)
+  length-aesVector h = length-append s (nextVector s) ∙ omega (arith, next-is-vector .long)
 
   pub octets-aesVector : Octets s → Octets (aesVector s)
   unfolding aesVector
-  octets-aesVector h = octets-append s (nextVector s) h octets-nextVector
+  octets-aesVector h = octets-append s (nextVector s) h (next-is-vector .octets)

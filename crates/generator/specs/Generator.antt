@@ -1,9 +1,16 @@
 -- The vector generator (001, 5.3.2.2, 5.3.3.2 and figure 5.4-1): a register of 64 stages, b63 to b0. A register is a function from a
 -- stage's number to its bit.
+use mathlib.Core.Path.{_≡_}
 use mathlib.Core.List.{List, _++_}
 use Prim.Native.Nat.{ℕ, zero, suc, _+_, _-_, _%_}
+use lib.ListN.{length}
 use Rattle.octets.specs.Lists.{iterate}
-use Rattle.octets.specs.Bits.{bit, octetsFrom}
+use Rattle.octets.specs.Bits.{bit, octetsFrom, Octets}
+
+-- a vector, as it is announced: eight octets
+pub record IsVector (v : List ℕ) : Type 0 where
+  pub long : length v ≡ 8
+  pub octets : Octets v
 
 -- the register that holds announced octets: b63 comes first
 unfoldable pub filled : List ℕ → ℕ → ℕ

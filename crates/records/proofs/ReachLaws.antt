@@ -23,9 +23,9 @@ use Rattle.voice.specs.declared.call.Call.{Call}
 use Rattle.voice.specs.Call.{standing, isBad, stands, knows, endRefusals, endOf}
 use Rattle.voice.specs.Opening.{joinRefusals, openRefusals, begun, openOf, joinOf}
 use Rattle.sizes.specs.Frame.{frameOctets}
-use Rattle.voice.specs.Slot.{lostRefusals, lostOf, zeroNext, voiceRefusals, streamOf, voiceAfter, voiceBy, voiceOf}
+use Rattle.voice.specs.Slot.{lostRefusals, lostOf, voiceRefusals, streamOf, voiceAfter, voiceBy, voiceOf}
 use Rattle.voice.specs.Vector.{announceRefusals, announceOf}
-use Rattle.voice.proofs.CallLaws.{not-bad, unless-sender}
+use Rattle.voice.proofs.CallLaws.{not-bad}
 use Rattle.voice.proofs.SlotLaws.{taken-under-two}
 use Rattle.lines.specs.Record.{Record, Load, Open, Join, Voice, Announce, Lost, End, Malformed, lineOf}
 use Rattle.lines.proofs.CanonicalLaws.{read-fine}
@@ -128,11 +128,7 @@ module _ (book : List ℕ) (call : Call) (s : Sound book call) where
           λ h. refl,
           λ _. (
             good-stays,
-            λ _. (
-              λ h. refl,
-              λ _.
-                  (never (unless-sender call (s .call-good) zeroNext refl (λ t p k. refl) (s .no-sender)), λ _. tt),
-            ),
+            λ _. (λ h. refl, λ _. tt),
           ),
         ),
       )

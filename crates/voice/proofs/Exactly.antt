@@ -21,22 +21,21 @@ use Rattle.voice.specs.declared.call.Call.{Call}
 use Rattle.sizes.specs.Frame.{frameOctets}
 use Rattle.voice.specs.Call.{closedEnd, sendingEnd, receivingEnd, unknownVector, goodCall, standing, termsOf, written, isBad, stands}
 use Rattle.voice.specs.Opening.{joinRefusals, openRefusals, begun, begunOf, openOf, startOf, joined, joinOf}
-use Rattle.voice.specs.Slot.{topMask, zeroAfter, voiceRefusals, streamOf, voiceOf}
+use Rattle.voice.specs.Slot.{topMask, voiceRefusals, streamOf, voiceOf}
 use Rattle.voice.specs.Vector.{awaits, withVector, announceRefusals, announceOf}
 use Rattle.voice.proofs.CallLaws.{is-known, by-stands, good-by, not-bad, stands-some, is-receiver, knows-is}
-use Rattle.voice.proofs.SlotLaws.{zero-sender, none-long, none-good, none-open, taken-under-two, voice-taken, answer-taken}
+use Rattle.voice.proofs.SlotLaws.{none-long, none-good, none-open, taken-under-two, voice-taken, answer-taken}
 use Rattle.voice.proofs.VectorLaws.{announce-done}
 
 -- ---- a voice slot
 
--- a frame of 28 octets, a mask of at most 15, a good call that stands, whose vector is known or is not, and no sender that would go on with zeros
+-- a frame of 28 octets, a mask of at most 15, and a good call that stands, whose vector is known or is not
 pub record Takes (c : Call) (mask : ℕ) (frame : List ℕ) (known : Bool) : Type 0 where
   pub long : length frame ≡ frameOctets
   pub masked : mask ≤ topMask
   pub good : goodCall c ≡ true
   pub stands : c .end ≡ closedEnd → ⊥
   pub vector : not (eqb (c .known) unknownVector) ≡ known
-  pub goes-on : c .end ≡ sendingEnd → zeroAfter (c .terms .cipher) (c .position) (c .vector) ≡ false
 
 -- the number of a slot that is taken: 0 where the vector is known, else 1
 abbrev taken : Bool → ℕ
@@ -54,19 +53,17 @@ module _ (c : Call) (mask : ℕ) (frame : List ℕ) where
 
   answered : (b : Bool) → Takes c mask frame b → number ≡ taken b
   answered b t =
-      ap numberOf (sym (answer-taken c mask frame (t .long) (t .masked) (t .good) b (t .stands) (t .goes-on) (knows-is c (t .good) ∙ t .vector)))
+      ap numberOf (sym (answer-taken c mask frame (t .long) (t .masked) (t .good) b (t .stands) (knows-is c (t .good) ∙ t .vector)))
 
   takes : NoneHolds (voiceRefusals (standing c) mask frame) → Takes c mask frame (not (eqb (c .known) unknownVector))
   unfolding voiceRefusals
   takes n =
-      let good = none-good c mask frame n in
       record {
         long = none-long c mask frame n;
         masked = ltb-false _ _ (n .1 .0);
-        good = good;
+        good = none-good c mask frame n;
         stands = none-open c mask frame n;
         vector = refl;
-        goes-on = λ e. sym (zero-sender c good e) ∙ n .1 .1 .1 .1 .0;
       }
 
   exactly : (b : Bool) → (number ≡ taken b → Takes c mask frame b) × (Takes c mask frame b → number ≡ taken b)

@@ -1,6 +1,6 @@
 -- What is written is read back, and a good call stays good under every operation.
 use mathlib.Core.Path.{_≡_, refl, sym, ap, _∙_}
-use mathlib.Core.Bool.{Bool, true, false, not, and-true, or-true, true≢false}
+use mathlib.Core.Bool.{Bool, true, false, or-true, true≢false}
 use mathlib.Core.List.{List}
 use Prim.Native.Nat.{ℕ, _+_, _≤_, _<_}
 use native.Mathlib.Omega.{arith}
@@ -13,7 +13,8 @@ use Rattle.octets.specs.Lists.{allZero}
 use Rattle.octets.specs.Bits.{bit}
 use Rattle.octets.proofs.TestLaws.{and-left, every-at}
 use Rattle.sizes.specs.Ciphers.{sessionSlots, keyRoom, vectorOctets, noVector, scrambles}
-use Rattle.generator.specs.Generator.{nextVector}
+use Rattle.generator.specs.Generator.{IsVector, nextVector}
+use Rattle.generator.proofs.NotZero.{next-not-zero}
 use Rattle.answers.specs.declared.Answer.{Answer}
 use Rattle.answers.specs.declared.Answer.the-variants.{Done}
 use Rattle.answers.specs.Outcomes.{Refusals, settled}
@@ -22,7 +23,7 @@ use Rattle.voice.specs.declared.call.Terms.{Terms}
 use Rattle.voice.specs.declared.call.Call.{Call}
 use Rattle.ciphers.specs.Keys.{keyRight}
 use Rattle.voice.specs.Call.{sendingEnd, receivingEnd, toldVector, vectorRight, closedTests, openTests, isClosed, isOpen, goodCall, Known, unknown, told, knownNumber, knownVector, knownBy, untold, Standing, closed, bad, sending, receiving, standing, termsOf, callAt, noCall, written, isBad, receives, knows, endRefusals, endOf}
-use Rattle.voice.specs.Slot.{goingOn, slotOn, lostRefusals, lostOf, zeroAfter, zeroNext, voiceRefusals, streamOf, voiceAfter, voiceBy, voiceOf, voiceByOctets}
+use Rattle.voice.specs.Slot.{goingOn, slotOn, lostRefusals, lostOf, voiceRefusals, streamOf, voiceAfter, voiceBy, voiceOf, voiceByOctets}
 use Rattle.voice.specs.Vector.{awaits, withVector, announceRefusals, announceOf}
 use Rattle.sizes.proofs.SizeLaws.{no-vector-zero}
 use Rattle.voice.proofs.CallLaws.{by-known, known-back, receiver-is, open-place, open-key, open-vector, by-stands, good-by, is-sender, is-receiver, open-told, known-written}
@@ -100,14 +101,27 @@ known-right c known v h =
     by-known (λ n. vectorRight receivingEnd c n (allZero v) ≡ true → knownRight c (knownBy n v) ≡ true) c known (allZero v) h
     (λ z r. rw no-vector-zero (rw z at r)) (λ r. r) h
 
--- the vector with which a sender goes on
-going-right : (c p : ℕ) (v : List ℕ) → sessionSlots c ≤ p + 1 → zeroAfter c p v ≡ false → sentRight c (goingOn c v) ≡ true
-unfolding vectorRight goingOn zeroAfter
-going-right c p v last z = go (scrambles c) refl
+-- a sender's by the struct
+open-sent : (c : Call) → isOpen c ≡ true → c .end ≡ sendingEnd → sentRight (c .terms .cipher) (c .vector) ≡ true
+open-sent c o e = rw (e, open-told c o e) at (open-vector c o)
+
+-- scramble goes on with no vector
+pub scramble-right : (c : ℕ) (v : List ℕ) → scrambles c ≡ true → sentRight c (goingOn c v) ≡ true
+unfolding vectorRight goingOn
+scramble-right c v e = rw (e, no-vector-zero)
+
+-- a sender's vector that isn't zero is followed by one that isn't
+pub sent-some : (c : ℕ) (v : List ℕ) → IsVector v → sentRight c v ≡ true → scrambles c ≡ false → allZero (nextVector v) ≡ false
+unfolding vectorRight
+sent-some c v i right e = next-not-zero v i (not-true (allZero v) (rw e at right))
+
+going-right : (c : ℕ) (v : List ℕ) → IsVector v → sentRight c v ≡ true → sentRight c (goingOn c v) ≡ true
+unfolding vectorRight goingOn
+going-right c v i right = go (scrambles c) refl
   where
     go : (t : Bool) → scrambles c ≡ t → sentRight c (goingOn c v) ≡ true
-    go true e = rw (e, no-vector-zero)
-    go false e = rw e (ap not (sym (and-true (allZero (nextVector v))) ∙ rw (le-leb (sessionSlots c) (p + 1) last, e) at z))
+    go true e = scramble-right c v e
+    go false e = rw (e, sent-some c v i right e)
 
 module _ (t : Terms) (p : ℕ) (key : keyRight (t .cipher) (t .key) ≡ true) (place : p < sessionSlots (t .cipher)) where
   received-good : (k : Known) → knownRight (t .cipher) k ≡ true → goodCall (written (slotOn (receiving t p k))) ≡ true
@@ -118,27 +132,37 @@ module _ (t : Terms) (p : ℕ) (key : keyRight (t .cipher) (t .key) ≡ true) (p
       go true e = good-receiver t (p + 1) key (ltb-true _ _ e) k right
       go false e = good-receiver t 0 key (omega arith) (untold (t .cipher)) (untold-right (t .cipher))
 
-  sent-good : (v : List ℕ) → sentRight (t .cipher) v ≡ true → zeroAfter (t .cipher) p v ≡ false → goodCall (written (slotOn (sending t p v))) ≡ true
+  sent-good : (v : List ℕ) → sentRight (t .cipher) v ≡ true → (sessionSlots (t .cipher) ≤ p + 1 → sentRight (t .cipher) (goingOn (t .cipher) v) ≡ true)
+      → goodCall (written (slotOn (sending t p v))) ≡ true
   unfolding slotOn
-  sent-good v right z = go (ltb (p + 1) (sessionSlots (t .cipher))) refl
+  sent-good v right next = go (ltb (p + 1) (sessionSlots (t .cipher))) refl
     where
       go : (b : Bool) → ltb (p + 1) (sessionSlots (t .cipher)) ≡ b → goodCall (written (pick b (sending t (p + 1) v) (sending t 0 (goingOn (t .cipher) v)))) ≡ true
       go true e = good-sender t (p + 1) key (ltb-true _ _ e) v right
-      go false e = good-sender t 0 key (omega arith) (goingOn (t .cipher) v) (going-right (t .cipher) p v (ltb-false _ _ e) z)
+      go false e = good-sender t 0 key (omega arith) (goingOn (t .cipher) v) (next (ltb-false _ _ e))
 
 -- a vector that DES or AES is told
 announced-right : (c : ℕ) (w : List ℕ) → scrambles c ≡ false → knownRight c (told w) ≡ true
 unfolding vectorRight
 announced-right c w e = rw e
 
--- a good call one slot on, unless its sender would go on with zeros
-pub slot-good : (c : Call) → goodCall c ≡ true → zeroNext (standing c) ≡ false → goodCall (written (slotOn (standing c))) ≡ true
+module _ (c : Call) (good : goodCall c ≡ true) where
+  pub sender-right : c .end ≡ sendingEnd → sentRight (c .terms .cipher) (c .vector) ≡ true
+  sender-right z = by-stands c good (λ o e s. absurd (omega arith)) (λ o e s. open-sent c o e) (λ o e s. absurd (omega arith))
+
+  receiver-sends-none : receives (standing c) ≡ true → {A : Type 0} → c .end ≡ sendingEnd → A
+  receiver-sends-none r e = absurd (true≢false (sym r ∙ ap receives (is-sender c good e)))
+
+-- a good call one slot on, where its sender's next session would have a right vector
+pub slot-good-if : (c : Call) → goodCall c ≡ true
+    → (c .end ≡ sendingEnd → sessionSlots (c .terms .cipher) ≤ c .position + 1 → sentRight (c .terms .cipher) (goingOn (c .terms .cipher) (c .vector)) ≡ true)
+    → goodCall (written (slotOn (standing c))) ≡ true
 unfolding slotOn
-slot-good c good z =
+slot-good-if c good next =
     by-stands c good (λ o e s. on s closed-good)
     (λ o e s.
     on s
-    (sent-good (c .terms) (c .position) (open-key c o) (open-place c o) (c .vector) (rw (e, open-told c o e) at (open-vector c o)) (sym (ap zeroNext s) ∙ z)))
+    (sent-good (c .terms) (c .position) (open-key c o) (open-place c o) (c .vector) (open-sent c o e) (next e)))
     (λ o e s.
     on s
     (received-good (c .terms) (c .position) (open-key c o) (open-place c o) (knownBy (c .known) (c .vector))
@@ -147,23 +171,27 @@ slot-good c good z =
     on : {s : Standing} → standing c ≡ s → goodCall (written (slotOn s)) ≡ true → goodCall (written (slotOn (standing c))) ≡ true
     on s g = ap (λ (t : Standing). goodCall (written (slotOn t))) s ∙ g
 
+-- so a receiver stays good, and a sender whose vector is eight octets
+abbrev pub VectorSent : Call → Type 0
+VectorSent c = c .end ≡ sendingEnd → IsVector (c .vector)
+
+pub slot-good : (c : Call) → goodCall c ≡ true → VectorSent c → goodCall (written (slotOn (standing c))) ≡ true
+slot-good c good sent = slot-good-if c good (λ e l. going-right (c .terms .cipher) (c .vector) (sent e) (sender-right c good e))
+
 neither : (b : Bool) (x y : Standing) → isBad x ≡ false → isBad y ≡ false → isBad (pick b x y) ≡ false
 neither true x y p q = p
 neither false x y p q = q
 
-not-bad-on : (s : Standing) → isBad s ≡ false → isBad (slotOn s) ≡ false
+-- a receiver stands one slot on
+pub slot-stands : (c : Call) {t : Terms} {p : ℕ} {k : Known} → standing c ≡ receiving t p k → standing (written (slotOn (receiving t p k))) ≡ slotOn (receiving t p k)
 unfolding slotOn
-not-bad-on closed b = refl
-not-bad-on bad b = absurd (true≢false b)
-not-bad-on (sending t p v) b = neither (ltb (p + 1) (sessionSlots (t .cipher))) (sending t (p + 1) v) (sending t 0 (goingOn (t .cipher) v)) refl refl
-not-bad-on (receiving t p k) b =
-    neither (ltb (p + 1) (sessionSlots (t .cipher))) (receiving t (p + 1) k) (receiving t 0 (untold (t .cipher))) refl refl
-
--- it stands one slot on
-pub slot-stands : (c : Call) {s : Standing} → standing c ≡ s → isBad s ≡ false → zeroNext s ≡ false → standing (written (slotOn s)) ≡ slotOn s
-slot-stands c {s} e b z =
-    read-written (slotOn s) (not-bad-on s b)
-    (sym (ap (λ (u : Standing). goodCall (written (slotOn u))) e) ∙ slot-good c (good-by c (ap isBad e ∙ b)) (ap zeroNext e ∙ z))
+slot-stands c {t} {p} {k} e =
+    read-written (slotOn (receiving t p k))
+    (neither (ltb (p + 1) (sessionSlots (t .cipher))) (receiving t (p + 1) k) (receiving t 0 (untold (t .cipher))) refl refl)
+    (sym (ap (λ (u : Standing). goodCall (written (slotOn u))) e) ∙ slot-good c good (receiver-sends-none c good (ap receives e)))
+  where
+    good : goodCall c ≡ true
+    good = good-by c (ap isBad e)
 
 -- ---- the operations
 
@@ -171,12 +199,6 @@ slot-stands c {s} e b z =
 pub kept : {S : Type 0} (f : S → Call) (before : S) (rs : Refusals) (last : Answer × S) → goodCall (f before) ≡ true
     → (NoneHolds rs → goodCall (f (last .1)) ≡ true) → goodCall (f (settled before rs last .1)) ≡ true
 kept f before rs last good = by-refusals (λ o. goodCall (f (o .1)) ≡ true) before rs last (λ a m. good)
-
-pub receiver-not-zero : (s : Standing) → not (receives s) ≡ false → zeroNext s ≡ false
-receiver-not-zero closed e = refl
-receiver-not-zero bad e = refl
-receiver-not-zero (sending t p v) e = absurd (true≢false e)
-receiver-not-zero (receiving t p k) e = refl
 
 module _ (c : Call) (good : goodCall c ≡ true) where
   pub end-good : goodCall (endOf c .1) ≡ true
@@ -187,20 +209,21 @@ module _ (c : Call) (good : goodCall c ≡ true) where
   unfolding lostOf lostRefusals
   lost-good =
       kept (λ d. d) c (lostRefusals (standing c)) (Done, written (slotOn (standing c))) good
-      (λ n. slot-good c good (receiver-not-zero (standing c) (n .1 .0)))
+      (λ n. slot-good c good (receiver-sends-none c good (not-false _ (n .1 .0))))
 
-  pub voice-by-good : (st : Call → ℕ → ℕ) (mask : ℕ) (frame : List ℕ) → goodCall (voiceBy st c mask frame .1 .0) ≡ true
-  unfolding voiceBy voiceRefusals
-  voice-by-good st mask frame =
-      kept (λ (d : Call × List ℕ). d .0) (c, frame) (voiceRefusals (standing c) mask frame) (voiceAfter st mask frame (standing c)) good
-      (λ n. slot-good c good (n .1 .1 .1 .1 .0))
+  module _ (sent : VectorSent c) where
+    pub voice-by-good : (st : Call → ℕ → ℕ) (mask : ℕ) (frame : List ℕ) → goodCall (voiceBy st c mask frame .1 .0) ≡ true
+    unfolding voiceBy
+    voice-by-good st mask frame =
+        kept (λ (d : Call × List ℕ). d .0) (c, frame) (voiceRefusals (standing c) mask frame) (voiceAfter st mask frame (standing c)) good
+        (λ n. slot-good c good sent)
 
-  pub voice-by-octets-good : (session : List ℕ) (mask : ℕ) (frame : List ℕ) → goodCall (voiceByOctets session c mask frame .1 .0) ≡ true
-  voice-by-octets-good session mask frame =
-      by-lent session c mask frame (λ o. goodCall (o .1 .0) ≡ true) good (voice-by-good (λ d. bit session) mask frame)
+    pub voice-by-octets-good : (session : List ℕ) (mask : ℕ) (frame : List ℕ) → goodCall (voiceByOctets session c mask frame .1 .0) ≡ true
+    voice-by-octets-good session mask frame =
+        by-lent session c mask frame (λ o. goodCall (o .1 .0) ≡ true) good (voice-by-good (λ d. bit session) mask frame)
 
-  pub voice-good : (mask : ℕ) (frame : List ℕ) → goodCall (voiceOf c mask frame .1 .0) ≡ true
-  voice-good = voice-by-good streamOf
+    pub voice-good : (mask : ℕ) (frame : List ℕ) → goodCall (voiceOf c mask frame .1 .0) ≡ true
+    voice-good = voice-by-good streamOf
 
   pub announce-good : (w : List ℕ) → goodCall (announceOf c w .1) ≡ true
   unfolding announceOf announceRefusals

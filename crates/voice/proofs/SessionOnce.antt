@@ -7,6 +7,7 @@ use native.Mathlib.Nat.{zero-add}
 use native.Mathlib.Omega.{arith}
 use lib.Dec.{ltb}
 use lib.ListN.{length}
+use borrow.Author.Tests.{le-ltb}
 use Rattle.octets.specs.Tests.{pick}
 use Rattle.octets.specs.Bits.{bit, octetsFrom}
 use Rattle.octets.proofs.BitLaws.{bit-octetsFrom, length-octetsFrom, octetsFrom-same}
@@ -22,11 +23,11 @@ use Rattle.voice.specs.declared.call.Call.{Call}
 use Rattle.sizes.specs.Frame.{slotBits, sessionBits}
 use Rattle.voice.specs.Frame.{ofSlot}
 use Rattle.voice.specs.Call.{goodCall, knownVector, knownBy, untold, Standing, sending, receiving, standing, written, isBad, knows}
-use Rattle.voice.specs.Slot.{goingOn, slotOn, lostRefusals, lostOf, zeroNext, voiceRefusals, streamOf, inSlot, voiceAfter, voiceBy, voiceOf, voiceByOctets, sessionStreamOf, IsSession}
+use Rattle.voice.specs.Slot.{goingOn, slotOn, lostRefusals, lostOf, voiceRefusals, streamOf, inSlot, voiceAfter, voiceBy, voiceOf, voiceByOctets, sessionStreamOf, IsSession}
 use Rattle.voice.proofs.FrameLaws.{protect-same}
-use Rattle.voice.proofs.CallLaws.{by-stands, knows-good, knows-inside, known-written}
+use Rattle.voice.proofs.CallLaws.{by-stands, is-sender, knows-good, knows-inside, known-written}
 use Rattle.voice.proofs.SlotLaws.{by-long}
-use Rattle.voice.proofs.GoodLaws.{read-written, slot-good, receiver-not-zero}
+use Rattle.voice.proofs.GoodLaws.{read-written, scramble-right, slot-good-if}
 
 -- ---- a slot rests on the bits of the call's own session
 
@@ -109,26 +110,31 @@ module _ (c : Call) (session : List ℕ) (i : IsSession c session) where
   either-kept true on next f f′ z g h = f g
   either-kept false on next f f′ z g h = f′ g (h z)
 
-  on-kept : zeroNext (standing c) ≡ false → (written (slotOn (standing c)) .position ≡ 0 → scrambles (c .terms .cipher) ≡ true)
-      → IsSession (written (slotOn (standing c))) session
+  on-kept : (written (slotOn (standing c)) .position ≡ 0 → scrambles (c .terms .cipher) ≡ true) → IsSession (written (slotOn (standing c))) session
   unfolding slotOn
-  on-kept z h =
+  on-kept h =
       by-stands c good (λ o e s. absurd (true≢false (sym (i .known) ∙ ap knows s)))
       (λ o e s.
       let on : Standing = sending (c .terms) (c .position + 1) (c .vector) in
       let next : Standing = sending (c .terms) 0 (goingOn (c .terms .cipher) (c .vector)) in
       rw s
       (either-kept (ltb (c .position + 1) (sessionSlots (c .terms .cipher))) on next (λ g. held-as on refl g refl (λ n. refl))
-      (λ g e. held-as next refl g refl (again (goingOn (c .terms .cipher) (c .vector)) e)) refl (rw s at (slot-good c good z)) (rw s at h)))
+      (λ g e. held-as next refl g refl (again (goingOn (c .terms .cipher) (c .vector)) e)) refl (rw s at good-on) (rw s at h)))
       (λ o e s.
       let on : Standing = receiving (c .terms) (c .position + 1) (knownBy (c .known) (c .vector)) in
       let next : Standing = receiving (c .terms) 0 (untold (c .terms .cipher)) in
       rw s
       (either-kept (ltb (c .position + 1) (sessionSlots (c .terms .cipher))) on next (λ g. held-as on refl g (sym (ap knows s) ∙ i .known) (own s))
-      (λ g e. held-as next refl g (rw e) (again (knownVector (untold (c .terms .cipher))) e)) refl (rw s at (slot-good c good z)) (rw s at h)))
+      (λ g e. held-as next refl g (rw e) (again (knownVector (untold (c .terms .cipher))) e)) refl (rw s at good-on) (rw s at h)))
     where
       good : goodCall c ≡ true
       good = knows-good c (i .known)
+
+      -- a sender that goes on into another session is scramble's
+      good-on : goodCall (written (slotOn (standing c))) ≡ true
+      good-on =
+          slot-good-if c good
+          (λ e last. scramble-right (c .terms .cipher) (c .vector) (h (rw (is-sender c good e, le-ltb (c .position + 1) (sessionSlots (c .terms .cipher)) last))))
 
       -- the struct of where it stands has its own bits
       own : {s : Standing} → standing c ≡ s → (n : ℕ) → streamOf (written s) n ≡ streamOf c n
@@ -142,7 +148,7 @@ module _ (c : Call) (session : List ℕ) (i : IsSession c session) where
   unfolding lostOf lostRefusals
   session-kept-lost =
       by-refusals (λ o. (o .1 .position ≡ 0 → scrambles (c .terms .cipher) ≡ true) → IsSession (o .1) session)
-      c (lostRefusals (standing c)) (Done, written (slotOn (standing c))) (λ a m h. i) (λ n. on-kept (receiver-not-zero (standing c) (n .1 .0)))
+      c (lostRefusals (standing c)) (Done, written (slotOn (standing c))) (λ a m h. i) (λ n. on-kept)
 
   pub session-kept : (st : Call → ℕ → ℕ) (mask : ℕ) (frame : List ℕ)
       → (voiceBy st c mask frame .1 .0 .position ≡ 0 → scrambles (c .terms .cipher) ≡ true) → IsSession (voiceBy st c mask frame .1 .0) session
@@ -150,7 +156,7 @@ module _ (c : Call) (session : List ℕ) (i : IsSession c session) where
   session-kept st mask frame =
       by-refusals (λ o. (o .1 .0 .position ≡ 0 → scrambles (c .terms .cipher) ≡ true) → IsSession (o .1 .0) session)
       (c, frame) (voiceRefusals (standing c) mask frame) (voiceAfter st mask frame (standing c)) (λ a m h. i)
-      (λ n. on-kept (n .1 .1 .1 .1 .0))
+      (λ n. on-kept)
 
 -- a slot of a call that doesn't know its vector is turned by nothing
 module _ (st su : Call → ℕ → ℕ) (mask : ℕ) (frame : List ℕ) where

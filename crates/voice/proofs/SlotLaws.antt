@@ -22,10 +22,10 @@ use Rattle.answers.proofs.OutcomeLaws.{NoneHolds, none-settles, Refuses, answer
 use Rattle.voice.specs.declared.call.Call.{Call}
 use Rattle.sizes.specs.Frame.{frameOctets, slotBits, sessionOctets}
 use Rattle.voice.specs.Frame.{ofSlot, protect}
-use Rattle.voice.specs.Call.{closedEnd, sendingEnd, goodCall, standing, written, stands, knows}
-use Rattle.voice.specs.Slot.{slotOn, lostRefusals, lostOf, topMask, zeroAfter, zeroNext, voiceRefusals, streamOf, inSlot, voiceAfter, voiceBy, voiceOf, voiceByOctets}
+use Rattle.voice.specs.Call.{closedEnd, goodCall, standing, written, stands, knows}
+use Rattle.voice.specs.Slot.{slotOn, lostRefusals, lostOf, topMask, voiceRefusals, streamOf, inSlot, voiceAfter, voiceBy, voiceOf, voiceByOctets}
 use Rattle.voice.proofs.FrameLaws.{protect-same}
-use Rattle.voice.proofs.CallLaws.{by-stands, good-by, not-bad, stands-none, stands-some, is-sender, inside, known-written}
+use Rattle.voice.proofs.CallLaws.{good-by, not-bad, stands-none, stands-some, inside, known-written}
 
 module _ (c : Call) where
   pub lost-refused : (n : ℕ) → Refuses (lostRefusals (standing c)) n → (answerAt (lostRefusals (standing c)) n, c) ≡ lostOf c
@@ -51,14 +51,6 @@ by-slot c mask frame slot g from size room f e h =
 pub by-octets : (session : List ℕ) (q p mask : ℕ) (frame g : List ℕ) → q ≡ p → g ≡ protect (λ n. bit session (slotBits * q + n)) mask frame
     → g ≡ protect (ofSlot (bit session) p) mask frame
 by-octets session q p mask frame g e h = h ∙ ap (λ (m : ℕ). protect (ofSlot (bit session) m) mask frame) e
-
-module _ (c : Call) (good : goodCall c ≡ true) where
-  pub zero-sender : c .end ≡ sendingEnd → zeroNext (standing c) ≡ zeroAfter (c .terms .cipher) (c .position) (c .vector)
-  zero-sender z = ap zeroNext (is-sender c good z)
-
-  -- no receiver, and no sender that goes on
-  zero-unless : (c .end ≡ sendingEnd → zeroAfter (c .terms .cipher) (c .position) (c .vector) ≡ false) → zeroNext (standing c) ≡ false
-  zero-unless z = by-stands c good (λ o e s. ap zeroNext s) (λ o e s. ap zeroNext s ∙ z e) (λ o e s. ap zeroNext s)
 
 -- ---- what nothing refuses
 
@@ -184,13 +176,12 @@ module _ (c : Call) (mask : ℕ) (frame : List ℕ) where
 
   module _ (l : length frame ≡ frameOctets) (m : mask ≤ topMask) (good : goodCall c ≡ true) where
     -- 0 where the vector is known, else 1
-    pub answer-taken : (t : Bool) → (c .end ≡ closedEnd → ⊥) → (c .end ≡ sendingEnd → zeroAfter (c .terms .cipher) (c .position) (c .vector) ≡ false)
-        → knows (standing c) ≡ t → pick t Done Held ≡ voiceOf c mask frame .0
+    pub answer-taken : (t : Bool) → (c .end ≡ closedEnd → ⊥) → knows (standing c) ≡ t → pick t Done Held ≡ voiceOf c mask frame .0
     unfolding voiceRefusals
-    answer-taken t o z k =
+    answer-taken t o k =
         ap (λ (u : Bool). pick u Done Held) (sym k)
         ∙ ap (λ (r : Answer × (Call × List ℕ)). r .0)
-        (voice-done streamOf c mask frame (ap not (eq-eqb _ _ l), (le-ltb _ _ m, (not-bad c good, (stands-some c good o, (zero-unless c good z, tt))))))
+        (voice-done streamOf c mask frame (ap not (eq-eqb _ _ l), (le-ltb _ _ m, (not-bad c good, (stands-some c good o, tt)))))
 
   -- the call after it
   module _ (a : Answer) (e : a ≡ voiceOf c mask frame .0) where

@@ -1,19 +1,15 @@
 -- A voice slot of a call that stands, whole: what it answers and leaves. And at 9600 bps, where every other slot has mask 0.
 use mathlib.Core.Path.{_≡_, refl, sym, ap, ap₂, _∙_}
-use mathlib.Core.Bool.{Bool, true, false, not, false≢true}
-use mathlib.Core.List.{List, [], _∷_}
+use mathlib.Core.Bool.{Bool, true, false, false≢true}
+use mathlib.Core.List.{List}
 use Prim.Native.Nat.{ℕ, _+_, _-_, _*_, _≤_, _<_}
 use native.Mathlib.Omega.{arith}
-use lib.Dec.{leb}
 use lib.ListN.{length}
-use borrow.Author.Tests.{eq-eqb, le-ltb, lt-ltb, lt-leb}
+use borrow.Author.Tests.{eq-eqb, le-ltb, lt-ltb}
 use Rattle.sizes.proofs.SizeLaws.{slot-ranged}
 use Rattle.sizes.proofs.Cases.{by-range}
 use Rattle.octets.specs.Tests.{pick}
-use Rattle.octets.specs.Lists.{allZero}
-use Rattle.octets.proofs.TestLaws.{every-fails}
-use Rattle.generator.specs.Generator.{nextVector}
-use Rattle.sizes.specs.Ciphers.{sessionSlots, scrambles}
+use Rattle.sizes.specs.Ciphers.{sessionSlots}
 use Rattle.answers.specs.declared.Answer.{Answer}
 use Rattle.answers.specs.declared.Answer.the-variants.{Done, Held}
 use Rattle.voice.specs.declared.call.Terms.{Terms}
@@ -21,19 +17,19 @@ use Rattle.voice.specs.declared.call.Call.{Call}
 use Rattle.sizes.specs.Frame.{frameOctets, slotBits}
 use Rattle.voice.specs.Frame.{IsFrame, ofSlot, protect}
 use Rattle.voice.specs.Call.{unknownVector, goodCall, Known, Standing, closed, bad, sending, receiving, standing, callAt, written, stands, knows}
-use Rattle.voice.specs.Slot.{slotOn, lostRefusals, lostOf, topMask, zeroAfter, zeroNext, voiceRefusals, streamOf, inSlot, voiceAfter, voiceBy, voiceOf}
+use Rattle.voice.specs.Slot.{slotOn, lostRefusals, lostOf, topMask, voiceRefusals, streamOf, inSlot, voiceAfter, voiceBy, voiceOf}
 use Rattle.voice.proofs.FrameLaws.{protect-same, protect-none}
 use Rattle.voice.proofs.CallLaws.{knows-inside, knows-yes, known-written}
-use Rattle.voice.proofs.GoodLaws.{voice-good}
+use Rattle.voice.proofs.GoodLaws.{slot-good-if}
 
--- a call that stands, wherever it does, unless its sender would go on with zeros
+-- a call that stands, wherever it does
 module _ (call : Call) (mask : ℕ) (frame : List ℕ) (m : mask ≤ topMask) (l : length frame ≡ frameOctets) where
-  pub voice-at : (s : Standing) → standing call ≡ s → stands s ≡ true → zeroNext s ≡ false → voiceOf call mask frame ≡ voiceAfter streamOf mask frame s
+  pub voice-at : (s : Standing) → standing call ≡ s → stands s ≡ true → voiceOf call mask frame ≡ voiceAfter streamOf mask frame s
   unfolding voiceBy voiceRefusals
-  voice-at closed e o z = absurd (false≢true o)
-  voice-at bad e o z = absurd (false≢true o)
-  voice-at (sending t p v) e o z = rw (e, eq-eqb _ _ l, le-ltb _ _ m, z)
-  voice-at (receiving t p k) e o z = rw (e, eq-eqb _ _ l, le-ltb _ _ m)
+  voice-at closed e o = absurd (false≢true o)
+  voice-at bad e o = absurd (false≢true o)
+  voice-at (sending t p v) e o = rw (e, eq-eqb _ _ l, le-ltb _ _ m)
+  voice-at (receiving t p k) e o = rw (e, eq-eqb _ _ l, le-ltb _ _ m)
 
 -- a receiver that is told of a lost slot
 pub lost-at : (call : Call) {t : Terms} {p : ℕ} {k : Known} → standing call ≡ receiving t p k → lostOf call ≡ (Done, written (slotOn (receiving t p k)))
@@ -55,34 +51,34 @@ pub record Running (c : Call) : Type 0 where
 abbrev Early : Call → Type 0
 Early c = c .position + 1 < sessionSlots (c .terms .cipher)
 
-slot-within : (s : Standing) → knows s ≡ true → Early (written s) → (stands s ≡ true) × (zeroNext s ≡ false) × (written (slotOn s) ≡ onward (written s))
-unfolding slotOn zeroAfter
+slot-within : (s : Standing) → knows s ≡ true → Early (written s) → (stands s ≡ true) × (written (slotOn s) ≡ onward (written s))
+unfolding slotOn
 slot-within closed k early = absurd (false≢true k)
 slot-within bad k early = absurd (false≢true k)
-slot-within (sending t p v) k early = (
-  refl,
-  sym (every-fails (not (scrambles (t .cipher)) ∷ leb (sessionSlots (t .cipher)) (p + 1) ∷ allZero (nextVector v) ∷ []) 1 (lt-leb _ _ early)),
-  rw (lt-ltb _ _ early),
-)
-slot-within (receiving t p k) h early = (refl, refl, rw (lt-ltb _ _ early))
+slot-within (sending t p v) k early = (refl, rw (lt-ltb _ _ early))
+slot-within (receiving t p k) h early = (refl, rw (lt-ltb _ _ early))
 
 module _ (c : Call) (r : Running c) where
   knows-running : knows (standing c) ≡ true
   knows-running = knows-yes c (r .known) ∙ r .good
 
-  module _ (mask : ℕ) (frame : List ℕ) (m : mask ≤ topMask) (l : length frame ≡ frameOctets) (early : Early c) where
-    -- before a session's last slot the frame is turned and the position moves on, at either end
-    pub voice-within : voiceOf c mask frame ≡ (Done, (onward c, inSlot streamOf mask frame c))
-    voice-within =
-        let w = known-written c knows-running in
-        let h = slot-within (standing c) knows-running (rw w early) in
-        voice-at c mask frame m l (standing c) refl (h .0) (h .1)
-        ∙ ap (λ (t : Bool). (pick t Done Held, (written (slotOn (standing c)), pick t (inSlot streamOf mask frame (written (standing c))) frame))) knows-running
-        ∙ ap₂ (λ (d e : Call). (Done, (d, inSlot streamOf mask frame e))) (h .2 ∙ ap onward w) w
+  module _ (early : Early c) where
+    itself : written (standing c) ≡ c
+    itself = known-written c knows-running
 
-    pub runs-on : Running (onward c)
-    runs-on =
-        record { good = sym (ap (λ (o : Answer × (Call × List ℕ)). goodCall (o .1 .0)) voice-within) ∙ voice-good c (r .good) mask frame; known = r .known }
+    within : (stands (standing c) ≡ true) × (written (slotOn (standing c)) ≡ onward c)
+    within = let h = slot-within (standing c) knows-running (rw itself early) in (h .0, h .1 ∙ ap onward itself)
+
+    runs-on : Running (onward c)
+    runs-on = record { good = sym (ap goodCall (within .1)) ∙ slot-good-if c (r .good) (λ e last. absurd (omega arith)); known = r .known }
+
+    -- before a session's last slot the frame is turned and the position moves on, at either end
+    pub voice-within : (mask : ℕ) (frame : List ℕ) → mask ≤ topMask → length frame ≡ frameOctets
+        → voiceOf c mask frame ≡ (Done, (onward c, inSlot streamOf mask frame c))
+    voice-within mask frame m l =
+        voice-at c mask frame m l (standing c) refl (within .0)
+        ∙ ap (λ (t : Bool). (pick t Done Held, (written (slotOn (standing c)), pick t (inSlot streamOf mask frame (written (standing c))) frame))) knows-running
+        ∙ ap₂ (λ (d e : Call). (Done, (d, inSlot streamOf mask frame e))) (within .1) itself
 
 -- ---- half rate at 9600 bps: the second and fourth slots of a superframe have mask 0
 
@@ -110,18 +106,18 @@ module _ (c : Call) (r : Running c) (start : c .position ≡ 0) (m n : ℕ) (hm 
   early p h = let e = enough in omega arith
 
   runs-one : Running (onward c)
-  runs-one = runs-on c r m first hm l (early (c .position) (omega arith))
+  runs-one = runs-on c r (early (c .position) (omega arith))
 
   once : voiceOf c m first .1 .0 ≡ onward c
-  once = ap (λ (o : Answer × (Call × List ℕ)). o .1 .0) (voice-within c r m first hm l (early (c .position) (omega arith)))
+  once = ap (λ (o : Answer × (Call × List ℕ)). o .1 .0) (voice-within c r (early (c .position) (omega arith)) m first hm l)
 
   on-two : two ≡ (Done, (onward (onward c), inSlot streamOf 0 second (onward c)))
   on-two =
       ap (λ (d : Call). voiceOf d 0 second) once
-      ∙ voice-within (onward c) runs-one 0 second (omega arith) (f .long) (early (c .position + 1) (omega arith))
+      ∙ voice-within (onward c) runs-one (early (c .position + 1) (omega arith)) 0 second (omega arith) (f .long)
 
   runs-two : Running (onward (onward c))
-  runs-two = runs-on (onward c) runs-one 0 second (omega arith) (f .long) (early (c .position + 1) (omega arith))
+  runs-two = runs-on (onward c) runs-one (early (c .position + 1) (omega arith))
 
   pub second-stays : two .1 .1 ≡ second
   second-stays =
@@ -132,6 +128,6 @@ module _ (c : Call) (r : Running c) (start : c .position ≡ 0) (m n : ℕ) (hm 
   third-turned =
       ap (λ (o : Answer × (Call × List ℕ)). voiceOf (o .1 .0) n third .1 .1) on-two
       ∙ ap (λ (o : Answer × (Call × List ℕ)). o .1 .1)
-      (voice-within (onward (onward c)) runs-two n third hn l′ (early (c .position + 1 + 1) (omega arith)))
+      (voice-within (onward (onward c)) runs-two (early (c .position + 1 + 1) (omega arith)) n third hn l′)
       ∙ protect-same (ofSlot (streamOf c) (c .position + 1 + 1)) (λ i. streamOf c (392 + i)) n
       (λ i h. let e : slotBits * (c .position + 1 + 1) + i ≡ 392 + i = omega arith in ap (streamOf c) e) third

@@ -1,15 +1,14 @@
 -- A voice slot of a call (document 01, "Voice"), arrived or lost.
 use mathlib.Core.Path.{_≡_}
 use mathlib.Core.List.{List, [], _∷_}
-use mathlib.Core.Bool.{Bool, true, false, not}
+use mathlib.Core.Bool.{true, not}
 use Prim.Native.Nat.{ℕ, _+_, _-_, _^_, _≤_, _<_}
-use lib.Dec.{ltb, leb, eqb}
+use lib.Dec.{ltb, eqb}
 use lib.ListN.{length}
-use Rattle.octets.specs.Tests.{pick, every}
-use Rattle.octets.specs.Lists.{allZero}
+use Rattle.octets.specs.Tests.{pick}
 use Rattle.octets.specs.Bits.{bit, octetsFrom}
 use Rattle.answers.specs.declared.Answer.{Answer}
-use Rattle.answers.specs.declared.Answer.the-variants.{Done, Held, WrongLength, Bad, NotNow, BadMask, NextZero}
+use Rattle.answers.specs.declared.Answer.the-variants.{Done, Held, WrongLength, Bad, NotNow, BadMask}
 use Rattle.answers.specs.Outcomes.{Refusals, settled, outcome}
 use Rattle.sizes.specs.Ciphers.{sessionSlots, noVector, scrambles}
 use Rattle.ciphers.specs.Keystream.{stream}
@@ -47,21 +46,10 @@ lostOf c = outcome c (lostRefusals (standing c)) (written (slotOn (standing c)))
 abbrev pub topMask : ℕ
 topMask = 2 ^ words - 1
 
--- a session's last slot, DES or AES, after which the vector would be zero
-unfoldable pub zeroAfter : ℕ → ℕ → List ℕ → Bool
-zeroAfter c p v = every (not (scrambles c) ∷ leb (sessionSlots c) (p + 1) ∷ allZero (nextVector v) ∷ [])
-
-abbrev pub zeroNext : Standing → Bool
-zeroNext closed = false
-zeroNext bad = false
-zeroNext (sending t p v) = zeroAfter (t .cipher) p v
-zeroNext (receiving t p k) = false
-
--- 2, 10, 4, 9 without a call, 14
+-- 2, 10, 4, 9 without a call
 unfoldable pub voiceRefusals : Standing → ℕ → List ℕ → Refusals
 voiceRefusals s mask frame =
-    (not (eqb (length frame) frameOctets), WrongLength) ∷ (ltb topMask mask, BadMask) ∷ (isBad s, Bad) ∷ (not (stands s), NotNow)
-    ∷ (zeroNext s, NextZero) ∷ []
+    (not (eqb (length frame) frameOctets), WrongLength) ∷ (ltb topMask mask, BadMask) ∷ (isBad s, Bad) ∷ (not (stands s), NotNow) ∷ []
 
 -- the keystream of the session that a call is in
 abbrev pub streamOf : Call → ℕ → ℕ

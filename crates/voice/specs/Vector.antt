@@ -6,7 +6,7 @@ use lib.Dec.{eqb}
 use lib.ListN.{length}
 use Rattle.octets.specs.Lists.{allZero}
 use Rattle.answers.specs.declared.Answer.{Answer}
-use Rattle.answers.specs.declared.Answer.the-variants.{WrongLength, Bad, ZeroVector, NotNow, NextZero}
+use Rattle.answers.specs.declared.Answer.the-variants.{WrongLength, Bad, ZeroVector, NotNow}
 use Rattle.answers.specs.Outcomes.{Refusals, outcome}
 use Rattle.generator.specs.Generator.{nextVector}
 use Rattle.voice.specs.declared.call.Call.{Call}
@@ -53,10 +53,9 @@ following bad = noVector
 following (sending t p v) = nextVector v
 following (receiving t p k) = noVector
 
--- 2, 4, 9 (no call, scramble, receiving), 14
+-- 2, 4, 9 (no call, scramble, receiving)
 unfoldable pub nextRefusals : Standing → List ℕ → Refusals
-nextRefusals s out =
-    (not (eqb (length out) vectorOctets), WrongLength) ∷ (isBad s, Bad) ∷ (not (generates s), NotNow) ∷ (allZero (following s), NextZero) ∷ []
+nextRefusals s out = (not (eqb (length out) vectorOctets), WrongLength) ∷ (isBad s, Bad) ∷ (not (generates s), NotNow) ∷ []
 
 -- the call stays as it is; of the lent octets
 unfoldable pub nextVectorOf : Call → List ℕ → Answer × List ℕ

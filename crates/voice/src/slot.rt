@@ -7,7 +7,7 @@ ghost use Rattle.sizes.specs.Ciphers.{sessionSlots};
 ghost use Rattle.sizes.specs.Frame.{frameOctets};
 ghost use Rattle.octets.specs.Lists.{allZero};
 ghost use Rattle.voice.specs.Call.{closedEnd, receivingEnd, vectorRight, goodCall, knownBy, sending, receiving, standing, written};
-ghost use Rattle.voice.specs.Slot.{goingOn, slotOn, lostOf, zeroAfter, streamOf, inSlot, voiceOf, voiceByOctets, sessionStreamOf};
+ghost use Rattle.voice.specs.Slot.{goingOn, slotOn, lostOf, streamOf, inSlot, voiceOf, voiceByOctets, sessionStreamOf};
 use crate::call::CLOSED;
 use crate::call::Call;
 use crate::call::RECEIVING;
@@ -23,7 +23,6 @@ use crate::call::untold;
 use crate::frame::turn_frame;
 use answers::Answer;
 use ciphers::keystream::keystream;
-use octets::all_zero;
 use octets::wide;
 use sizes::cipher::Scramble;
 use sizes::cipher::VECTOR_OCTETS;
@@ -106,20 +105,6 @@ pub fn lost(call: Call) -> Stepped
 
 // ---- a voice slot
 
-// Whether a sender would go on after this slot with a vector of zeros.
-fn is_zero_after(cipher: u8, position: u8, vector: [u8; VECTOR_OCTETS]) -> bool
-    ensures { λ r. ⌜ r ≡ zeroAfter cipher position vector ⌝ }
-{
-    if cipher == Scramble::TYPE {
-        return false;
-    }
-    if wide(position) + 1 < session_slots(cipher) {
-        return false;
-    }
-    let next = generator::next_vector(&vector);
-    all_zero(&next)
-}
-
 // The frame turned by the bits of the session's slot, which stand for all words, in the mask or not.
 fn turn_slot(call: Call, mask: u8, frame: &mut [u8])
     requires { ⌜ (call .position < sessionSlots (call .terms .cipher)) × (length (now frame) ≡ frameOctets) ⌝ }
@@ -153,13 +138,6 @@ fn answer_to(call: Call, mask: u8, frame: &[u8]) -> Answer
     }
     if call.end == CLOSED {
         return Answer::NotNow;
-    }
-    if call.end == SENDING {
-        let vector = call.vector;
-        if is_zero_after(call.terms.cipher, call.position, vector) {
-            return Answer::NextZero;
-        }
-        return Answer::Done;
     }
     if call.known == UNKNOWN {
         return Answer::Held;

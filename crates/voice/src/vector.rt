@@ -86,9 +86,6 @@ pub fn next_vector(call: Call, out: &mut [u8]) -> Answer
     }
     let vector = call.vector;
     let next = generator::next_vector(&vector);
-    if all_zero(&next) {
-        return Answer::NextZero;
-    }
     copy(&next, out);
     Answer::Done
 }

@@ -1,12 +1,11 @@
 -- `voice::slot::answer_to` meets its contract.
-use mathlib.Core.Path.{sym, ap, _∙_}
+use mathlib.Core.Path.{ap, _∙_}
 use mathlib.Core.Bool.{true, false, not}
 use borrow.Author.Tests.{eq-eqb, ne-eqb, lt-ltb, le-ltb}
 use Rattle.octets.proofs.TestLaws.{fails, holds}
-use Rattle.voice.specs.Call.{knows}
 use Rattle.voice.specs.Slot.{voiceRefusals}
-use Rattle.voice.proofs.CallLaws.{is-bad, not-bad, stands-none, stands-some, is-sender, knows-no, knows-yes}
-use Rattle.voice.proofs.SlotLaws.{zero-sender, answer-refused, answer-taken}
+use Rattle.voice.proofs.CallLaws.{is-bad, not-bad, stands-none, knows-no, knows-yes}
+use Rattle.voice.proofs.SlotLaws.{answer-refused, answer-taken}
 use borrow.Author.Needs.{needs}
 use Rattle.voice.proofs.slot.answer_to.Statement.{statement}
 use Rattle.voice.proofs.slot.answer_to.Tie as tie
@@ -21,8 +20,5 @@ answer-to-spec =
     (λ c κs. search needs)
     (λ c. answer-refused _ _ _ 2 (ap not (eq-eqb _ _ (c .before .before .before .if1 .left)), (le-ltb _ _ (c .before .before .if2 .left), is-bad _ (fails (c .before .good-call .ensures) (c .if3 .taken)))))
     (λ c. let good = holds (c .before .before .before .good-call .ensures) (c .before .before .if3 .left) in answer-refused _ _ _ 3 (ap not (eq-eqb _ _ (c .before .before .before .before .before .if1 .left)), (le-ltb _ _ (c .before .before .before .before .if2 .left), (not-bad _ good, stands-none _ good (c .if4 .taken)))))
-    (λ c κs. search needs)
-    (λ c. let good = holds (c .before .before .before .before .before .before .before .before .good-call .ensures) (c .before .before .before .before .before .before .before .if3 .left) in answer-refused _ _ _ 4 (ap not (eq-eqb _ _ (c .before .before .before .before .before .before .before .before .before .before .if1 .left)), (le-ltb _ _ (c .before .before .before .before .before .before .before .before .before .if2 .left), (not-bad _ good, (stands-some _ good (c .before .before .before .before .before .if4 .left), zero-sender _ good (c .before .before .before .if5 .taken) ∙ sym (c .before .is-zero-after .ensures) ∙ c .if6 .taken)))))
-    (λ c. let good = holds (c .before .before .before .before .before .before .before .before .good-call .ensures) (c .before .before .before .before .before .before .before .if3 .left) in answer-taken _ _ _ (c .before .before .before .before .before .before .before .before .before .before .if1 .left) (c .before .before .before .before .before .before .before .before .before .if2 .left) good true (c .before .before .before .before .before .if4 .left) (λ e. sym (c .before .is-zero-after .ensures) ∙ c .if6 .left) (ap knows (is-sender _ good (c .before .before .before .if5 .taken))))
-    (λ c. let good = holds (c .before .before .before .before .before .before .before .good-call .ensures) (c .before .before .before .before .before .before .if3 .left) in answer-taken _ _ _ (c .before .before .before .before .before .before .before .before .before .if1 .left) (c .before .before .before .before .before .before .before .before .if2 .left) good false (c .before .before .before .before .if4 .left) (λ e. absurd (c .before .before .if5 .left e)) (knows-no _ (c .if7 .taken)))
-    (λ c. let good = holds (c .before .before .before .before .before .before .before .good-call .ensures) (c .before .before .before .before .before .before .if3 .left) in answer-taken _ _ _ (c .before .before .before .before .before .before .before .before .before .if1 .left) (c .before .before .before .before .before .before .before .before .if2 .left) good true (c .before .before .before .before .if4 .left) (λ e. absurd (c .before .before .if5 .left e)) (knows-yes _ (c .if7 .left) ∙ good)))
+    (λ c. let good = holds (c .before .before .before .before .before .good-call .ensures) (c .before .before .before .before .if3 .left) in answer-taken _ _ _ (c .before .before .before .before .before .before .before .if1 .left) (c .before .before .before .before .before .before .if2 .left) good false (c .before .before .if4 .left) (knows-no _ (c .if5 .taken)))
+    (λ c. let good = holds (c .before .before .before .before .before .good-call .ensures) (c .before .before .before .before .if3 .left) in answer-taken _ _ _ (c .before .before .before .before .before .before .before .if1 .left) (c .before .before .before .before .before .before .if2 .left) good true (c .before .before .if4 .left) (knows-yes _ (c .if5 .left) ∙ good)))

@@ -2,7 +2,6 @@
 use mathlib.Core.Path.{sym, ap, _∙_}
 use mathlib.Core.Bool.{not}
 use borrow.Author.Tests.{eq-eqb, ne-eqb}
-use Rattle.octets.specs.Lists.{allZero}
 use Rattle.octets.proofs.TestLaws.{fails, holds}
 use Rattle.voice.specs.Vector.{nextRefusals}
 use Rattle.voice.proofs.CallLaws.{is-bad, not-bad}
@@ -25,14 +24,8 @@ next-vector-spec =
     (λ c κs. search needs)
     (λ c. search needs)
     (λ c κs. search needs)
-    (λ c. let good = holds (c .before .before .before .before .before .before .before .before .before .good-call .ensures) (c .before .before .before .before .before .before .before .before .if2 .left) in
-    let has = holds (c .before .before .before .before .before .before .before .is-generating .ensures) (c .before .before .before .before .before .before .if3 .left) in
-    let next = c .before .before .before .next-vector .ensures ∙ sym (following-is _ good has) in
-    next-refused _ _ 3 (ap not (eq-eqb _ _ (c .before .before .before .before .before .before .before .before .before .before .if1 .left)), (not-bad _ good, (ap not has, sym (ap allZero next) ∙ sym (c .before .all-zero .ensures) ∙ c .if4 .taken))))
     (λ c. search needs)
-    (λ c κs. search needs)
-    (λ c. search needs)
-    (λ c. let good = holds (c .before .before .before .before .before .before .before .before .before .before .before .before .before .before .good-call .ensures) (c .before .before .before .before .before .before .before .before .before .before .before .before .before .if2 .left) in
-    let has = holds (c .before .before .before .before .before .before .before .before .before .before .before .before .is-generating .ensures) (c .before .before .before .before .before .before .before .before .before .before .before .if3 .left) in
-    let next = c .before .before .before .before .before .before .before .before .next-vector .ensures ∙ sym (following-is _ good has) in
-    rw (c .before .before .copy .ensures, next) (next-done _ _ (ap not (eq-eqb _ _ (c .before .before .before .before .before .before .before .before .before .before .before .before .before .before .before .if1 .left)), (not-bad _ good, (ap not has, (sym (ap allZero next) ∙ sym (c .before .before .before .before .before .before .all-zero .ensures) ∙ c .before .before .before .before .before .if4 .left, tt)))))))
+    (λ c. let good = holds (c .before .before .before .before .before .before .before .before .before .before .before .good-call .ensures) (c .before .before .before .before .before .before .before .before .before .before .if2 .left) in
+    let has = holds (c .before .before .before .before .before .before .before .before .before .is-generating .ensures) (c .before .before .before .before .before .before .before .before .if3 .left) in
+    let next = c .before .before .before .before .before .next-vector .ensures ∙ sym (following-is _ good has) in
+    rw (c .before .before .copy .ensures, next) (next-done _ _ (ap not (eq-eqb _ _ (c .before .before .before .before .before .before .before .before .before .before .before .before .if1 .left)), (not-bad _ good, (ap not has, tt))))))
