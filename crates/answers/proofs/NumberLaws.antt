@@ -9,7 +9,7 @@ use Rattle.answers.specs.declared.Answer.the-variants.{Done, Held, Wrong
 use Rattle.answers.specs.Numbers.{numberOf}
 
 -- the answer with a number; where none has it, Done
-abbrev answer : ℕ → Answer
+abbrev pub answer : ℕ → Answer
 answer n =
     getD (Done ∷ Held ∷ WrongLength ∷ OutOfRange ∷ Bad ∷ NoEntry ∷ NotReady ∷ NotAllowed ∷ ZeroVector ∷ NotNow
     ∷ BadMask ∷ Already ∷ Full ∷ TooMany ∷ Done ∷ Malformed ∷ []) n Done

@@ -1,4 +1,5 @@
--- Our sender keeps the rules: the call that it makes is one of those that demand 3 is about. And its sessions' vectors follow one another.
+-- Our sender keeps the rules: the call that it makes is one of those that demand 3 is about. Its sessions' vectors follow one another, and it never
+-- stops or runs into zeros.
 use mathlib.Core.Path.{_≡_, refl, sym, ap, ap₂, _∙_}
 use mathlib.Core.Bool.{Bool, true, false, _&&_, not, true≢false}
 use mathlib.Core.List.{List, [], _∷_, map}
@@ -31,8 +32,10 @@ use Rattle.voice.specs.Slot.{goingOn, slotOn, streamOf, voiceOf}
 use Rattle.voice.specs.Vector.{nextRefusals, nextVectorOf}
 use Rattle.voice.proofs.FrameLaws.{protect-same, protect-frame}
 use Rattle.sizes.proofs.SizeLaws.{no-vector-zero}
+use Rattle.voice.proofs.CallLaws.{is-sender}
 use Rattle.voice.proofs.GoodLaws.{sentRight, good-sender, read-written}
-use Rattle.voice.proofs.NeverZero.{Sends, no-vector, voice-sends, sends-some}
+use Rattle.voice.proofs.Exactly.{next-given}
+use Rattle.voice.proofs.NeverZero.{Sends, zeros-vector, voice-sends, sends-some}
 use Rattle.voice.proofs.SlotSteps.{voice-at}
 use Rattle.demands.specs.Talk.{Slot, Session, SlotKept, SlotsKept, VectorKept, SessionKept, Full, slotCounts, Kept, HasKey, WayIn}
 use Rattle.demands.specs.Log.{talkLog}
@@ -51,7 +54,7 @@ sound-kept : (c : ℕ) (v : List ℕ) → Sound c v → VectorKept c v
 sound-kept c v s = record { long = s .vector .long; some = λ e. s .zeros ∙ e }
 
 no-vector-sound : (c : ℕ) → scrambles c ≡ true → Sound c noVector
-no-vector-sound c e = record { vector = no-vector; zeros = no-vector-zero ∙ sym e }
+no-vector-sound c e = record { vector = zeros-vector; zeros = no-vector-zero ∙ sym e }
 
 starts-sound : (c : ℕ) (v : List ℕ) → VectorKept c v → Octets v → Sound c (sessionVector c v)
 starts-sound c v s o = go (scrambles c) refl
@@ -216,25 +219,6 @@ module _ (b : List ℕ) (c i : ℕ) (key : List ℕ) (h : HasKey b c i key) (lon
       let e = ap (λ (r : Answer × Call). r .1) (started-at v s) in
       rw e (sessions-follow v (starts-sound c v s o) said (a .each) (a .full))
 
-  sends-ever : (s : Call) → Sends t s → (xs : List Said) → Sends t (afterwards s xs)
-  sends-ever s a [] = a
-  sends-ever s a (x ∷ xs) = sends-ever (voiceOf s (x .mask) (x .spoken) .1 .0) (voice-sends t s a streamOf (x .mask) (x .spoken)) xs
-
-  -- with DES or AES our sender's vector is never zeros, whatever slots it was given, done or refused
-  pub ours-never-zero : (v : List ℕ) → VectorKept c v → Octets v → scrambles c ≡ false → (said : List Said)
-      → allZero (afterwards (startOf noCall c i v b .1) said .vector) ≡ false
-  ours-never-zero v s o e said =
-      let w = sessionVector c v in
-      let sound = starts-sound c v s o in
-      let first : Sends t (from w) =
-      record {
-        good = good-sender t 0 (has-key-right b c i key h) some w (right-vector w sound);
-        end = refl;
-        terms = refl;
-        vector = sound .vector;
-      } in
-      rw (started-at v s) (sends-some t (afterwards (from w) said) (sends-ever (from w) first said) e)
-
   -- with DES or AES no vector is its own next, so a sender that uses one vector for every session is not ours
   pub one-vector-not-ours : (v : List ℕ) → VectorKept c v → Octets v → scrambles c ≡ false → (said : List Saying) → AllSaid c said
       → (x y : Session) (zs : List Session) → talkMade c key i v b said .sessions ≡ x ∷ y ∷ zs → x .vector ≡ y .vector → ⊥
@@ -243,6 +227,47 @@ module _ (b : List ℕ) (c i : ℕ) (key : List ℕ) (h : HasKey b c i key) (lon
       let at : (u : List ℕ) → sessionVector c u ≡ u = λ u. ap (λ (t : Bool). pick t noVector u) e in
       let zeros = own-next-zero v (record { long = s .long; octets = o }) (sym (at (nextVector v)) ∙ sym (f .1 .0) ∙ sym same ∙ f .0 ∙ at v) in
       true≢false (sym no-vector-zero ∙ sym (ap allZero zeros) ∙ s .some e)
+
+  -- ---- whatever slots it was given, done or refused
+
+  sends-on : (s : Call) → Sends t s → (xs : List Said) → Sends t (afterwards s xs)
+  sends-on s a [] = a
+  sends-on s a (x ∷ xs) = sends-on (voiceOf s (x .mask) (x .spoken) .1 .0) (voice-sends t s a streamOf (x .mask) (x .spoken)) xs
+
+  module _ (v : List ℕ) (s : VectorKept c v) (o : Octets v) (said : List Said) where
+    abbrev pub sender : Call
+    sender = afterwards (startOf noCall c i v b .1) said
+
+    sends : Sends t sender
+    sends =
+        let sound = starts-sound c v s o in
+        let first : Sends t (from (sessionVector c v)) =
+        record {
+          good = good-sender t 0 (has-key-right b c i key h) some (sessionVector c v) (right-vector (sessionVector c v) sound);
+          end = refl;
+          terms = refl;
+          vector = sound .vector;
+        } in
+        rw (started-at v s) (sends-on (from (sessionVector c v)) first said)
+
+    -- it never stops: a slot of 28 octets, its mask at most 15, is done
+    pub ours-never-refused : (mask : ℕ) (frame : List ℕ) → mask ≤ 15 → length frame ≡ 28 → voiceOf sender mask frame .0 ≡ Done
+    ours-never-refused mask frame m l =
+        ap (λ (r : Answer × (Call × List ℕ)). r .0) (voice-at sender mask frame m l (sending (sender .terms) (sender .position) (sender .vector)) (is-sender sender (sends .good) (sends .end)) refl)
+
+    module _ (e : scrambles c ≡ false) where
+      -- with DES or AES its vector is never zeros
+      pub ours-never-zero : allZero (sender .vector) ≡ false
+      ours-never-zero = sends-some t sender sends e
+
+      -- and next vector is done, with the next one, which is no zeros either
+      pub ours-next-done : (lent : List ℕ) → length lent ≡ 8
+          → (nextVectorOf sender lent ≡ (Done, nextVector (sender .vector))) × (allZero (nextVector (sender .vector)) ≡ false)
+      ours-next-done lent l = (
+        next-given sender lent
+            (record { long = l; good = sends .good; sends = sends .end; vectored = ap (λ (u : Terms). scrambles (u .cipher)) (sends .terms) ∙ e }),
+        next-not-zero (sender .vector) (sends .vector) ours-never-zero,
+      )
 
   -- our sender to our receiver, whose book has the key under an ID of its own
   pub ours-to-ours : (v : List ℕ) → VectorKept c v → Octets v → (said : List Saying) → AllSaid c said

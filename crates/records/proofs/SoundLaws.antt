@@ -146,7 +146,7 @@ step-sound (Load c i key) {book} {call} s =
 step-sound (Open c i w) {book} {call} s = with-call s (open-good call (s .call-good) c i book w) (open-ends call (s .call-good) (s .no-sender) c i book w)
 step-sound (Join c i) {book} {call} s = with-call s (join-good call (s .call-good) c i book) (join-ends call (s .call-good) (s .no-sender) c i book)
 step-sound (Voice mask frame) {book} {call} s =
-    with-call s (voice-good call (s .call-good) (λ e. absurd (s .no-sender e)) mask frame) (voice-ends call (s .call-good) (s .no-sender) mask frame)
+    with-call s (voice-good call (s .call-good) (λ e d. absurd (s .no-sender e)) mask frame) (voice-ends call (s .call-good) (s .no-sender) mask frame)
 step-sound (Announce w) {book} {call} s = with-call s (announce-good call (s .call-good) w) (announce-ends call (s .call-good) (s .no-sender) w)
 step-sound Lost {book} {call} s = with-call s (lost-good call (s .call-good)) (lost-ends call (s .call-good) (s .no-sender))
 step-sound End {book} {call} s = with-call s (end-good call (s .call-good)) (end-ends call (s .call-good) (s .no-sender))

@@ -1,5 +1,5 @@
--- When a slot is done or held, and when an announcement is taken, by the struct's own fields: in both directions. And nothing opens a call that
--- stands.
+-- When a slot is done or held, an announcement taken and a next vector given, by the struct's own fields: in both directions. And nothing opens a
+-- call that stands.
 use mathlib.Core.Path.{_≡_, refl, sym, ap, _∙_}
 use mathlib.Core.Bool.{Bool, true, false, not, true≢false}
 use mathlib.Core.List.{List}
@@ -11,6 +11,7 @@ use borrow.Author.Tests.{eq-eqb, eqb-true, ltb-false, not-true, not-false}
 use Rattle.octets.specs.Tests.{pick}
 use Rattle.octets.specs.Lists.{allZero}
 use Rattle.octets.proofs.TestLaws.{and-left, and-right}
+use Rattle.generator.specs.Generator.{nextVector}
 use Rattle.answers.specs.declared.Answer.{Answer}
 use Rattle.answers.specs.declared.Answer.the-variants.{Done, Held}
 use Rattle.answers.specs.Numbers.{numberOf}
@@ -22,8 +23,8 @@ use Rattle.sizes.specs.Frame.{frameOctets}
 use Rattle.voice.specs.Call.{closedEnd, sendingEnd, receivingEnd, unknownVector, goodCall, standing, termsOf, written, isBad, stands}
 use Rattle.voice.specs.Opening.{joinRefusals, openRefusals, begun, begunOf, openOf, startOf, joined, joinOf}
 use Rattle.voice.specs.Slot.{topMask, voiceRefusals, streamOf, voiceOf}
-use Rattle.voice.specs.Vector.{awaits, withVector, announceRefusals, announceOf}
-use Rattle.voice.proofs.CallLaws.{is-known, by-stands, good-by, not-bad, stands-some, is-receiver, knows-is}
+use Rattle.voice.specs.Vector.{awaits, withVector, announceRefusals, announceOf, generates, following, nextRefusals, nextVectorOf}
+use Rattle.voice.proofs.CallLaws.{is-sender, is-known, by-stands, good-by, not-bad, stands-some, is-receiver, knows-is}
 use Rattle.voice.proofs.SlotLaws.{none-long, none-good, none-open, taken-under-two, voice-taken, answer-taken}
 use Rattle.voice.proofs.VectorLaws.{announce-done}
 
@@ -135,6 +136,38 @@ module _ (c : Call) (w : List ℕ) where
   pub untimely : (c .position ≡ 0 → ⊥) → Refusal (announceOf c w .0) × (announceOf c w .1 ≡ c)
   unfolding announceOf
   untimely p = some-refuses c (announceRefusals (standing c) w) (Done, written (withVector w (standing c))) from-two (λ n. p (timely n .starts))
+
+-- ---- next vector
+
+-- eight lent octets, and a good sending call, DES or AES
+pub record Generating (c : Call) (out : List ℕ) : Type 0 where
+  pub long : length out ≡ vectorOctets
+  pub good : goodCall c ≡ true
+  pub sends : c .end ≡ sendingEnd
+  pub vectored : scrambles (c .terms .cipher) ≡ false
+
+module _ (c : Call) (out : List ℕ) where
+  generating : NoneHolds (nextRefusals (standing c) out) → Generating c out
+  unfolding nextRefusals
+  generating n =
+      let good = good-by c (n .1 .0) in
+      let has : generates (standing c) ≡ true = not-false _ (n .1 .1 .0) in
+      by-stands c good (λ o e s. absurd (true≢false (sym has ∙ ap generates s)))
+      (λ o e s. record { long = eqb-true _ _ (not-false _ (n .0)); good = good; sends = e; vectored = not-true _ (sym (ap generates s) ∙ has) })
+      (λ o e s. absurd (true≢false (sym has ∙ ap generates s)))
+
+  -- then it writes L of the call's vector
+  pub next-given : Generating c out → nextVectorOf c out ≡ (Done, nextVector (c .vector))
+  unfolding nextVectorOf nextRefusals
+  next-given g = rw (is-sender c (g .good) (g .sends), eq-eqb _ _ (g .long), g .vectored)
+
+  pub next-exactly : (numberOf (nextVectorOf c out .0) ≡ 0 → Generating c out) × (Generating c out → numberOf (nextVectorOf c out .0) ≡ 0)
+  unfolding nextVectorOf nextRefusals
+  next-exactly = (
+    by-refusals (λ o. numberOf (o .0) ≡ 0 → Generating c out) out (nextRefusals (standing c) out) (Done, following (standing c))
+        (λ a m z. absurd (omega (arith, among-refuses a (nextRefusals (standing c) out) refl m))) (λ n z. generating n),
+    λ g. ap (λ (o : Answer × List ℕ). numberOf (o .0)) (next-given g),
+  )
 
 -- ---- while a call stands
 

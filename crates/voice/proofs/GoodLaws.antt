@@ -115,13 +115,13 @@ pub sent-some : (c : ℕ) (v : List ℕ) → IsVector v → sentRight c v ≡ tr
 unfolding vectorRight
 sent-some c v i right e = next-not-zero v i (not-true (allZero v) (rw e at right))
 
-going-right : (c : ℕ) (v : List ℕ) → IsVector v → sentRight c v ≡ true → sentRight c (goingOn c v) ≡ true
+going-right : (c : ℕ) (v : List ℕ) → (scrambles c ≡ false → IsVector v) → sentRight c v ≡ true → sentRight c (goingOn c v) ≡ true
 unfolding vectorRight goingOn
 going-right c v i right = go (scrambles c) refl
   where
     go : (t : Bool) → scrambles c ≡ t → sentRight c (goingOn c v) ≡ true
     go true e = scramble-right c v e
-    go false e = rw (e, sent-some c v i right e)
+    go false e = rw (e, sent-some c v (i e) right e)
 
 module _ (t : Terms) (p : ℕ) (key : keyRight (t .cipher) (t .key) ≡ true) (place : p < sessionSlots (t .cipher)) where
   received-good : (k : Known) → knownRight (t .cipher) k ≡ true → goodCall (written (slotOn (receiving t p k))) ≡ true
@@ -171,9 +171,9 @@ slot-good-if c good next =
     on : {s : Standing} → standing c ≡ s → goodCall (written (slotOn s)) ≡ true → goodCall (written (slotOn (standing c))) ≡ true
     on s g = ap (λ (t : Standing). goodCall (written (slotOn t))) s ∙ g
 
--- so a receiver stays good, and a sender whose vector is eight octets
+-- so a receiver stays good, a scramble sender, and a DES or AES sender whose vector is eight octets
 abbrev pub VectorSent : Call → Type 0
-VectorSent c = c .end ≡ sendingEnd → IsVector (c .vector)
+VectorSent c = c .end ≡ sendingEnd → scrambles (c .terms .cipher) ≡ false → IsVector (c .vector)
 
 pub slot-good : (c : Call) → goodCall c ≡ true → VectorSent c → goodCall (written (slotOn (standing c))) ≡ true
 slot-good c good sent = slot-good-if c good (λ e l. going-right (c .terms .cipher) (c .vector) (sent e) (sender-right c good e))

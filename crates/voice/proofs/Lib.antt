@@ -5,10 +5,10 @@ pub mod SlotLaws
 pub mod VectorLaws
 pub mod GoodLaws
 pub mod OpeningGood
-pub mod NeverZero
 pub mod SlotSteps
 pub mod Settled
 pub mod VoiceBits
 pub mod Exactly
+pub mod NeverZero
 pub mod SessionOnce
 pub mod Examples

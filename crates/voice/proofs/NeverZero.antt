@@ -1,32 +1,33 @@
 -- A DES or AES sender never runs into a vector of zeros: it stays a good sender after every slot, and its next vector is never all zero. (Why W-208
 -- could retire 14.)
-use mathlib.Core.Path.{_≡_, refl, sym, ap, _∙_}
-use mathlib.Core.Bool.{Bool, true, false, not, true≢false}
+use mathlib.Core.Path.{_≡_, refl, ap, _∙_}
+use mathlib.Core.Bool.{Bool, true, false}
 use mathlib.Core.List.{List, _∷_}
 use Prim.Native.Nat.{ℕ, _+_}
-use native.Mathlib.Omega.{arith}
 use lib.Dec.{ltb}
 use lib.ListN.{replicate}
-use borrow.Author.Tests.{not-false, not-true}
+use borrow.Author.Tests.{not-true}
 use Rattle.octets.specs.Tests.{pick, allBelow}
 use Rattle.octets.specs.Lists.{allZero, iterate}
-use Rattle.octets.specs.Bits.{octet, octetsFrom}
+use Rattle.octets.specs.Bits.{bit, octet, octetsFrom}
 use Rattle.octets.proofs.Zeros.{zeros-octets}
 use Rattle.generator.specs.Generator.{IsVector, filled, announced, shifted, nextVector}
 use Rattle.generator.proofs.VectorLaws.{next-is-vector}
 use Rattle.sizes.specs.Ciphers.{sessionSlots, noVector, scrambles}
 use Rattle.answers.specs.declared.Answer.the-variants.{Done}
 use Rattle.answers.specs.Numbers.{numberOf}
-use Rattle.answers.proofs.OutcomeLaws.{among-refuses, by-refusals}
+use Rattle.answers.proofs.OutcomeLaws.{by-refusals}
 use Rattle.ciphers.specs.Keys.{oddOctet, desKey, keyAllowed, keyRight}
 use Rattle.openings.specs.Samples.{desABCD}
 use Rattle.voice.specs.declared.call.Terms.{Terms}
 use Rattle.voice.specs.declared.call.Call.{Call}
 use Rattle.voice.specs.Call.{sendingEnd, vectorRight, closedTests, openTests, isClosed, isOpen, goodCall, Standing, sending, standing, termsOf, written}
-use Rattle.voice.specs.Slot.{goingOn, slotOn, voiceRefusals, voiceAfter, voiceBy}
-use Rattle.voice.specs.Vector.{generates, following, nextRefusals, nextVectorOf}
-use Rattle.voice.proofs.CallLaws.{is-sender, good-by, by-stands}
-use Rattle.voice.proofs.GoodLaws.{sent-some, sender-right, slot-good}
+use Rattle.voice.specs.Slot.{goingOn, slotOn, voiceRefusals, voiceAfter, voiceBy, voiceByOctets}
+use Rattle.voice.specs.Vector.{nextRefusals, nextVectorOf}
+use Rattle.voice.proofs.CallLaws.{is-sender}
+use Rattle.voice.proofs.SlotLaws.{by-lent}
+use Rattle.voice.proofs.GoodLaws.{sent-some, sender-right, VectorSent, slot-good}
+use Rattle.voice.proofs.Exactly.{next-given, next-exactly}
 
 -- a good sender of these terms, whose vector is eight octets
 pub record Sends (t : Terms) (c : Call) : Type 0 where
@@ -37,22 +38,22 @@ pub record Sends (t : Terms) (c : Call) : Type 0 where
 
 -- ---- a slot
 
-pub no-vector : IsVector noVector
-no-vector = record { long = refl; octets = zeros-octets 8 }
+pub zeros-vector : IsVector noVector
+zeros-vector = record { long = refl; octets = zeros-octets 8 }
 
 going-vector : (c : ℕ) (v : List ℕ) → IsVector (goingOn c v)
 unfolding goingOn
 going-vector c v = go (scrambles c)
   where
     go : (b : Bool) → IsVector (pick b noVector (nextVector v))
-    go true = no-vector
+    go true = zeros-vector
     go false = next-is-vector v
 
 module _ (t : Terms) (c : Call) (s : Sends t c) where
   -- one slot on
   sends-on : Sends t (written (slotOn (standing c)))
   unfolding slotOn
-  sends-on = rw stood (go (ltb (c .position + 1) (sessionSlots (c .terms .cipher))) (rw stood at (slot-good c (s .good) (λ e. s .vector))))
+  sends-on = rw stood (go (ltb (c .position + 1) (sessionSlots (c .terms .cipher))) (rw stood at (slot-good c (s .good) (λ e d. s .vector))))
     where
       stood : standing c ≡ sending (c .terms) (c .position) (c .vector)
       stood = is-sender c (s .good) (s .end)
@@ -71,6 +72,9 @@ module _ (t : Terms) (c : Call) (s : Sends t c) where
       by-refusals (λ o. Sends t (o .1 .0)) (c, frame) (voiceRefusals (standing c) mask frame) (voiceAfter st mask frame (standing c)) (λ a m. s)
       (λ n. sends-on)
 
+  pub voice-by-octets-sends : (session : List ℕ) (mask : ℕ) (frame : List ℕ) → Sends t (voiceByOctets session c mask frame .1 .0)
+  voice-by-octets-sends session mask frame = by-lent session c mask frame (λ o. Sends t (o .1 .0)) s (voice-sends (λ d. bit session) mask frame)
+
   -- its vector is not all zero
   pub sends-some : scrambles (t .cipher) ≡ false → allZero (c .vector) ≡ false
   unfolding vectorRight
@@ -78,28 +82,21 @@ module _ (t : Terms) (c : Call) (s : Sends t c) where
 
 -- ---- next vector
 
-module _ (c : Call) (vector : IsVector (c .vector)) where
-  following-some : goodCall c ≡ true → generates (standing c) ≡ true → allZero (following (standing c)) ≡ false
-  following-some good a =
-      by-stands c good (λ o e s. absurd (true≢false (sym a ∙ ap generates s)))
-      (λ o e s. ap (λ (t : Standing). allZero (following t)) s ∙ sent-some (c .terms .cipher) (c .vector) vector (sender-right c good e) (not-true _ (sym (ap generates s) ∙ a)))
-      (λ o e s. absurd (true≢false (sym a ∙ ap generates s)))
-
-  -- where it is done, what it writes is not all zero
-  pub next-some : (out : List ℕ) → numberOf (nextVectorOf c out .0) ≡ 0 → allZero (nextVectorOf c out .1) ≡ false
-  unfolding nextVectorOf nextRefusals
-  next-some out =
-      by-refusals (λ o. numberOf (o .0) ≡ 0 → allZero (o .1) ≡ false) out (nextRefusals (standing c) out) (Done, following (standing c))
-      (λ a m z. absurd (omega (arith, among-refuses a (nextRefusals (standing c) out) refl m)))
-      (λ n z. following-some (good-by c (n .1 .0)) (not-false _ (n .1 .1 .0)))
+-- where it is done, what it writes is not all zero
+pub next-some : (c : Call) → VectorSent c → (out : List ℕ) → numberOf (nextVectorOf c out .0) ≡ 0 → allZero (nextVectorOf c out .1) ≡ false
+next-some c sent out z =
+    let g = next-exactly c out .0 z in
+    rw (next-given c out g) (sent-some (c .terms .cipher) (c .vector) (sent (g .sends) (g .vectored)) (sender-right c (g .good) (g .sends)) (g .vectored))
 
 -- ---- octets it has to be
 
-abbrev beyond : ℕ → Standing
-beyond p = sending (termsOf 2 desABCD) p (256 ∷ replicate 7 0)
+-- a DES sender at its session's last slot, with a list that is no octets: not all zero, and without a bit
+abbrev pub beyond : Call
+beyond = written (sending (termsOf 2 desABCD) 7 (256 ∷ replicate 7 0))
 
--- a list that is no octets may be not all zero and have no bit: a sender with it is good, and after its session it is not
-pub beyond-octets : (goodCall (written (beyond 7)) ≡ true) × (goodCall (written (slotOn (beyond 7))) ≡ false)
-unfolding slotOn goingOn goodCall isClosed closedTests isOpen openTests keyRight vectorRight keyAllowed desKey oddOctet allZero allBelow nextVector announced iterate
-    shifted filled octetsFrom octet
-beyond-octets = (refl, refl)
+-- it is good, after a slot it is not, and its next vector is zeros
+pub beyond-octets : (goodCall beyond ≡ true) × (goodCall (voiceBy (λ c n. 0) beyond 0 (replicate 28 0) .1 .0) ≡ false)
+    × (nextVectorOf beyond noVector ≡ (Done, noVector))
+unfolding voiceBy voiceRefusals nextVectorOf nextRefusals standing slotOn goingOn goodCall isClosed closedTests isOpen openTests keyRight vectorRight
+    keyAllowed desKey oddOctet allZero allBelow nextVector announced iterate shifted filled octetsFrom octet
+beyond-octets = (refl, refl, refl)

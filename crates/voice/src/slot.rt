@@ -1,6 +1,6 @@
 // A voice slot of a call, arrived or lost.
 ghost use mathlib.Core.Path.{_≡_};
-ghost use Prim.Native.Nat.{_+_, _<_};
+ghost use Prim.Native.Nat.{_<_};
 ghost use lib.ListN.{length};
 ghost use mathlib.Core.Bool.{true};
 ghost use Rattle.sizes.specs.Ciphers.{sessionSlots};
