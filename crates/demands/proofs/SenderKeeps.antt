@@ -1,7 +1,7 @@
 -- Our sender keeps the rules: the call that it makes is one of those that demand 3 is about. Its sessions' vectors follow one another, and it never
 -- stops or runs into zeros.
 use mathlib.Core.Path.{_≡_, refl, sym, ap, ap₂, _∙_}
-use mathlib.Core.Bool.{Bool, true, false, _&&_, not, true≢false}
+use mathlib.Core.Bool.{Bool, true, false, not, true≢false}
 use mathlib.Core.List.{List, [], _∷_, map}
 use Prim.Native.Nat.{ℕ, suc, _+_, _*_, _≤_, _<_}
 use native.Mathlib.Nat.{add-zero}
@@ -16,7 +16,6 @@ use Rattle.octets.specs.Tests.{pick}
 use Rattle.octets.specs.Bits.{Octets}
 use Rattle.octets.specs.Lists.{allZero, Each}
 use Rattle.generator.specs.Generator.{IsVector, nextVector}
-use Rattle.generator.proofs.VectorLaws.{next-is-vector}
 use Rattle.sizes.specs.Ciphers.{keyOctets, sessionSlots, noVector, scrambles}
 use Rattle.ciphers.specs.Keystream.{stream}
 use Rattle.answers.specs.declared.Answer.{Answer}
@@ -33,9 +32,9 @@ use Rattle.voice.specs.Vector.{nextRefusals, nextVectorOf}
 use Rattle.voice.proofs.FrameLaws.{protect-same, protect-frame}
 use Rattle.sizes.proofs.SizeLaws.{no-vector-zero}
 use Rattle.voice.proofs.CallLaws.{is-sender}
-use Rattle.voice.proofs.GoodLaws.{sentRight, good-sender, read-written}
+use Rattle.voice.proofs.GoodLaws.{sentRight, good-sender, read-written, sent-some, going-right}
 use Rattle.voice.proofs.Exactly.{next-given}
-use Rattle.voice.proofs.NeverZero.{Sends, zeros-vector, voice-sends, sends-some}
+use Rattle.voice.proofs.NeverZero.{Sends, zeros-vector, going-vector, voice-sends, sends-some}
 use Rattle.voice.proofs.SlotSteps.{voice-at}
 use Rattle.demands.specs.Talk.{Slot, Session, SlotKept, SlotsKept, VectorKept, SessionKept, Full, slotCounts, Kept, HasKey, WayIn}
 use Rattle.demands.specs.Log.{talkLog}
@@ -45,31 +44,24 @@ use Rattle.demands.proofs.AirLaws.{protected-air}
 use Rattle.demands.proofs.Standing.{pair-in-range, key-ranged, has-key-right, slots-some, closed-read, not-zero-for, same-stream}
 use Rattle.demands.proofs.ReceiverMeets.{ours-meets-3}
 
--- a sender's vector: the generator makes no zeros of one that isn't
+-- a sender's vector: eight octets, and for DES and AES not zeros
 pub record Sound (c : ℕ) (v : List ℕ) : Type 0 where
   pub vector : IsVector v
-  pub zeros : allZero v ≡ scrambles c
+  pub right : sentRight c v ≡ true
 
 sound-kept : (c : ℕ) (v : List ℕ) → Sound c v → VectorKept c v
-sound-kept c v s = record { long = s .vector .long; some = λ e. s .zeros ∙ e }
-
-no-vector-sound : (c : ℕ) → scrambles c ≡ true → Sound c noVector
-no-vector-sound c e = record { vector = zeros-vector; zeros = no-vector-zero ∙ sym e }
+sound-kept c v s = record { long = s .vector .long; some = sent-some c v (s .right) }
 
 starts-sound : (c : ℕ) (v : List ℕ) → VectorKept c v → Octets v → Sound c (sessionVector c v)
+unfolding vectorRight
 starts-sound c v s o = go (scrambles c) refl
   where
     go : (t : Bool) → scrambles c ≡ t → Sound c (pick t noVector v)
-    go true e = no-vector-sound c e
-    go false e = record { vector = record { long = s .long; octets = o }; zeros = s .some e ∙ sym e }
+    go true e = record { vector = zeros-vector; right = rw (e, no-vector-zero) }
+    go false e = record { vector = record { long = s .long; octets = o }; right = rw (e, s .some e) }
 
 going-sound : (c : ℕ) (v : List ℕ) → Sound c v → Sound c (goingOn c v)
-unfolding goingOn
-going-sound c v s = go (scrambles c) refl
-  where
-    go : (t : Bool) → scrambles c ≡ t → Sound c (pick t noVector (nextVector v))
-    go true e = no-vector-sound c e
-    go false e = record { vector = next-is-vector v; zeros = next-not-zero v (s .vector) (s .zeros ∙ e) ∙ sym e }
+going-sound c v s = record { vector = going-vector c v; right = going-right c v (λ e. s .vector) (s .right) }
 
 -- the vector that is gone on with is the next one's
 going-next : (c : ℕ) (v : List ℕ) → goingOn c (sessionVector c v) ≡ sessionVector c (nextVector v)
@@ -100,19 +92,11 @@ module _ (b : List ℕ) (c i : ℕ) (key : List ℕ) (h : HasKey b c i key) (lon
   some : 0 < sessionSlots c
   some = let l = slots-some c (key-ranged b c i key h) in omega arith
 
-  right-vector : (v : List ℕ) → Sound c v → sentRight c v ≡ true
-  unfolding vectorRight
-  right-vector v kept = rw (kept .zeros) (go (scrambles c))
-    where
-      go : (t : Bool) → pick t (true && t) (true && not t) ≡ true
-      go true = refl
-      go false = refl
-
   spot-read : (v : List ℕ) → Sound c v → (p : ℕ) → p < sessionSlots c → standing (spot v p) ≡ sending t p v
   spot-read v kept p l =
       ap standing (spot-in v p l)
       ∙ read-written (sending t p v) refl
-      (good-sender t p (has-key-right b c i key h) l v (right-vector v kept))
+      (good-sender t p (has-key-right b c i key h) l v (kept .right))
 
   -- ---- the slots of a session
 
@@ -228,6 +212,11 @@ module _ (b : List ℕ) (c i : ℕ) (key : List ℕ) (h : HasKey b c i key) (lon
       let zeros = own-next-zero v (record { long = s .long; octets = o }) (sym (at (nextVector v)) ∙ sym (f .1 .0) ∙ sym same ∙ f .0 ∙ at v) in
       true≢false (sym no-vector-zero ∙ sym (ap allZero zeros) ∙ s .some e)
 
+  -- our sender to our receiver, whose book has the key under an ID of its own
+  pub ours-to-ours : (v : List ℕ) → VectorKept c v → Octets v → (said : List Saying) → AllSaid c said
+      → (b′ : List ℕ) (i′ : ℕ) → HasKey b′ c i′ key → (e : WayIn) → Each Right (talkLog ours b′ i′ (talkMade c key i v b said) e)
+  ours-to-ours v s o said a = ours-meets-3 (talkMade c key i v b said) (ours-keeps v s o said a)
+
   -- ---- whatever slots it was given, done or refused
 
   sends-on : (s : Call) → Sends t s → (xs : List Said) → Sends t (afterwards s xs)
@@ -243,7 +232,7 @@ module _ (b : List ℕ) (c i : ℕ) (key : List ℕ) (h : HasKey b c i key) (lon
         let sound = starts-sound c v s o in
         let first : Sends t (from (sessionVector c v)) =
         record {
-          good = good-sender t 0 (has-key-right b c i key h) some (sessionVector c v) (right-vector (sessionVector c v) sound);
+          good = good-sender t 0 (has-key-right b c i key h) some (sessionVector c v) (sound .right);
           end = refl;
           terms = refl;
           vector = sound .vector;
@@ -268,8 +257,3 @@ module _ (b : List ℕ) (c i : ℕ) (key : List ℕ) (h : HasKey b c i key) (lon
             (record { long = l; good = sends .good; sends = sends .end; vectored = ap (λ (u : Terms). scrambles (u .cipher)) (sends .terms) ∙ e }),
         next-not-zero (sender .vector) (sends .vector) ours-never-zero,
       )
-
-  -- our sender to our receiver, whose book has the key under an ID of its own
-  pub ours-to-ours : (v : List ℕ) → VectorKept c v → Octets v → (said : List Saying) → AllSaid c said
-      → (b′ : List ℕ) (i′ : ℕ) → HasKey b′ c i′ key → (e : WayIn) → Each Right (talkLog ours b′ i′ (talkMade c key i v b said) e)
-  ours-to-ours v s o said a = ours-meets-3 (talkMade c key i v b said) (ours-keeps v s o said a)

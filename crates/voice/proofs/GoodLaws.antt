@@ -13,7 +13,7 @@ use Rattle.octets.specs.Lists.{allZero}
 use Rattle.octets.specs.Bits.{bit}
 use Rattle.octets.proofs.TestLaws.{and-left, every-at}
 use Rattle.sizes.specs.Ciphers.{sessionSlots, keyRoom, vectorOctets, noVector, scrambles}
-use Rattle.generator.specs.Generator.{IsVector, nextVector}
+use Rattle.generator.specs.Generator.{IsVector}
 use Rattle.generator.proofs.NotZero.{next-not-zero}
 use Rattle.answers.specs.declared.Answer.{Answer}
 use Rattle.answers.specs.declared.Answer.the-variants.{Done}
@@ -110,18 +110,18 @@ pub scramble-right : (c : ℕ) (v : List ℕ) → scrambles c ≡ true → sentR
 unfolding vectorRight goingOn
 scramble-right c v e = rw (e, no-vector-zero)
 
--- a sender's vector that isn't zero is followed by one that isn't
-pub sent-some : (c : ℕ) (v : List ℕ) → IsVector v → sentRight c v ≡ true → scrambles c ≡ false → allZero (nextVector v) ≡ false
+-- DES or AES has one that isn't zeros, and goes on with the next, which isn't
+pub sent-some : (c : ℕ) (v : List ℕ) → sentRight c v ≡ true → scrambles c ≡ false → allZero v ≡ false
 unfolding vectorRight
-sent-some c v i right e = next-not-zero v i (not-true (allZero v) (rw e at right))
+sent-some c v right e = not-true (allZero v) (rw e at right)
 
-going-right : (c : ℕ) (v : List ℕ) → (scrambles c ≡ false → IsVector v) → sentRight c v ≡ true → sentRight c (goingOn c v) ≡ true
+pub going-right : (c : ℕ) (v : List ℕ) → (scrambles c ≡ false → IsVector v) → sentRight c v ≡ true → sentRight c (goingOn c v) ≡ true
 unfolding vectorRight goingOn
 going-right c v i right = go (scrambles c) refl
   where
     go : (t : Bool) → scrambles c ≡ t → sentRight c (goingOn c v) ≡ true
     go true e = scramble-right c v e
-    go false e = rw (e, sent-some c v (i e) right e)
+    go false e = rw (e, next-not-zero v (i e) (sent-some c v right e))
 
 module _ (t : Terms) (p : ℕ) (key : keyRight (t .cipher) (t .key) ≡ true) (place : p < sessionSlots (t .cipher)) where
   received-good : (k : Known) → knownRight (t .cipher) k ≡ true → goodCall (written (slotOn (receiving t p k))) ≡ true

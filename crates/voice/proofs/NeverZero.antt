@@ -6,12 +6,12 @@ use mathlib.Core.List.{List, _∷_}
 use Prim.Native.Nat.{ℕ, _+_}
 use lib.Dec.{ltb}
 use lib.ListN.{replicate}
-use borrow.Author.Tests.{not-true}
 use Rattle.octets.specs.Tests.{pick, allBelow}
 use Rattle.octets.specs.Lists.{allZero, iterate}
 use Rattle.octets.specs.Bits.{bit, octet, octetsFrom}
 use Rattle.octets.proofs.Zeros.{zeros-octets}
 use Rattle.generator.specs.Generator.{IsVector, filled, announced, shifted, nextVector}
+use Rattle.generator.proofs.NotZero.{next-not-zero}
 use Rattle.generator.proofs.VectorLaws.{next-is-vector}
 use Rattle.sizes.specs.Ciphers.{sessionSlots, noVector, scrambles}
 use Rattle.answers.specs.declared.Answer.the-variants.{Done}
@@ -41,7 +41,7 @@ pub record Sends (t : Terms) (c : Call) : Type 0 where
 pub zeros-vector : IsVector noVector
 zeros-vector = record { long = refl; octets = zeros-octets 8 }
 
-going-vector : (c : ℕ) (v : List ℕ) → IsVector (goingOn c v)
+pub going-vector : (c : ℕ) (v : List ℕ) → IsVector (goingOn c v)
 unfolding goingOn
 going-vector c v = go (scrambles c)
   where
@@ -77,8 +77,8 @@ module _ (t : Terms) (c : Call) (s : Sends t c) where
 
   -- its vector is not all zero
   pub sends-some : scrambles (t .cipher) ≡ false → allZero (c .vector) ≡ false
-  unfolding vectorRight
-  sends-some e = not-true (allZero (c .vector)) (rw (ap (λ (u : Terms). scrambles (u .cipher)) (s .terms) ∙ e) at (sender-right c (s .good) (s .end)))
+  sends-some e =
+      sent-some (c .terms .cipher) (c .vector) (sender-right c (s .good) (s .end)) (ap (λ (u : Terms). scrambles (u .cipher)) (s .terms) ∙ e)
 
 -- ---- next vector
 
@@ -86,7 +86,8 @@ module _ (t : Terms) (c : Call) (s : Sends t c) where
 pub next-some : (c : Call) → VectorSent c → (out : List ℕ) → numberOf (nextVectorOf c out .0) ≡ 0 → allZero (nextVectorOf c out .1) ≡ false
 next-some c sent out z =
     let g = next-exactly c out .0 z in
-    rw (next-given c out g) (sent-some (c .terms .cipher) (c .vector) (sent (g .sends) (g .vectored)) (sender-right c (g .good) (g .sends)) (g .vectored))
+    let some = sent-some (c .terms .cipher) (c .vector) (sender-right c (g .good) (g .sends)) (g .vectored) in
+    rw (next-given c out g) (next-not-zero (c .vector) (sent (g .sends) (g .vectored)) some)
 
 -- ---- octets it has to be
 
