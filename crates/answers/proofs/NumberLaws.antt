@@ -9,12 +9,12 @@ use Rattle.answers.specs.declared.Answer.the-variants.{Done, Held, Wrong
 use Rattle.answers.specs.Numbers.{numberOf}
 
 -- the answer with a number; where none has it, Done
-abbrev pub answer : ℕ → Answer
-answer n =
+abbrev pub answerOf : ℕ → Answer
+answerOf n =
     getD (Done ∷ Held ∷ WrongLength ∷ OutOfRange ∷ Bad ∷ NoEntry ∷ NotReady ∷ NotAllowed ∷ ZeroVector ∷ NotNow
     ∷ BadMask ∷ Already ∷ Full ∷ TooMany ∷ Done ∷ Malformed ∷ []) n Done
 
-answer-number : (a : Answer) → answer (numberOf a) ≡ a
+answer-number : (a : Answer) → answerOf (numberOf a) ≡ a
 answer-number Done = refl
 answer-number Held = refl
 answer-number WrongLength = refl
@@ -33,8 +33,8 @@ answer-number Malformed = refl
 
 -- no two answers share a number
 pub one-number : (a b : Answer) → numberOf a ≡ numberOf b → a ≡ b
-one-number a b e = sym (answer-number a) ∙ ap answer e ∙ answer-number b
+one-number a b e = sym (answer-number a) ∙ ap answerOf e ∙ answer-number b
 
 -- 14 is retired (W-208)
 pub retired : (a : Answer) → numberOf a ≡ 14 → ⊥
-retired a e = let z : 0 ≡ numberOf a = ap numberOf (sym (ap answer e) ∙ answer-number a) in omega arith
+retired a e = let z : 0 ≡ numberOf a = ap numberOf (sym (ap answerOf e) ∙ answer-number a) in omega arith

@@ -12,7 +12,7 @@ use Rattle.answers.specs.declared.Answer.{Answer}
 use Rattle.answers.specs.Numbers.{numberOf, isOneOf, operationNumbers}
 use Rattle.answers.specs.Outcomes.{Refusals, settled, answered}
 use Rattle.answers.specs.Order.{refusalOrder}
-use Rattle.answers.proofs.NumberLaws.{answer}
+use Rattle.answers.proofs.NumberLaws.{answerOf}
 use Rattle.answers.proofs.OutcomeLaws as outcomes
 use Rattle.answers.proofs.OutcomeLaws.{Refusal, NoneHolds, Among, by-refusals, none-settles, around}
 
@@ -35,8 +35,8 @@ one-of f n (m ∷ ms) t e = go (eqb n m) refl (one-of f n ms (and-right (f m) (a
     go false p later e = later e
 
 -- each number that is listed is an answer's
-pub numbered : (n : ℕ) → isOneOf n operationNumbers ≡ true → numberOf (answer n) ≡ n
-numbered n e = eqb-true _ _ (one-of (λ m. eqb (numberOf (answer m)) m) n operationNumbers refl e)
+pub numbered : (n : ℕ) → isOneOf n operationNumbers ≡ true → numberOf (answerOf n) ≡ n
+numbered n e = eqb-true _ _ (one-of (λ m. eqb (numberOf (answerOf m)) m) n operationNumbers refl e)
 
 -- an answer of the order of refusals is one that an operation can give, and it changes nothing
 of-table : (a : Answer) → isOneOf (numberOf a) refusalOrder ≡ true → (isOneOf (numberOf a) operationNumbers ≡ true) × Refusal a

@@ -1,7 +1,7 @@
 -- Our sender keeps the rules: the call that it makes is one of those that demand 3 is about. Its sessions' vectors follow one another, and it never
 -- stops or runs into zeros.
 use mathlib.Core.Path.{_≡_, refl, sym, ap, ap₂, _∙_}
-use mathlib.Core.Bool.{Bool, true, false, not, true≢false}
+use mathlib.Core.Bool.{Bool, true, false, true≢false}
 use mathlib.Core.List.{List, [], _∷_, map}
 use Prim.Native.Nat.{ℕ, suc, _+_, _*_, _≤_, _<_}
 use native.Mathlib.Nat.{add-zero}
@@ -28,13 +28,13 @@ use Rattle.openings.specs.Ladder.{sessionVector, keyFor, keyRefusals, vectorRef
 use Rattle.voice.specs.Call.{vectorRight, sending, standing, termsOf, noCall, written}
 use Rattle.voice.specs.Opening.{openRefusals, startOf}
 use Rattle.voice.specs.Slot.{goingOn, slotOn, streamOf, voiceOf}
-use Rattle.voice.specs.Vector.{nextRefusals, nextVectorOf}
+use Rattle.voice.specs.Vector.{nextVectorOf}
 use Rattle.voice.proofs.FrameLaws.{protect-same, protect-frame}
 use Rattle.sizes.proofs.SizeLaws.{no-vector-zero}
 use Rattle.voice.proofs.CallLaws.{is-sender}
-use Rattle.voice.proofs.GoodLaws.{sentRight, good-sender, read-written, sent-some, going-right}
+use Rattle.voice.proofs.GoodLaws.{sentRight, good-sender, read-written, sent-some, sender-some, going-right}
 use Rattle.voice.proofs.Exactly.{next-given}
-use Rattle.voice.proofs.NeverZero.{Sends, zeros-vector, going-vector, voice-sends, sends-some}
+use Rattle.voice.proofs.NeverZero.{Sends, zeros-vector, going-vector, voice-sends}
 use Rattle.voice.proofs.SlotSteps.{voice-at}
 use Rattle.demands.specs.Talk.{Slot, Session, SlotKept, SlotsKept, VectorKept, SessionKept, Full, slotCounts, Kept, HasKey, WayIn}
 use Rattle.demands.specs.Log.{talkLog}
@@ -176,11 +176,13 @@ module _ (b : List ℕ) (c i : ℕ) (key : List ℕ) (h : HasKey b c i key) (lon
   pub next-announced : (v : List ℕ) → Sound c v → scrambles c ≡ false → (p : ℕ) → p < sessionSlots c → (lent : List ℕ) → length lent ≡ 8
       → (x : Saying) → length (x .slots) ≡ sessionSlots c → Each SaidKept (x .slots)
       → nextVectorOf (written (sending t p v)) lent ≡ (Done, afterwards (from v) (x .slots) .vector)
-  unfolding nextVectorOf nextRefusals goingOn
+  unfolding goingOn
   next-announced v a e p l lent h8 x f s =
       let g : goingOn c v ≡ nextVector v = rw e in
-      rw (sym (spot-in v p l), spot-read v a p l, eq-eqb _ _ h8, e)
-      (ap (λ (w : List ℕ). (Done, w)) (sym g) ∙ ap (λ (d : Call). (Done, d .vector)) (sym (session-after v a x f s)))
+      next-given (written (sending t p v)) lent
+      (record { long = h8; good = good-sender t p (has-key-right b c i key h) l v (a .right); sends = refl; vectored = e })
+      ∙ ap (λ (w : List ℕ). (Done, w)) (sym g)
+      ∙ ap (λ (d : Call). (Done, d .vector)) (sym (session-after v a x f s))
 
   -- ---- from the start
 
@@ -219,41 +221,43 @@ module _ (b : List ℕ) (c i : ℕ) (key : List ℕ) (h : HasKey b c i key) (lon
 
   -- ---- whatever slots it was given, done or refused
 
-  sends-on : (s : Call) → Sends t s → (xs : List Said) → Sends t (afterwards s xs)
-  sends-on s a [] = a
-  sends-on s a (x ∷ xs) = sends-on (voiceOf s (x .mask) (x .spoken) .1 .0) (voice-sends t s a streamOf (x .mask) (x .spoken)) xs
+  sends-after : (s : Call) → Sends t s → (xs : List Said) → Sends t (afterwards s xs)
+  sends-after s a [] = a
+  sends-after s a (x ∷ xs) = sends-after (voiceOf s (x .mask) (x .spoken) .1 .0) (voice-sends t s a streamOf (x .mask) (x .spoken)) xs
 
   module _ (v : List ℕ) (s : VectorKept c v) (o : Octets v) (said : List Said) where
     abbrev pub sender : Call
     sender = afterwards (startOf noCall c i v b .1) said
 
-    sends : Sends t sender
-    sends =
+    still : Sends t sender
+    still =
         let sound = starts-sound c v s o in
         let first : Sends t (from (sessionVector c v)) =
         record {
           good = good-sender t 0 (has-key-right b c i key h) some (sessionVector c v) (sound .right);
-          end = refl;
+          sends = refl;
           terms = refl;
-          vector = sound .vector;
+          vector = λ e d. sound .vector;
         } in
-        rw (started-at v s) (sends-on (from (sessionVector c v)) first said)
+        rw (started-at v s) (sends-after (from (sessionVector c v)) first said)
 
     -- it never stops: a slot of 28 octets, its mask at most 15, is done
     pub ours-never-refused : (mask : ℕ) (frame : List ℕ) → mask ≤ 15 → length frame ≡ 28 → voiceOf sender mask frame .0 ≡ Done
     ours-never-refused mask frame m l =
-        ap (λ (r : Answer × (Call × List ℕ)). r .0) (voice-at sender mask frame m l (sending (sender .terms) (sender .position) (sender .vector)) (is-sender sender (sends .good) (sends .end)) refl)
+        ap (λ (r : Answer × (Call × List ℕ)). r .0) (voice-at sender mask frame m l (sending (sender .terms) (sender .position) (sender .vector)) (is-sender sender (still .good) (still .sends)) refl)
 
     module _ (e : scrambles c ≡ false) where
+      vectored : scrambles (sender .terms .cipher) ≡ false
+      vectored = ap (λ (u : Terms). scrambles (u .cipher)) (still .terms) ∙ e
+
       -- with DES or AES its vector is never zeros
       pub ours-never-zero : allZero (sender .vector) ≡ false
-      ours-never-zero = sends-some t sender sends e
+      ours-never-zero = sender-some sender (still .good) (still .sends) vectored
 
       -- and next vector is done, with the next one, which is no zeros either
       pub ours-next-done : (lent : List ℕ) → length lent ≡ 8
           → (nextVectorOf sender lent ≡ (Done, nextVector (sender .vector))) × (allZero (nextVector (sender .vector)) ≡ false)
       ours-next-done lent l = (
-        next-given sender lent
-            (record { long = l; good = sends .good; sends = sends .end; vectored = ap (λ (u : Terms). scrambles (u .cipher)) (sends .terms) ∙ e }),
-        next-not-zero (sender .vector) (sends .vector) ours-never-zero,
+        next-given sender lent (record { long = l; good = still .good; sends = still .sends; vectored = vectored }),
+        next-not-zero (sender .vector) (still .vector (still .sends) vectored) ours-never-zero,
       )

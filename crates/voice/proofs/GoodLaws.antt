@@ -1,4 +1,4 @@
--- What is written is read back, and a good call stays good under every operation.
+-- What is written is read back, and a good call stays good under every operation: a DES or AES sender by a slot where its vector is eight octets.
 use mathlib.Core.Path.{_≡_, refl, sym, ap, _∙_}
 use mathlib.Core.Bool.{Bool, true, false, or-true, true≢false}
 use mathlib.Core.List.{List}
@@ -147,8 +147,12 @@ unfolding vectorRight
 announced-right c w e = rw e
 
 module _ (c : Call) (good : goodCall c ≡ true) where
-  pub sender-right : c .end ≡ sendingEnd → sentRight (c .terms .cipher) (c .vector) ≡ true
+  sender-right : c .end ≡ sendingEnd → sentRight (c .terms .cipher) (c .vector) ≡ true
   sender-right z = by-stands c good (λ o e s. absurd (omega arith)) (λ o e s. open-sent c o e) (λ o e s. absurd (omega arith))
+
+  -- with DES or AES its vector is not all zero
+  pub sender-some : c .end ≡ sendingEnd → scrambles (c .terms .cipher) ≡ false → allZero (c .vector) ≡ false
+  sender-some e = sent-some (c .terms .cipher) (c .vector) (sender-right e)
 
   receiver-sends-none : receives (standing c) ≡ true → {A : Type 0} → c .end ≡ sendingEnd → A
   receiver-sends-none r e = absurd (true≢false (sym r ∙ ap receives (is-sender c good e)))
@@ -171,10 +175,11 @@ slot-good-if c good next =
     on : {s : Standing} → standing c ≡ s → goodCall (written (slotOn s)) ≡ true → goodCall (written (slotOn (standing c))) ≡ true
     on s g = ap (λ (t : Standing). goodCall (written (slotOn t))) s ∙ g
 
--- so a receiver stays good, a scramble sender, and a DES or AES sender whose vector is eight octets
+-- a DES or AES sender's vector is eight octets
 abbrev pub VectorSent : Call → Type 0
 VectorSent c = c .end ≡ sendingEnd → scrambles (c .terms .cipher) ≡ false → IsVector (c .vector)
 
+-- so that it stays good, as any other call does
 pub slot-good : (c : Call) → goodCall c ≡ true → VectorSent c → goodCall (written (slotOn (standing c))) ≡ true
 slot-good c good sent = slot-good-if c good (λ e l. going-right (c .terms .cipher) (c .vector) (sent e) (sender-right c good e))
 

@@ -1,6 +1,6 @@
 -- A DES or AES sender never runs into a vector of zeros: it stays a good sender after every slot, and its next vector is never all zero. (Why W-208
 -- could retire 14.)
-use mathlib.Core.Path.{_≡_, refl, ap, _∙_}
+use mathlib.Core.Path.{_≡_, refl}
 use mathlib.Core.Bool.{Bool, true, false}
 use mathlib.Core.List.{List, _∷_}
 use Prim.Native.Nat.{ℕ, _+_}
@@ -26,15 +26,15 @@ use Rattle.voice.specs.Slot.{goingOn, slotOn, voiceRefusals, voiceAfter,
 use Rattle.voice.specs.Vector.{nextRefusals, nextVectorOf}
 use Rattle.voice.proofs.CallLaws.{is-sender}
 use Rattle.voice.proofs.SlotLaws.{by-lent}
-use Rattle.voice.proofs.GoodLaws.{sent-some, sender-right, VectorSent, slot-good}
+use Rattle.voice.proofs.GoodLaws.{sender-some, VectorSent, slot-good}
 use Rattle.voice.proofs.Exactly.{next-given, next-exactly}
 
--- a good sender of these terms, whose vector is eight octets
+-- a good sender of these terms, whose vector is eight octets where it has one
 pub record Sends (t : Terms) (c : Call) : Type 0 where
   pub good : goodCall c ≡ true
-  pub end : c .end ≡ sendingEnd
+  pub sends : c .end ≡ sendingEnd
   pub terms : c .terms ≡ t
-  pub vector : IsVector (c .vector)
+  pub vector : VectorSent c
 
 -- ---- a slot
 
@@ -53,17 +53,17 @@ module _ (t : Terms) (c : Call) (s : Sends t c) where
   -- one slot on
   sends-on : Sends t (written (slotOn (standing c)))
   unfolding slotOn
-  sends-on = rw stood (go (ltb (c .position + 1) (sessionSlots (c .terms .cipher))) (rw stood at (slot-good c (s .good) (λ e d. s .vector))))
+  sends-on = rw stood (go (ltb (c .position + 1) (sessionSlots (c .terms .cipher))) (rw stood at (slot-good c (s .good) (s .vector))))
     where
       stood : standing c ≡ sending (c .terms) (c .position) (c .vector)
-      stood = is-sender c (s .good) (s .end)
+      stood = is-sender c (s .good) (s .sends)
 
       on : Bool → Standing
       on b = pick b (sending (c .terms) (c .position + 1) (c .vector)) (sending (c .terms) 0 (goingOn (c .terms .cipher) (c .vector)))
 
       go : (b : Bool) → goodCall (written (on b)) ≡ true → Sends t (written (on b))
-      go true g = record { good = g; end = refl; terms = s .terms; vector = s .vector }
-      go false g = record { good = g; end = refl; terms = s .terms; vector = going-vector (c .terms .cipher) (c .vector) }
+      go true g = record { good = g; sends = refl; terms = s .terms; vector = λ e. s .vector (s .sends) }
+      go false g = record { good = g; sends = refl; terms = s .terms; vector = λ e d. going-vector (c .terms .cipher) (c .vector) }
 
   -- after any slot, done or refused
   pub voice-sends : (st : Call → ℕ → ℕ) (mask : ℕ) (frame : List ℕ) → Sends t (voiceBy st c mask frame .1 .0)
@@ -75,24 +75,18 @@ module _ (t : Terms) (c : Call) (s : Sends t c) where
   pub voice-by-octets-sends : (session : List ℕ) (mask : ℕ) (frame : List ℕ) → Sends t (voiceByOctets session c mask frame .1 .0)
   voice-by-octets-sends session mask frame = by-lent session c mask frame (λ o. Sends t (o .1 .0)) s (voice-sends (λ d. bit session) mask frame)
 
-  -- its vector is not all zero
-  pub sends-some : scrambles (t .cipher) ≡ false → allZero (c .vector) ≡ false
-  sends-some e =
-      sent-some (c .terms .cipher) (c .vector) (sender-right c (s .good) (s .end)) (ap (λ (u : Terms). scrambles (u .cipher)) (s .terms) ∙ e)
-
 -- ---- next vector
 
 -- where it is done, what it writes is not all zero
 pub next-some : (c : Call) → VectorSent c → (out : List ℕ) → numberOf (nextVectorOf c out .0) ≡ 0 → allZero (nextVectorOf c out .1) ≡ false
 next-some c sent out z =
     let g = next-exactly c out .0 z in
-    let some = sent-some (c .terms .cipher) (c .vector) (sender-right c (g .good) (g .sends)) (g .vectored) in
-    rw (next-given c out g) (next-not-zero (c .vector) (sent (g .sends) (g .vectored)) some)
+    rw (next-given c out g) (next-not-zero (c .vector) (sent (g .sends) (g .vectored)) (sender-some c (g .good) (g .sends) (g .vectored)))
 
 -- ---- octets it has to be
 
 -- a DES sender at its session's last slot, with a list that is no octets: not all zero, and without a bit
-abbrev pub beyond : Call
+abbrev beyond : Call
 beyond = written (sending (termsOf 2 desABCD) 7 (256 ∷ replicate 7 0))
 
 -- it is good, after a slot it is not, and its next vector is zeros
