@@ -1,4 +1,4 @@
--- No vector but zeros is its own next: L(v) is v only for zeros. The taps of the generator besides the one that drops out are five, an odd number.
+-- Zeros alone are their own next: L(v) is v for zeros and for no other vector. The taps of the generator besides the one that drops out are five, an odd number.
 use mathlib.Core.Path.{_≡_, refl, sym, ap, ap₂, _∙_}
 use mathlib.Core.List.{List, [], _∷_, map}
 use Prim.Native.Nat.{ℕ, zero, suc, _+_, _-_, _*_, _%_, _<_}
@@ -7,7 +7,7 @@ use native.Mathlib.Decide.{decLt}
 use native.Mathlib.Omega.{arith}
 use lib.ListN.{replicate}
 use Rattle.octets.specs.Lists.{iterate}
-use Rattle.octets.specs.Bits.{bit}
+use Rattle.octets.specs.Bits.{bit, octet, octetsFrom}
 use Rattle.octets.proofs.BitLaws.{bit-octetsFrom}
 use Rattle.generator.specs.Generator.{IsVector, filled, announced, shifted, nextVector}
 use Rattle.generator.proofs.VectorLaws.{bits-filled, bits-iterate}
@@ -151,3 +151,8 @@ own-next-zero v i e = filled-zero v i (none-in (filled v) own)
         rw q at
         (sym (bit-octetsFrom 8 (λ k. iterate shifted 64 (filled v) (63 - k)) (λ k. bits-iterate 64 (filled v) (bits-filled v) (63 - k)) (63 - i) (omega arith))
         ∙ ap (λ (xs : List ℕ). bit xs (63 - i)) e)
+
+-- and zeros are
+pub zeros-next : nextVector (replicate 8 0) ≡ replicate 8 0
+unfolding nextVector announced iterate shifted filled octetsFrom octet
+zeros-next = refl
