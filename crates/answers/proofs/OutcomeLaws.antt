@@ -126,6 +126,20 @@ module _ {S : Type 0} where
   none-first [] rest before last n = refl
   none-first (r ∷ rs) rest before last n = rw (n .0) (none-first rs rest before last (n .1))
 
+  -- one refusal more at the end: it is given where its test holds and all else would be done
+  pub asked-last : (rs : Refusals) (t : Bool) (a : Answer) (before after : S) → neverDone rs ≡ true
+      → outcome before (rs ++ ((t, a) ∷ [])) after ≡ pick (isDone (outcome before rs after .0) && t) (a, before) (outcome before rs after)
+  asked-last [] t a before after n = refl
+  asked-last (r ∷ rs) t a before after n =
+      go (r .0) (not-true (isDone (r .1)) (and-left (not (isDone (r .1))) (neverDone rs) n)) (asked-last rs t a before after (and-right (not (isDone (r .1))) (neverDone rs) n))
+    where
+      go : (u : Bool) → isDone (r .1) ≡ false
+          → outcome before (rs ++ ((t, a) ∷ [])) after ≡ pick (isDone (outcome before rs after .0) && t) (a, before) (outcome before rs after)
+          → pick u (r .1, before) (outcome before (rs ++ ((t, a) ∷ [])) after)
+          ≡ pick (isDone (pick u (r .1, before) (outcome before rs after) .0) && t) (a, before) (pick u (r .1, before) (outcome before rs after))
+      go true d h = rw d
+      go false d h = h
+
 module _ {S T : Type 0} where
   -- what stands around the state changes no refusal
   pub around : (f : S → T) (before : S) (rs : Refusals) (last : Answer × S)

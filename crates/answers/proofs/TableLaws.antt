@@ -60,6 +60,10 @@ none-answered : (rs : Refusals) (a : Answer) → NoneHolds rs → answered rs a 
 none-answered rs a n = ap (λ (o : Answer × Unit {0}). o .0) (none-settles rs tt (a, tt) n)
 
 module _ {S : Type 0} where
+  -- what is answered is settled by the refusals and the last answer, whatever state they are about
+  pub answer-alone : (before : S) (rs : Refusals) (last : Answer × S) → settled before rs last .0 ≡ answered rs (last .0)
+  answer-alone before rs last = ap (λ (o : Answer × Unit {0}). o .0) (around (λ (x : S). tt {0}) before rs last)
+
   -- an outcome answers by the table and by its refusals, or a where none of them holds; and where it refuses leaves all as it was before
   pub record Settles (before : S) (rs : Refusals) (a : Answer) (o : Answer × S) : Type 0 where
     pub number : isOneOf (numberOf (o .0)) operationNumbers ≡ true
@@ -75,7 +79,7 @@ module _ {S : Type 0} where
         number =
             by-refusals (λ o. isOneOf (numberOf (o .0)) operationNumbers ≡ true) before rs last (λ a m. among-table a rs t m .0)
             (λ n. under-two (numberOf (last .0)) l);
-        answer = ap (λ (o : Answer × Unit {0}). o .0) (around (λ (x : S). tt {0}) before rs last);
+        answer = answer-alone before rs last;
         none-holds =
             by-refusals (λ o. numberOf (o .0) < 2 → NoneHolds rs) before rs last (λ a m h. absurd (omega (arith, among-table a rs t m .1))) (λ n h. n);
         keeps = outcomes.keeps before rs last l;
