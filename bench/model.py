@@ -144,8 +144,6 @@ class Receiver:
             return 9
         if (cipher, key_id) not in self.book:
             return 5
-        if vector is not None and cipher != 1 and not any(vector):
-            return 8
         joined = vector is None and cipher != 1
         known = bytes(8) if cipher == 1 else vector
         self.call = [cipher, self.book[cipher, key_id], 4 if joined else 0, known]
@@ -178,8 +176,6 @@ class Receiver:
     def announce(self, vector):
         if not self.call or self.call[0] == 1 or self.call[2] != 0 or self.call[3] is not None:
             return 9
-        if not any(vector):
-            return 8
         self.call[3] = vector
         return 0
 

@@ -12,6 +12,7 @@ FILES = os.path.join(HERE, "..", "crates", "slotcheck")
 MARK = b"# the lines below are made by bench/stdin.py\n"
 PIECE = 65536
 VECTORS = ["ABCDEF1234567890", "8B8DDEEB890F4CF1", "C83AB2073A8D80E8"]
+ZEROS = "0" * 16
 FRAME = "0123456789ABCDEFFEDCBA987654321000112233445566778899AABB"
 
 
@@ -29,15 +30,18 @@ def session(positions, vector):
 
 
 def announced():
-    """Every position of an opened and a joined session of each cipher, and of one that is held and one that was announced."""
+    """Every position of an opened and a joined session of each cipher, and of one that is held and one that was announced; opened and announced with zeros too."""
     text = b""
     for cipher, slots in ((1, 4), (2, 8), (3, 8)):
         text += line("O", cipher, 0, VECTORS[0]) + session(slots, VECTORS[1])
         if cipher != 1:
-            text += line("I", "0" * 16) + voice() + session(slots - 1, VECTORS[1])
+            text += voice() + session(slots - 1, ZEROS)
             text += line("I", VECTORS[1]) + session(slots, VECTORS[2])
-        text += line("E") + line("J", cipher, 0) + session(4, VECTORS[0])
-        text += line("I", VECTORS[0]) + voice() + line("E")
+            text += line("I", ZEROS) + session(slots, VECTORS[2])
+        text += line("E") + line("O", cipher, 0, ZEROS) + session(slots, VECTORS[1])
+        for vector in VECTORS[0], ZEROS:
+            text += line("E") + line("J", cipher, 0) + session(4, VECTORS[0]) + line("I", vector) + voice()
+        text += line("E")
     return text
 
 

@@ -14,7 +14,7 @@ numberOf Done = 0
 numberOf Held = 1
 -- a lent buffer has the wrong length; add is given more than 32 octets
 numberOf WrongLength = 2
--- cipher type not 1 to 3, key ID above 63, or message kind not 1 to 4
+-- cipher type not 1 to 3, key ID above 63, message kind not 1 to 4, or a packet's end not 0 or 1 (W-204)
 numberOf OutOfRange = 3
 -- bad book or bad call
 numberOf Bad = 4
@@ -24,7 +24,7 @@ numberOf NoEntry = 5
 numberOf NotReady = 6
 -- a finish finds a full-length key that is not allowed
 numberOf NotAllowed = 7
--- vector all zero, DES or AES
+-- vector all zero, DES or AES: for senders only (W-204)
 numberOf ZeroVector = 8
 -- not the time for this operation
 numberOf NotNow = 9

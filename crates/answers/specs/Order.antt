@@ -7,7 +7,7 @@ use Rattle.octets.specs.Tests.{pick}
 use Rattle.answers.specs.Numbers.{numberOf, isOneOf}
 use Rattle.answers.specs.Outcomes.{Refusals}
 
--- the parts of the order: of what is given, of the call or packet, of the book, and of a vector of zeros
+-- the parts of the order: of what is given, of the call or packet, and of the book
 abbrev pub ofGiven : List ℕ
 ofGiven = 2 ∷ 3 ∷ 10 ∷ []
 
@@ -17,12 +17,13 @@ ofCall = 4 ∷ 9 ∷ []
 abbrev pub ofBook : List ℕ
 ofBook = 4 ∷ 5 ∷ 11 ∷ 6 ∷ 13 ∷ 7 ∷ 12 ∷ []
 
-abbrev pub ofZeros : List ℕ
-ofZeros = 8 ∷ []
+-- all but 8, which is for senders only (document 02, W-204)
+abbrev pub withoutZeros : List ℕ
+withoutZeros = ofGiven ++ (ofCall ++ ofBook)
 
 -- 2, then 3, 10, 4 for the call, 9, 4 for the book, 5, 11, 6, 13, 7, 12, 8, each where the operation can give it
 abbrev pub refusalOrder : List ℕ
-refusalOrder = ofGiven ++ (ofCall ++ (ofBook ++ ofZeros))
+refusalOrder = withoutZeros ++ (8 ∷ [])
 
 -- the numbers of a list of refusals
 abbrev pub numbersOf : Refusals → List ℕ

@@ -92,16 +92,16 @@ told p o (m ∷ ms) few long =
 
 -- ---- packets that were opened
 
-module _ (kind c i : ℕ) (v b : List ℕ) (p : Packet) (e : openOf noPacket kind c i v b ≡ (Done, p)) where
+module _ (end kind c i : ℕ) (v b : List ℕ) (p : Packet) (e : openOf noPacket end kind c i v b ≡ (Done, p)) where
   is-opened : p ≡ newPacket kind c v (keyFor b c i)
   is-opened =
       sym (ap (λ (r : Answer × Packet). r .1) e)
-      ∙ open-leaves noPacket kind c i v b (ap (λ (r : Answer × Packet). isDone (r .0)) e) .0
+      ∙ open-leaves noPacket end kind c i v b (ap (λ (r : Answer × Packet). isDone (r .0)) e) .0
 
   is-open : isOpen p ≡ true
   is-open =
       ap (λ (r : Answer × Packet). isOpen (r .1)) (sym e)
-      ∙ open-leaves noPacket kind c i v b (ap (λ (r : Answer × Packet). isDone (r .0)) e) .1
+      ∙ open-leaves noPacket end kind c i v b (ap (λ (r : Answer × Packet). isDone (r .0)) e) .1
 
   first-open : isOpen (newPacket kind c v (keyFor b c i)) ≡ true
   first-open = sym (ap isOpen is-opened) ∙ is-open
@@ -138,13 +138,14 @@ module _ (kind c i : ℕ) (v b : List ℕ) (p : Packet) (e : openOf noPacket kin
           ap (λ (r : Answer × (Packet × List ℕ)). bit (r .1 .1) (16 + k)) nth-taken
           ∙ turned-inside place message (open-kind place place-open) is k h
 
--- what is said over a packet is what is handed out over any other of the same kind, cipher, key and vector, whichever messages are lost
-pub round-trip : (kind c i j : ℕ) (v b d : List ℕ) (sender receiver : Packet)
-    → openOf noPacket kind c i v b ≡ (Done, sender) → openOf noPacket kind c j v d ≡ (Done, receiver) → keyFor b c i ≡ keyFor d c j
+-- what is said over a packet is what is handed out over any other of the same kind, cipher, key and vector, each opened for whichever end, and whichever
+-- messages are lost
+pub round-trip : (end end′ kind c i j : ℕ) (v b d : List ℕ) (sender receiver : Packet)
+    → openOf noPacket end kind c i v b ≡ (Done, sender) → openOf noPacket end′ kind c j v d ≡ (Done, receiver) → keyFor b c i ≡ keyFor d c j
     → (said : List Message) → Fit kind said → handedOut receiver (onAir sender said) ≡ arrived said
-round-trip kind c i j v b d sender receiver opens heard-by same said fit =
+round-trip end end′ kind c i j v b d sender receiver opens heard-by same said fit =
     let here : Packet = newPacket kind c v (keyFor b c i) in
-    let s : sender ≡ here = is-opened kind c i v b sender opens in
-    let r : receiver ≡ here = is-opened kind c j v d receiver heard-by ∙ ap (newPacket kind c v) (sym same) in
+    let s : sender ≡ here = is-opened end kind c i v b sender opens in
+    let r : receiver ≡ here = is-opened end′ kind c j v d receiver heard-by ∙ ap (newPacket kind c v) (sym same) in
     ap₂ (λ (x y : Packet). handedOut x (onAir y said)) r s
-    ∙ both here (first-open kind c i v b sender opens) said (omega (arith, fit .few)) (fit .long) (fit .octets)
+    ∙ both here (first-open end kind c i v b sender opens) said (omega (arith, fit .few)) (fit .long) (fit .octets)

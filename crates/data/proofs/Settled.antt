@@ -1,17 +1,20 @@
 -- Each operation's statement settles its outcome: any two outcomes that meet it are equal. And a refusal, any answer but 0, changes
 -- nothing.
-use mathlib.Core.Path.{_≡_, refl, sym, ap, _∙_}
-use mathlib.Core.Bool.{false, not, true≢false}
+use mathlib.Core.Path.{_≡_, sym, ap, _∙_}
+use mathlib.Core.Bool.{false, _&&_, not, true≢false}
 use mathlib.Core.List.{List}
 use Prim.Native.Nat.{ℕ}
+use lib.Dec.{eqb}
 use native.Mathlib.Omega.{arith}
 use Rattle.answers.specs.declared.Answer.{Answer}
 use Rattle.answers.specs.declared.Answer.the-variants.{Done}
 use Rattle.answers.proofs.OutcomeLaws.{Refusal, keeps, some-refuses, one-outcome}
 use Rattle.openings.specs.Ladder.{keyFor, keyRefusals, vectorRefusals}
+use Rattle.openings.proofs.LadderLaws.{vector-from-two}
 use Rattle.data.specs.declared.packet.Packet.{Packet}
-use Rattle.data.specs.Packet.{isClosed, noPacket, endRefusals, endOf}
-use Rattle.data.specs.Opening.{openRefusals, newPacket, openOf}
+use Rattle.data.specs.Kinds.{isKind}
+use Rattle.data.specs.Packet.{isClosed, goodPacket, noPacket, endRefusals, endOf}
+use Rattle.data.specs.Opening.{toSend, isEnd, openRefusals, newPacket, openOf}
 use Rattle.data.specs.Message.{counted, lostRefusals, lostOf, messageRefusals, messageTurned, messageOf}
 use Rattle.data.proofs.PacketLaws.{not-closed}
 
@@ -21,8 +24,8 @@ module _ (a b : Answer) (x y : Packet) (p : Packet) where
   pub one-end : (a, x) ≡ endOf p → (b, y) ≡ endOf p → (a ≡ b) × (x ≡ y)
   one-end = one-outcome a b x y
 
-  pub one-open : (kind c i : ℕ) (w book : List ℕ) → (a, x) ≡ openOf p kind c i w book → (b, y) ≡ openOf p kind c i w book → (a ≡ b) × (x ≡ y)
-  one-open kind c i w book = one-outcome a b x y
+  pub one-open : (end kind c i : ℕ) (w book : List ℕ) → (a, x) ≡ openOf p end kind c i w book → (b, y) ≡ openOf p end kind c i w book → (a ≡ b) × (x ≡ y)
+  one-open end kind c i w book = one-outcome a b x y
 
   pub one-lost : (a, x) ≡ lostOf p → (b, y) ≡ lostOf p → (a ≡ b) × (x ≡ y)
   one-lost = one-outcome a b x y
@@ -39,9 +42,9 @@ module _ (p : Packet) where
   unfolding endOf
   end-keeps = keeps p (endRefusals p) (Done, noPacket) (omega arith)
 
-  pub open-keeps : (kind c i : ℕ) (w b : List ℕ) → Refusal (openOf p kind c i w b .0) → openOf p kind c i w b .1 ≡ p
+  pub open-keeps : (end kind c i : ℕ) (w b : List ℕ) → Refusal (openOf p end kind c i w b .0) → openOf p end kind c i w b .1 ≡ p
   unfolding openOf
-  open-keeps kind c i w b = keeps p (openRefusals p kind c i w b) (Done, newPacket kind c w (keyFor b c i)) (omega arith)
+  open-keeps end kind c i w b = keeps p (openRefusals p end kind c i w b) (Done, newPacket kind c w (keyFor b c i)) (omega arith)
 
   pub lost-keeps : Refusal (lostOf p .0) → lostOf p .1 ≡ p
   unfolding lostOf
@@ -54,8 +57,9 @@ module _ (p : Packet) where
 -- ---- while a packet stands
 
 -- nothing opens another
-pub open-busy : (p : Packet) → (p .kind ≡ 0 → ⊥) → (kind c i : ℕ) (w b : List ℕ) → Refusal (openOf p kind c i w b .0) × (openOf p kind c i w b .1 ≡ p)
+pub open-busy : (p : Packet) → (p .kind ≡ 0 → ⊥) → (end kind c i : ℕ) (w b : List ℕ) → Refusal (openOf p end kind c i w b .0) × (openOf p end kind c i w b .1 ≡ p)
 unfolding openOf openRefusals vectorRefusals keyRefusals
-open-busy p busy kind c i w b =
-    some-refuses p (openRefusals p kind c i w b) (Done, newPacket kind c w (keyFor b c i)) refl
+open-busy p busy end kind c i w b =
+    some-refuses p (openRefusals p end kind c i w b) (Done, newPacket kind c w (keyFor b c i))
+    (vector-from-two (isEnd end && isKind kind) (not (goodPacket p)) (not (isClosed p)) c i b w (eqb end toSend))
     (λ n. let closed : not (isClosed p) ≡ false = search n in true≢false (sym (ap not (not-closed p busy)) ∙ closed))

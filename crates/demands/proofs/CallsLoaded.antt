@@ -16,7 +16,7 @@ use Rattle.openings.proofs.LadderLaws.{key-never, vector-never}
 use Rattle.voice.specs.declared.call.Terms.{Terms}
 use Rattle.voice.specs.declared.call.Call.{Call}
 use Rattle.voice.specs.Call.{sendingEnd, receivingEnd, goodCall, Known, told, knownBy, untold, Standing, closed, bad, sending, receiving, standing, termsOf, written, isBad, stands, endRefusals, endOf}
-use Rattle.voice.specs.Opening.{joinRefusals, openRefusals, begun, begunOf, openOf, startOf, joined, joinOf}
+use Rattle.voice.specs.Opening.{joinRefusals, begunRefusals, begun, begunOf, openOf, startOf, joined, joinOf}
 use Rattle.voice.specs.Slot.{goingOn, slotOn, lostRefusals, lostOf, voiceRefusals, streamOf, voiceAfter, voiceBy}
 use Rattle.voice.specs.Vector.{withVector, announceRefusals, announceOf, nextVectorOf}
 use Rattle.voice.proofs.CallLaws.{by-stands, stands-bad}
@@ -83,14 +83,14 @@ told-kept w = standing-kept (withVector w) refl refl (λ t p v. refl) (λ t p k.
 -- open and start
 begun-left : (n : ℕ) (b : List ℕ) (c : Call) (end m i : ℕ) (w : List ℕ) (o : CallOperation) → OpensCall n m i (OfCall n o)
     → Left theCalls n b (OfCall n o) c (begunOf end c m i w b .0) (begunOf end c m i w b .1)
-unfolding openRefusals
+unfolding begunRefusals
 begun-left n b c end m i w o p =
     let u : Under (termsOf m (keyFor b m i)) (begun end (termsOf m (keyFor b m i)) (sessionVector m w)) =
     picked (eqb end sendingEnd) (sending (termsOf m (keyFor b m i)) 0 (sessionVector m w)) (receiving (termsOf m (keyFor b m i)) 0 (told (sessionVector m w))) refl refl in
-    renewing theCalls n b (OfCall n o) c (written (begun end (termsOf m (keyFor b m i)) (sessionVector m w))) (openRefusals (standing c) m i w b)
-    (vector-never true (isBad (standing c)) (stands (standing c)) m i b w)
+    renewing theCalls n b (OfCall n o) c (written (begun end (termsOf m (keyFor b m i)) (sessionVector m w))) (begunRefusals end (standing c) m i w b)
+    (vector-never true (isBad (standing c)) (stands (standing c)) m i b w (eqb end sendingEnd))
     (λ h s.
-    begins m i (keyFor b m i) refl p (none-ready-vector true (isBad (standing c)) (stands (standing c)) m i b w h) (ap (λ (t : Terms). t .cipher) u)
+    begins m i (keyFor b m i) refl p (none-ready-vector (eqb end sendingEnd) true (isBad (standing c)) (stands (standing c)) m i b w h) (ap (λ (t : Terms). t .cipher) u)
     (ap (λ (t : Terms). t .key) u))
 
 call-left : (n : ℕ) (b : List ℕ) (c : Call) (o : CallOperation) → Left theCalls n b (OfCall n o) c (callStep b c o .0) (callStep b c o .1 .0)

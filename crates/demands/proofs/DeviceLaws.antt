@@ -1,6 +1,6 @@
 -- Every operation on a device answers by the table, and where it refuses leaves book, calls, packets and lent octets as they were.
 use mathlib.Core.Path.{_≡_, refl, sym, ap, _∙_}
-use mathlib.Core.Bool.{Bool, true, false}
+use mathlib.Core.Bool.{Bool, true, false, _&&_, not}
 use mathlib.Core.List.{List, []}
 use Prim.Native.Nat.{ℕ, _<_}
 use native.Mathlib.Omega.{arith}
@@ -19,13 +19,15 @@ use Rattle.keybook.specs.Operations as operations
 use Rattle.keybook.specs.History as book
 use Rattle.openings.specs.Ladder as ladder
 use Rattle.openings.specs.Ladder.{sessionVector, keyFor, vectorRefusals}
+use Rattle.openings.proofs.LadderLaws.{vector-in-table}
 use Rattle.voice.specs.declared.call.Call.{Call}
 use Rattle.voice.specs.Call.{sendingEnd, receivingEnd, closed, standing, termsOf, written, knows, endRefusals, endOf}
-use Rattle.voice.specs.Opening.{joinRefusals, openRefusals, begun, openOf, startOf, joined, joinOf}
+use Rattle.voice.specs.Opening.{joinRefusals, begunRefusals, begun, openOf, startOf, joined, joinOf}
 use Rattle.voice.specs.Slot.{slotOn, lostRefusals, lostOf, voiceRefusals, streamOf, voiceAfter, voiceBy}
 use Rattle.voice.specs.Vector.{withVector, announceRefusals, announceOf, following, nextRefusals, nextVectorOf}
 use Rattle.voice.proofs.SlotLaws.{taken-under-two}
 use Rattle.data.specs.declared.packet.Packet.{Packet}
+use Rattle.data.specs.Kinds.{isKind}
 use Rattle.data.specs.Packet as packet
 use Rattle.data.specs.Opening as opening
 use Rattle.data.specs.Message as message
@@ -50,10 +52,10 @@ none-lent : {S : Type 0} {before : S} {rs : Refusals} {a : Answer} {o : Answer �
 none-lent {S} s = record { number = s .number; answer = s .answer; none-holds = s .none-holds; keeps = λ h. ap (λ (x : S). (x, [])) (s .keeps h) }
 
 pub call-settles : (b : List ℕ) (c : Call) (o : CallOperation) → Settles (c, lentCall o) (callRefusals b c o) (callUnrefused c o) (callStep b c o)
-unfolding callStep openOf startOf joinOf voiceBy lostOf endOf announceOf nextVectorOf openRefusals joinRefusals vectorRefusals ladder.keyRefusals
+unfolding callStep openOf startOf joinOf voiceBy lostOf endOf announceOf nextVectorOf begunRefusals joinRefusals vectorRefusals ladder.keyRefusals ladder.zeroRefusals
     voiceRefusals lostRefusals endRefusals announceRefusals nextRefusals
-call-settles b c (Open n i w) = none-lent (settles c (openRefusals (standing c) n i w b) (Done, written (begun receivingEnd (termsOf n (keyFor b n i)) (sessionVector n w))) refl (omega arith))
-call-settles b c (Start n i w) = none-lent (settles c (openRefusals (standing c) n i w b) (Done, written (begun sendingEnd (termsOf n (keyFor b n i)) (sessionVector n w))) refl (omega arith))
+call-settles b c (Open n i w) = none-lent (settles c (begunRefusals receivingEnd (standing c) n i w b) (Done, written (begun receivingEnd (termsOf n (keyFor b n i)) (sessionVector n w))) refl (omega arith))
+call-settles b c (Start n i w) = none-lent (settles c (begunRefusals sendingEnd (standing c) n i w b) (Done, written (begun sendingEnd (termsOf n (keyFor b n i)) (sessionVector n w))) refl (omega arith))
 call-settles b c (Join n i) = none-lent (settles c (joinRefusals (standing c) n i b) (Done, written (joined (termsOf n (keyFor b n i)))) refl (omega arith))
 call-settles b c (Voice mask frame) =
     settles (c, frame) (voiceRefusals (standing c) mask frame) (voiceAfter streamOf mask frame (standing c)) refl (taken-under-two (knows (standing c)))
@@ -67,8 +69,10 @@ call-settles b c (NextVector out) =
 pub packet-settles : (b : List ℕ) (p : Packet) (o : PacketOperation) → Settles (p, lentPacket o) (packetRefusals b p o) Done (packetStep b p o)
 unfolding packetStep opening.openOf message.messageOf message.lostOf packet.endOf opening.openRefusals vectorRefusals ladder.keyRefusals
     message.messageRefusals message.lostRefusals packet.endRefusals
-packet-settles b p (OpenPacket kind c i w) =
-    none-lent (settles p (opening.openRefusals p kind c i w b) (Done, opening.newPacket kind c w (keyFor b c i)) refl (omega arith))
+packet-settles b p (OpenPacket end kind c i w) =
+    none-lent
+    (settles p (opening.openRefusals p end kind c i w b) (Done, opening.newPacket kind c w (keyFor b c i))
+    (vector-in-table (opening.isEnd end && isKind kind) (not (packet.goodPacket p)) (not (packet.isClosed p)) c i b w (eqb end opening.toSend)) (omega arith))
 packet-settles b p (Message octets) =
     settles (p, octets) (message.messageRefusals p octets) (Done, (message.counted p, message.messageTurned p octets)) refl (omega arith)
 packet-settles b p LostMessage = none-lent (settles p (message.lostRefusals p) (Done, message.counted p) refl (omega arith))

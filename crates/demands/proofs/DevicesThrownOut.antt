@@ -20,11 +20,11 @@ use Rattle.keybook.specs.Book as rules
 use Rattle.keybook.specs.Operations as operations
 use Rattle.keybook.specs.History as book
 use Rattle.sizes.specs.Ciphers.{noVector}
-use Rattle.openings.specs.Ladder.{keyRefusals, zeroFor, vectorRefusals}
+use Rattle.openings.specs.Ladder.{keyRefusals, zeroFor, zeroRefusals, vectorRefusals}
 use Rattle.openings.specs.Samples.{seed, desABCD}
 use Rattle.voice.specs.declared.call.Call.{Call}
 use Rattle.voice.specs.Call.{vectorRight, closedTests, openTests, isClosed, isOpen, unknown, told, Standing, sending, receiving, standing, termsOf, noCall, written, stands, knows}
-use Rattle.voice.specs.Opening.{openRefusals, joinRefusals}
+use Rattle.voice.specs.Opening.{begunRefusals, joinRefusals}
 use Rattle.voice.specs.Slot.{voiceOf}
 use Rattle.voice.specs.Vector.{announceRefusals}
 use Rattle.voice.proofs.SlotSteps.{voice-at}
@@ -214,13 +214,13 @@ module _ (isHasty : CallOperation → Bool) where
 
   -- hasty in open, in start or in join: each alone is thrown out
   pub hasty-open-thrown-out : isHasty (Open 3 0 seed) ≡ true → Demand1 (hasty isHasty) → ⊥
-  unfolding openRefusals vectorRefusals keyRefusals zeroFor standing isClosed closedTests allZero allBelow firstBelow entry.inRange entry.isFor
+  unfolding begunRefusals vectorRefusals keyRefusals zeroRefusals zeroFor standing isClosed closedTests allZero allBelow firstBelow entry.inRange entry.isFor
       entry.entryRight entry.usedRight entry.readyRight entry.lacks rules.entryOf rules.findEntry rules.apart rules.goodBook
   hasty-open-thrown-out e =
       half-key-fails 3 halfAes (books .0) (books .1) (Open 3 0 seed) (written openedAes) (rw e) (turns openedAes (stand .0) refl refl)
 
   pub hasty-start-thrown-out : isHasty (Start 3 0 seed) ≡ true → Demand1 (hasty isHasty) → ⊥
-  unfolding openRefusals vectorRefusals keyRefusals zeroFor standing isClosed closedTests allZero allBelow firstBelow entry.inRange entry.isFor
+  unfolding begunRefusals vectorRefusals keyRefusals zeroRefusals zeroFor standing isClosed closedTests allZero allBelow firstBelow entry.inRange entry.isFor
       entry.entryRight entry.usedRight entry.readyRight entry.lacks rules.entryOf rules.findEntry rules.apart rules.goodBook
   hasty-start-thrown-out e =
       half-key-fails 3 halfAes (books .0) (books .1) (Start 3 0 seed) (written startedAes) (rw e) (turns startedAes (stand .1) refl refl)

@@ -1,5 +1,6 @@
 -- The premises can be met: for DES and for AES a call of our sender with losses, of whose three sessions the second's vector does not reach the
--- receiver; for scramble a call with losses and with words that gave way to signalling; and what our receiver answers.
+-- receiver, and one of another maker's whose vectors are all zeros; for scramble a call with losses and with words that gave way to signalling; and
+-- what our receiver answers.
 use mathlib.Core.Path.{_≡_, refl, sym, ap, _∙_}
 use mathlib.Core.Bool.{Bool, true, false, true≢false}
 use mathlib.Core.List.{List, [], _∷_, _++_, map}
@@ -7,79 +8,135 @@ use Prim.Native.Nat.{ℕ, zero, suc, _+_, _*_, _^_, _≤_, _<_}
 use native.Mathlib.Nat.{zero-div}
 use native.Mathlib.Omega.{arith}
 use lib.ListN.{length, getD, replicate}
-use Rattle.sizes.specs.Ciphers.{noVector, scrambles}
+use Rattle.sizes.specs.Ciphers.{sessionSlots, noVector, scrambles}
 use Rattle.openings.specs.Samples.{seed}
 use Rattle.octets.specs.Tests.{allBelow}
 use Rattle.octets.specs.Lists.{Each}
 use Rattle.octets.specs.Bits.{flip}
+use Rattle.generator.proofs.OwnNext.{zeros-next}
 use Rattle.ciphers.specs.Keystream.{stream}
 use Rattle.voice.specs.Frame.{IsFrame, word, inMask, ofSlot}
 use Rattle.voice.proofs.FrameLaws.{protect-frame, word-stays}
 use Rattle.demands.specs.Marked.{key0001}
-use Rattle.demands.specs.Talk.{Slot, Talk, WayIn, opening, joining, OnAir, SlotKept, Kept}
+use Rattle.demands.specs.Talk.{Slot, Session, Talk, WayIn, opening, joining, OnAir, SlotKept, SessionKept, Kept, HasKey}
 use Rattle.demands.specs.Notices.{noticesOf}
 use Rattle.demands.specs.Log.{talkLog}
-use Rattle.demands.specs.Demand3.{ours}
+use Rattle.demands.specs.Demand3.{Right, ours}
 use Rattle.demands.specs.Others.{turning}
-use Rattle.demands.specs.OurSender.{Said, Saying, talkMade, SaidKept}
+use Rattle.demands.specs.OurSender.{Said, Saying, talkMade, SaidKept, Follows}
 use Rattle.octets.proofs.Zeros.{octets-by}
 use Rattle.demands.proofs.AirLaws.{word-bits, protected-air}
 use Rattle.demands.proofs.Standing.{eight-slots}
 use Rattle.demands.proofs.ReceiverMeets.{ours-meets-3}
 use Rattle.demands.proofs.Settled.{answers, due, answers-settled}
 use Rattle.demands.proofs.SenderKeeps.{ours-keeps}
-use Rattle.demands.proofs.Samples.{silence, silence-frame, loud, saying, saying-kept, no-vector-kept, seed-kept, seed-octets}
+use Rattle.demands.proofs.Samples.{silence, silence-frame, loud, saying, repeating, saying-kept, repeating-kept, seed-starts}
 use Rattle.demands.proofs.SampleKeys.{keyOf, bookOfThree, has-key, key-long}
 
 -- ---- DES and AES
 
-abbrev quietly : List Bool → List Said
-quietly [] = []
-quietly (a ∷ rest) = record { mask = 15; spoken = silence; arrives = a } ∷ quietly rest
+-- the same frame is said in every slot
+abbrev saidAll : List ℕ → List Bool → List Said
+saidAll frame [] = []
+saidAll frame (a ∷ rest) = record { mask = 15; spoken = frame; arrives = a } ∷ saidAll frame rest
 
-quietly-kept : (arriving : List Bool) → Each SaidKept (quietly arriving)
-quietly-kept [] = tt
-quietly-kept (a ∷ rest) = (record { mask = omega arith; frame = silence-frame }, quietly-kept rest)
+said-all-kept : (frame : List ℕ) → IsFrame frame → (arriving : List Bool) → Each SaidKept (saidAll frame arriving)
+said-all-kept frame f [] = tt
+said-all-kept frame f (a ∷ rest) = (record { mask = omega arith; frame = f }, said-all-kept frame f rest)
 
 -- every other slot is lost
 abbrev others : List Bool
 others = true ∷ false ∷ true ∷ false ∷ true ∷ false ∷ true ∷ false ∷ []
 
-abbrev three : List Saying
-three =
-    record { announced = true; slots = quietly others } ∷ record { announced = false; slots = quietly others }
-    ∷ record { announced = true; slots = quietly (true ∷ []) } ∷ []
+abbrev three : List ℕ → List Saying
+three frame =
+    record { announced = true; slots = saidAll frame others } ∷ record { announced = false; slots = saidAll frame others }
+    ∷ record { announced = true; slots = saidAll frame (true ∷ []) } ∷ []
 
-abbrev pub mixed : ℕ → Talk
-mixed c = talkMade c (keyOf c) 0 seed bookOfThree three
+-- what our receiver then answers by the opening: handed out, held, handed out. The opening, a lost slot and the announcement are 0
+abbrev whenOpened : List ℕ
+whenOpened = 0 ∷ (0 ∷ 0 ∷ 0 ∷ 0 ∷ 0 ∷ 0 ∷ 0 ∷ 0 ∷ (1 ∷ 0 ∷ 1 ∷ 0 ∷ 1 ∷ 0 ∷ 1 ∷ 0 ∷ (0 ∷ 0 ∷ [])))
 
-pub record Mixed (c : ℕ) : Type 0 where
-  pub kept : Kept (mixed c)
-  -- by the opening: handed out, held, handed out. The opening, a lost slot and the announcement are 0
-  pub opened : answers (talkLog ours bookOfThree 0 (mixed c) opening)
-      ≡ 0 ∷ (0 ∷ 0 ∷ 0 ∷ 0 ∷ 0 ∷ 0 ∷ 0 ∷ 0 ∷ (1 ∷ 0 ∷ 1 ∷ 0 ∷ 1 ∷ 0 ∷ 1 ∷ 0 ∷ (0 ∷ 0 ∷ [])))
-  -- joining in the first session, of which two more slots arrive, and in the second
-  pub joined : answers (talkLog ours bookOfThree 0 (mixed c) (joining 0)) ≡ 0 ∷ (1 ∷ 0 ∷ 1 ∷ 0 ∷ (1 ∷ 0 ∷ 1 ∷ 0 ∷ 1 ∷ 0 ∷ 1 ∷ 0 ∷ (0 ∷ 0 ∷ [])))
-  pub joined-later : answers (talkLog ours bookOfThree 0 (mixed c) (joining 1)) ≡ 0 ∷ (1 ∷ 0 ∷ 1 ∷ 0 ∷ (0 ∷ 0 ∷ []))
+-- joining in the first session, of which two more slots arrive, and in the second
+abbrev whenJoined : List ℕ
+whenJoined = 0 ∷ (1 ∷ 0 ∷ 1 ∷ 0 ∷ (1 ∷ 0 ∷ 1 ∷ 0 ∷ 1 ∷ 0 ∷ 1 ∷ 0 ∷ (0 ∷ 0 ∷ [])))
 
-module _ (c : ℕ) (r : (1 ≤ c) × (c ≤ 3)) (n : scrambles c ≡ false) where
-  mixed-kept : Kept (mixed c)
+abbrev whenLater : List ℕ
+whenLater = 0 ∷ (1 ∷ 0 ∷ 1 ∷ 0 ∷ (0 ∷ 0 ∷ []))
+
+pub record Heard (t : Talk) : Type 0 where
+  pub kept : Kept t
+  pub opened : answers (talkLog ours bookOfThree 0 t opening) ≡ whenOpened
+  pub joined : answers (talkLog ours bookOfThree 0 t (joining 0)) ≡ whenJoined
+  pub joined-later : answers (talkLog ours bookOfThree 0 t (joining 1)) ≡ whenLater
+  -- and however it comes in, each word that it hands out is the one that was spoken
+  pub right : (e : WayIn) → Each Right (talkLog ours bookOfThree 0 t e)
+
+module _ (t : Talk) (k : Kept t) (h : HasKey bookOfThree (t .cipher) 0 (t .key)) where
+  settled : (e : WayIn) → answers (talkLog ours bookOfThree 0 t e) ≡ map due (noticesOf t e)
+  settled = answers-settled ours ours-meets-3 t k bookOfThree 0 h
+
+  heard : map due (noticesOf t opening) ≡ whenOpened → map due (noticesOf t (joining 0)) ≡ whenJoined → map due (noticesOf t (joining 1)) ≡ whenLater → Heard t
+  heard o j l =
+      record { kept = k; opened = settled opening ∙ o; joined = settled (joining 0) ∙ j; joined-later = settled (joining 1) ∙ l; right = ours-meets-3 t k bookOfThree 0 h }
+
+-- a call of our sender
+abbrev pub mixed : ℕ → List ℕ → Talk
+mixed c frame = talkMade c (keyOf c) 0 seed bookOfThree (three frame)
+
+-- a call of another maker's sender whose vectors are all zeros
+abbrev zeroSession : ℕ → List ℕ → Bool → List Bool → Session
+zeroSession c frame announced arriving = record { vector = noVector; announced = announced; slots = repeating frame (stream c (keyOf c) noVector) 0 arriving }
+
+abbrev pub zeros : ℕ → List ℕ → Talk
+zeros c frame =
+    record {
+      cipher = c;
+      key = keyOf c;
+      sessions = zeroSession c frame true others ∷ zeroSession c frame false others ∷ zeroSession c frame true (true ∷ []) ∷ [];
+    }
+
+module _ (c : ℕ) (r : (1 ≤ c) × (c ≤ 3)) (n : scrambles c ≡ false) (frame : List ℕ) (f : IsFrame frame) where
+  eight : 8 ≡ sessionSlots c
+  eight = sym (eight-slots c r n)
+
+  mixed-kept : Kept (mixed c frame)
   mixed-kept =
-      let e = eight-slots c r n in
-      ours-keeps bookOfThree c 0 (keyOf c) (has-key c r) (key-long c r) seed (seed-kept c) seed-octets three
-      (record { each = (quietly-kept others, (quietly-kept others, (quietly-kept (true ∷ []), tt))); full = (sym e, (sym e, omega arith)) })
+      let said = said-all-kept frame f in
+      ours-keeps bookOfThree c 0 (keyOf c) (has-key c r) (key-long c r) seed (seed-starts c) (three frame)
+      (record { each = (said others, (said others, (said (true ∷ []), tt))); full = (eight, (eight, omega (arith, eight))) })
 
-  settled : (e : WayIn) → answers (talkLog ours bookOfThree 0 (mixed c) e) ≡ map due (noticesOf (mixed c) e)
-  settled = answers-settled ours ours-meets-3 (mixed c) mixed-kept bookOfThree 0 (has-key c r)
+  mixed-heard : Heard (mixed c frame)
+  mixed-heard = heard (mixed c frame) mixed-kept (has-key c r) (rw n) (rw n) (rw n)
 
-  mixed-met : Mixed c
-  mixed-met = record { kept = mixed-kept; opened = settled opening ∙ rw n; joined = settled (joining 0) ∙ rw n; joined-later = settled (joining 1) ∙ rw n }
+  zero-session-kept : (announced : Bool) (arriving : List Bool) → SessionKept c (keyOf c) (zeroSession c frame announced arriving)
+  zero-session-kept announced arriving = record { vector = refl; slots = repeating-kept frame f (stream c (keyOf c) noVector) 0 arriving }
 
-pub mixed-des : Mixed 2
-mixed-des = mixed-met 2 (omega arith, omega arith) refl
+  zeros-kept : Kept (zeros c frame)
+  zeros-kept =
+      record {
+        key = key-long c r;
+        each = (zero-session-kept true others, (zero-session-kept false others, (zero-session-kept true (true ∷ []), tt)));
+        full = (eight, (eight, omega (arith, eight)));
+      }
 
-pub mixed-aes : Mixed 3
-mixed-aes = mixed-met 3 (omega arith, omega arith) refl
+  -- and its vectors are the generator's: zeros are their own next
+  zeros-heard : Heard (zeros c frame) × Follows c noVector (zeros c frame .sessions)
+  zeros-heard = (heard (zeros c frame) zeros-kept (has-key c r) (rw n) (rw n) (rw n), rw (n, zeros-next, zeros-next) (refl, (refl, (refl, tt))))
+
+-- whatever frame is said
+module _ (frame : List ℕ) (f : IsFrame frame) where
+  pub mixed-des : Heard (mixed 2 frame)
+  mixed-des = mixed-heard 2 (omega arith, omega arith) refl frame f
+
+  pub mixed-aes : Heard (mixed 3 frame)
+  mixed-aes = mixed-heard 3 (omega arith, omega arith) refl frame f
+
+  pub zeros-des : Heard (zeros 2 frame) × Follows 2 noVector (zeros 2 frame .sessions)
+  zeros-des = zeros-heard 2 (omega arith, omega arith) refl frame f
+
+  pub zeros-aes : Heard (zeros 3 frame) × Follows 3 noVector (zeros 3 frame .sessions)
+  zeros-aes = zeros-heard 3 (omega arith, omega arith) refl frame f
 
 -- ---- scramble
 
@@ -148,10 +205,10 @@ replacing-kept =
       key = refl;
       each = (
         record {
-          vector = no-vector-kept;
+          vector = refl;
           slots = (one-gave-way 0, (saying-kept silence silence-frame ks 1 false, (saying-kept silence silence-frame ks 2 true, (all-gave-way 3, tt))));
         },
-        (record { vector = no-vector-kept; slots = (saying-kept silence silence-frame ks 0 false, (one-gave-way 1, tt)) }, tt),
+        (record { vector = refl; slots = (saying-kept silence silence-frame ks 0 false, (one-gave-way 1, tt)) }, tt),
       );
       full = (refl, omega arith);
     }

@@ -16,10 +16,10 @@ use Rattle.keyentry.specs.Entry as entry
 use Rattle.keybook.specs.Book as rules
 use Rattle.keybook.specs.Operations as operations
 use Rattle.keybook.specs.History as book
-use Rattle.openings.specs.Ladder.{keyRefusals, zeroFor, vectorRefusals}
+use Rattle.openings.specs.Ladder.{keyRefusals, zeroFor, zeroRefusals, vectorRefusals}
 use Rattle.voice.specs.declared.call.Call.{Call}
 use Rattle.voice.specs.Call.{vectorRight, closedTests, openTests, isClosed, isOpen, told, Standing, receiving, standing, termsOf, noCall, written}
-use Rattle.voice.specs.Opening.{openRefusals, openOf}
+use Rattle.voice.specs.Opening.{begunRefusals, openOf}
 use Rattle.voice.specs.Slot.{voiceOf}
 use Rattle.voice.proofs.SlotSteps.{voice-at}
 use Rattle.data.specs.declared.packet.Packet.{Packet}
@@ -88,7 +88,7 @@ abbrev heard : Standing
 heard = receiving (termsOf 2 desABCD) 0 (told seed)
 
 opens : openOf noCall 2 0 seed ready ≡ (Done, written heard)
-unfolding openOf openRefusals vectorRefusals keyRefusals zeroFor standing isClosed closedTests allZero allBelow firstBelow entry.inRange entry.isFor
+unfolding openOf begunRefusals vectorRefusals keyRefusals zeroRefusals standing isClosed closedTests allZero allBelow firstBelow entry.inRange entry.isFor
     entry.entryRight entry.usedRight entry.readyRight entry.lacks rules.entryOf rules.findEntry rules.apart rules.goodBook keyAllowed desKey oddOctet
 opens = refl
 
@@ -122,8 +122,8 @@ word-key = ap (λ (c : Call). c .terms .key) is-open
 abbrev dcalls : Packet
 dcalls = opening.newPacket 1 2 seed desABCD
 
-opens-packet : opening.openOf packet.noPacket 1 2 0 seed ready ≡ (Done, dcalls)
-unfolding opening.openOf opening.openRefusals vectorRefusals keyRefusals zeroFor packet.goodPacket packet.isClosed packet.closedTests isKind allZero
+opens-packet : opening.openOf packet.noPacket opening.toSend 1 2 0 seed ready ≡ (Done, dcalls)
+unfolding opening.openOf opening.openRefusals opening.isEnd vectorRefusals keyRefusals zeroRefusals zeroFor packet.goodPacket packet.isClosed packet.closedTests isKind allZero
     allBelow firstBelow entry.inRange entry.isFor entry.entryRight entry.usedRight entry.readyRight entry.lacks rules.entryOf rules.findEntry rules.apart
     rules.goodBook keyAllowed desKey oddOctet
 opens-packet = refl
@@ -134,12 +134,12 @@ unfolding lostRefusals packet.goodPacket packet.isClosed packet.closedTests pack
 dcalls-go = (refl, (refl, tt))
 
 abbrev pub opening-packet : List Operation
-opening-packet = OfPacket 0 (OpenPacket 1 2 0 seed) ∷ loading
+opening-packet = OfPacket 0 (OpenPacket opening.toSend 1 2 0 seed) ∷ loading
 
 is-opened : deviceAfter step opening-packet .packets 0 ≡ dcalls
 unfolding deviceAfter step packetStep
 is-opened =
-    ap (λ (d : Device). step d (OfPacket 0 (OpenPacket 1 2 0 seed)) .1 .0 .packets 0) is-loaded ∙ ap (λ (r : Answer × Packet). r .1) opens-packet
+    ap (λ (d : Device). step d (OfPacket 0 (OpenPacket opening.toSend 1 2 0 seed)) .1 .0 .packets 0) is-loaded ∙ ap (λ (r : Answer × Packet). r .1) opens-packet
 
 abbrev blanks : List ℕ
 blanks = replicate 22 0

@@ -21,6 +21,7 @@ pub mod TimeLaws
 pub mod RefusedLaws
 pub mod LoadedLaws
 pub mod CallsLoaded
+pub mod PacketOpens
 pub mod PacketsLoaded
 pub mod Meets1
 pub mod ThrownOut1

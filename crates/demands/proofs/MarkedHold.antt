@@ -31,10 +31,10 @@ marked =
       example-9 = refl;
       example-10 = example-10;
       example-11 = (
-        openings .2,
+        openings .3,
         λ mask frame m l. (held-on 4 (omega arith) mask frame m l, held-on 5 (omega arith) mask frame m l, held-on 6 (omega arith) mask frame m l, held-on 7 (omega arith) mask frame m l),
         after-four,
         after-three,
       );
-      example-12 = (openings .0, openings .1);
+      example-12 = (openings .0, openings .1, openings .2);
     }

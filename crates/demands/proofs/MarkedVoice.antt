@@ -1,6 +1,5 @@
 -- The marked examples of voice: 2, 11 and 12.
 use mathlib.Core.Path.{_≡_, refl, ap, _∙_}
-use mathlib.Core.Bool.{false}
 use mathlib.Core.List.{List}
 use Prim.Native.Nat.{ℕ, _≤_, _<_}
 use native.Mathlib.Omega.{arith}
@@ -17,25 +16,26 @@ use Rattle.answers.specs.declared.Answer.the-variants.{Done, Held, NotNow, Zero
 use Rattle.keyentry.specs.Entry as entry
 use Rattle.keybook.specs.Book as book
 use Rattle.sizes.specs.Ciphers.{vectorOctets, noVector}
-use Rattle.openings.specs.Ladder.{keyRefusals, zeroFor, vectorRefusals}
+use Rattle.openings.specs.Ladder.{keyRefusals, zeroFor, zeroRefusals, vectorRefusals}
 use Rattle.openings.specs.Samples.{scramble0001, desABCD}
 use Rattle.sizes.specs.Frame.{frameOctets}
 use Rattle.voice.specs.Frame.{ofSlot, wordTurned, protect}
 use Rattle.voice.specs.Call.{vectorRight, closedTests, openTests, isClosed, isOpen, unknown, told, receiving, standing, termsOf, noCall, written}
-use Rattle.voice.specs.Opening.{joinRefusals, openRefusals, openOf, joinOf}
+use Rattle.voice.specs.Opening.{joinRefusals, begunRefusals, openOf, startOf, joinOf}
 use Rattle.voice.specs.Slot.{slotOn, topMask, voiceOf}
 use Rattle.voice.specs.Vector.{announceRefusals, announceOf}
 use Rattle.voice.proofs.SlotSteps.{voice-at}
 use Rattle.demands.specs.Marked.{bookOfTwo, scrambling, waiting, frame8001}
 
--- three openings over that book, without a call
-pub openings : (openOf noCall 2 0 noVector bookOfTwo ≡ (ZeroVector, noCall))
+-- four openings over that book, without a call
+pub openings : (openOf noCall 2 0 noVector bookOfTwo ≡ (Done, written (receiving (termsOf 2 desABCD) 0 (told noVector))))
+    × (startOf noCall 2 0 noVector bookOfTwo ≡ (ZeroVector, noCall))
     × (openOf noCall 1 0 noVector bookOfTwo ≡ (Done, scrambling 0))
     × (joinOf noCall 2 0 bookOfTwo ≡ (Done, waiting 4))
-unfolding openOf joinOf openRefusals joinRefusals vectorRefusals keyRefusals zeroFor standing isClosed closedTests allZero allBelow firstBelow
+unfolding openOf startOf joinOf begunRefusals joinRefusals vectorRefusals keyRefusals zeroRefusals zeroFor standing isClosed closedTests allZero allBelow firstBelow
     entry.inRange entry.isFor entry.entryRight entry.usedRight entry.readyRight entry.lacks book.entryOf book.findEntry book.apart book.goodBook
     keyAllowed scrambleKey desKey oddOctet
-openings = (refl, refl, refl)
+openings = (refl, refl, refl, refl)
 
 frame-turned : protect (ofSlot (stream 1 scramble0001 noVector) 0) 3 (replicate frameOctets 0) ≡ frame8001
 unfolding protect wordTurned turnedIn turned within replaced octetsFrom octet stream P iterate stepped keyNumber
@@ -59,9 +59,9 @@ pub held-on : (p : ℕ) → p < 8 → (mask : ℕ) (frame : List ℕ) → mask �
     → voiceOf (waiting p) mask frame ≡ (Held, (written (slotOn (receiving (termsOf 2 desABCD) p unknown)), frame))
 held-on p h mask frame m l = voice-at (waiting p) mask frame m l (receiving (termsOf 2 desABCD) p unknown) (waiting-stands p h) refl
 
-pub after-four : (w : List ℕ) → length w ≡ vectorOctets → allZero w ≡ false → announceOf (waiting 0) w ≡ (Done, written (receiving (termsOf 2 desABCD) 0 (told w)))
+pub after-four : (w : List ℕ) → length w ≡ vectorOctets → announceOf (waiting 0) w ≡ (Done, written (receiving (termsOf 2 desABCD) 0 (told w)))
 unfolding announceOf announceRefusals
-after-four w l z = rw (waiting-stands 0 (omega arith), eq-eqb _ _ l, z)
+after-four w l = rw (waiting-stands 0 (omega arith), eq-eqb _ _ l)
 
 pub after-three : (w : List ℕ) → length w ≡ vectorOctets → announceOf (waiting 7) w ≡ (NotNow, waiting 7)
 unfolding announceOf announceRefusals

@@ -1,6 +1,6 @@
 -- Whatever a device has been through, a packet that stands holds a key that was completely loaded when it was opened.
 use mathlib.Core.Path.{_≡_, refl}
-use mathlib.Core.Bool.{not}
+use mathlib.Core.Bool.{_&&_, not}
 use mathlib.Core.List.{List}
 use Prim.Native.Nat.{ℕ}
 use lib.Dec.{eqb}
@@ -36,12 +36,12 @@ thePackets =
 
 packet-left : (n : ℕ) (b : List ℕ) (p : Packet) (o : PacketOperation) → Left thePackets n b (OfPacket n o) p (packetStep b p o .0) (packetStep b p o .1 .0)
 unfolding packetStep opening.openOf message.messageOf message.lostOf packet.endOf opening.openRefusals packet.endRefusals
-packet-left n b p (OpenPacket kind c i w) =
-    renewing thePackets n b (OfPacket n (OpenPacket kind c i w)) p (opening.newPacket kind c w (keyFor b c i)) (opening.openRefusals p kind c i w b)
-    (vector-never (isKind kind) (not (packet.goodPacket p)) (not (packet.isClosed p)) c i b w)
+packet-left n b p (OpenPacket end kind c i w) =
+    renewing thePackets n b (OfPacket n (OpenPacket end kind c i w)) p (opening.newPacket kind c w (keyFor b c i)) (opening.openRefusals p end kind c i w b)
+    (vector-never (opening.isEnd end && isKind kind) (not (packet.goodPacket p)) (not (packet.isClosed p)) c i b w (eqb end opening.toSend))
     (λ h s.
-    begins c i (keyFor b c i) refl (by-opening kind w)
-    (none-ready-vector (isKind kind) (not (packet.goodPacket p)) (not (packet.isClosed p)) c i b w h) refl refl)
+    begins c i (keyFor b c i) refl (by-opening end kind w)
+    (none-ready-vector (eqb end opening.toSend) (opening.isEnd end && isKind kind) (not (packet.goodPacket p)) (not (packet.isClosed p)) c i b w h) refl refl)
 packet-left n b p (Message octets) =
     keeping thePackets n b (OfPacket n (Message octets)) (λ (r : Packet × List ℕ). r .0) (p, octets) (message.messageRefusals p octets)
     (Done, (message.counted p, message.messageTurned p octets)) (and-false-r (eqb n n)) (λ s. (s, refl, refl))

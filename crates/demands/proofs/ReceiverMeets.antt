@@ -9,7 +9,7 @@ use native.Mathlib.Numerals.{add-one}
 use native.Mathlib.Omega.{arith}
 use lib.ListN.{length, drop, length-drop}
 use Rattle.answers.specs.Numbers.{numberOf}
-use Rattle.sizes.specs.Ciphers.{keyOctets, sessionSlots, scrambles}
+use Rattle.sizes.specs.Ciphers.{keyOctets, sessionSlots, vectorOctets, scrambles}
 use Rattle.ciphers.specs.Keystream.{stream}
 use Rattle.openings.specs.Ladder.{keyFor}
 use Rattle.voice.specs.declared.call.Terms.{Terms}
@@ -18,7 +18,7 @@ use Rattle.voice.specs.Frame.{word, inMask}
 use Rattle.voice.specs.Call.{Standing, standing, termsOf, noCall}
 use Rattle.voice.specs.Opening.{superframeSlots}
 use Rattle.octets.specs.Lists.{Each}
-use Rattle.demands.specs.Talk.{Slot, Session, WayIn, opening, joining, SlotKept, SlotsKept, VectorKept, SessionKept, Full, slotCounts, HasKey}
+use Rattle.demands.specs.Talk.{Slot, Session, WayIn, opening, joining, SlotKept, SlotsKept, SessionKept, Full, slotCounts, HasKey}
 use Rattle.demands.specs.Notices.{Notice, join, isReached, slotNotice, slotNotices, startNotices, sessionNotices, firstNotices}
 use Rattle.demands.specs.Log.{Report, Event, event, events, talkLog}
 use Rattle.demands.specs.Demand3.{RightSlot, Right, Meets3, ours}
@@ -105,13 +105,13 @@ module _ (b : List ℕ) (c i : ℕ) (key : List ℕ) (h : HasKey b c i key) (lon
         slots-right p xs l s (sessionNotices c ys) (λ d q. r d (q ∙ place-end t (knowing c reached v) (p + length xs) e))
 
   -- told of the vector as the session starts, if the announcement arrived
-  start-right : (told : Bool) (v : List ℕ) → VectorKept c v → (ns : List Notice) → RightFrom (at (isReached c told) v 0) ns
+  start-right : (told : Bool) (v : List ℕ) → length v ≡ vectorOctets → (ns : List Notice) → RightFrom (at (isReached c told) v 0) ns
       → RightFrom (fresh t) (startNotices (not (scrambles c) && told) v ++ ns)
-  start-right told v kept ns r d q = go (scrambles c) refl told r
+  start-right told v l ns r d q = go (scrambles c) refl told r
     where
       go : (u : Bool) → scrambles c ≡ u → (told : Bool) → RightFrom (at (u || told) v 0) ns → Each Right (log d (startNotices (not u && told) v ++ ns))
       go true e told r = r d (place-untold b c i key h d q v true e)
-      go false e true r = rw (place-announced b c i key h d q v kept e) (refl, r _ (announced-stands b c i key h d q v kept e))
+      go false e true r = rw (place-announced b c i key h d q v l e) (refl, r _ (announced-stands b c i key h d q v l e))
       go false e false r = r d (place-untold b c i key h d q v false e)
 
   -- ---- the sessions

@@ -1,23 +1,25 @@
 -- Every operation's refusals stand in the order in which document 01 has them count, whatever the device.
 use mathlib.Core.Path.{_≡_, refl}
-use mathlib.Core.Bool.{true, false, not}
+use mathlib.Core.Bool.{true, false, _&&_, not}
 use mathlib.Core.List.{List, [], _∷_}
 use Prim.Native.Nat.{ℕ}
+use lib.Dec.{eqb}
 use lib.ListN.{length}
 use borrow.Author.Tests.{eq-eqb}
+use Rattle.octets.specs.Tests.{pick}
 use Rattle.answers.specs.declared.Answer.{Answer}
 use Rattle.answers.specs.declared.Answer.the-variants.{NotNow}
 use Rattle.answers.specs.Outcomes.{answered}
-use Rattle.answers.specs.Order.{refusalOrder, numbersOf, inOrder}
+use Rattle.answers.specs.Order.{withoutZeros, refusalOrder, numbersOf, inOrder}
 use Rattle.keyentry.specs.Entry.{inRange, extendRefusals, completeRefusals}
 use Rattle.keybook.specs.Book.{bookOctets, bookRefusals}
 use Rattle.keybook.specs.Operations.{beginRefusals, addRefusals, finishRefusals, eraseRefusals, notReady, readyRefusals}
 use Rattle.keybook.specs.History as book
 use Rattle.sizes.specs.Ciphers.{vectorOctets}
-use Rattle.openings.specs.Ladder.{keyRefusals, vectorRefusals}
+use Rattle.openings.specs.Ladder.{keyRefusals, zeroRefusals, vectorRefusals}
 use Rattle.openings.proofs.LadderLaws.{key-in-order, vector-in-order}
-use Rattle.voice.specs.Call.{Standing, standing, isBad, stands, endRefusals}
-use Rattle.voice.specs.Opening.{joinRefusals, openRefusals}
+use Rattle.voice.specs.Call.{sendingEnd, receivingEnd, Standing, standing, isBad, stands, endRefusals}
+use Rattle.voice.specs.Opening.{joinRefusals, begunRefusals}
 use Rattle.voice.specs.Slot.{lostRefusals, voiceRefusals}
 use Rattle.voice.specs.Vector.{announceRefusals, nextRefusals}
 use Rattle.data.specs.declared.packet.Packet.{Packet}
@@ -29,9 +31,10 @@ use Rattle.demands.specs.Device.{Device, Open, Start, Join, Voice, Lost,
 use Rattle.demands.specs.Refusals.{refusalsOf, withoutCall, withoutBook, orderOf}
 
 -- open and start
-begun-in-order : (s : Standing) (c i : ℕ) (w b : List ℕ) → inOrder refusalOrder (numbersOf (openRefusals s c i w b)) ≡ true
-unfolding openRefusals
-begun-in-order s c i w b = vector-in-order true (isBad s) (stands s) c i b w
+begun-in-order : (end : ℕ) (s : Standing) (c i : ℕ) (w b : List ℕ)
+    → inOrder (pick (eqb end sendingEnd) refusalOrder withoutZeros) (numbersOf (begunRefusals end s c i w b)) ≡ true
+unfolding begunRefusals
+begun-in-order end s c i w b = vector-in-order true (isBad s) (stands s) c i b w (eqb end sendingEnd)
 
 pub in-order : (d : Device) (o : Operation) → inOrder (orderOf o) (numbersOf (refusalsOf d o)) ≡ true
 unfolding beginRefusals addRefusals finishRefusals eraseRefusals bookRefusals extendRefusals completeRefusals joinRefusals voiceRefusals lostRefusals
@@ -40,8 +43,8 @@ in-order d (OfBook (book.Begin c i)) = refl
 in-order d (OfBook (book.Add c i xs)) = refl
 in-order d (OfBook (book.Finish c i)) = refl
 in-order d (OfBook (book.Erase c i)) = refl
-in-order d (OfCall n (Open c i w)) = begun-in-order (standing (d .calls n)) c i w (d .book)
-in-order d (OfCall n (Start c i w)) = begun-in-order (standing (d .calls n)) c i w (d .book)
+in-order d (OfCall n (Open c i w)) = begun-in-order receivingEnd (standing (d .calls n)) c i w (d .book)
+in-order d (OfCall n (Start c i w)) = begun-in-order sendingEnd (standing (d .calls n)) c i w (d .book)
 in-order d (OfCall n (Join c i)) =
     let s = standing (d .calls n) in
     key-in-order true (isBad s) (stands s) c i (d .book)
@@ -50,12 +53,22 @@ in-order d (OfCall n Lost) = refl
 in-order d (OfCall n End) = refl
 in-order d (OfCall n (Announce w)) = refl
 in-order d (OfCall n (NextVector out)) = refl
-in-order d (OfPacket n (OpenPacket kind c i w)) =
+in-order d (OfPacket n (OpenPacket end kind c i w)) =
     let p = d .packets n in
-    vector-in-order (isKind kind) (not (packet.goodPacket p)) (not (packet.isClosed p)) c i (d .book) w
+    vector-in-order (opening.isEnd end && isKind kind) (not (packet.goodPacket p)) (not (packet.isClosed p)) c i (d .book) w (eqb end opening.toSend)
 in-order d (OfPacket n (Message octets)) = refl
 in-order d (OfPacket n LostMessage) = refl
 in-order d (OfPacket n EndPacket) = refl
+
+-- the openings with a vector and announce, in full: 8 is a sender's alone
+pub vector-orders : (d : Device) (n kind c i : ℕ) (w : List ℕ)
+    → (numbersOf (refusalsOf d (OfCall n (Open c i w))) ≡ 2 ∷ 2 ∷ 3 ∷ 4 ∷ 9 ∷ 4 ∷ 5 ∷ 6 ∷ [])
+    × (numbersOf (refusalsOf d (OfCall n (Start c i w))) ≡ 2 ∷ 2 ∷ 3 ∷ 4 ∷ 9 ∷ 4 ∷ 5 ∷ 6 ∷ 8 ∷ [])
+    × (numbersOf (refusalsOf d (OfCall n (Announce w))) ≡ 2 ∷ 4 ∷ 9 ∷ [])
+    × (numbersOf (refusalsOf d (OfPacket n (OpenPacket 0 kind c i w))) ≡ 2 ∷ 2 ∷ 3 ∷ 4 ∷ 9 ∷ 4 ∷ 5 ∷ 6 ∷ [])
+    × (numbersOf (refusalsOf d (OfPacket n (OpenPacket 1 kind c i w))) ≡ 2 ∷ 2 ∷ 3 ∷ 4 ∷ 9 ∷ 4 ∷ 5 ∷ 6 ∷ 8 ∷ [])
+unfolding begunRefusals opening.openRefusals vectorRefusals keyRefusals zeroRefusals announceRefusals
+vector-orders d n kind c i w = (refl, refl, refl, refl, refl)
 
 -- the one exception is all of its own list
 pub message-order : (d : Device) (n : ℕ) (octets : List ℕ) → numbersOf (refusalsOf d (OfPacket n (Message octets))) ≡ 4 ∷ 9 ∷ 2 ∷ []
@@ -76,14 +89,14 @@ module _ (c i : ℕ) (b : List ℕ) (long : length b ≡ 576) (in-range : inRang
     unfolding joinRefusals keyRefusals
     busy-join a = rw (eq-eqb (length b) bookOctets long, in-range, good, there)
 
-    pub busy-open : (w : List ℕ) → length w ≡ 8 → (a : Answer) → answered (openRefusals s c i w b) a ≡ NotNow
-    unfolding openRefusals vectorRefusals keyRefusals
-    busy-open w l a = rw (eq-eqb (length w) vectorOctets l, eq-eqb (length b) bookOctets long, in-range, good, there)
+    pub busy-begun : (end : ℕ) (w : List ℕ) → length w ≡ 8 → (a : Answer) → answered (begunRefusals end s c i w b) a ≡ NotNow
+    unfolding begunRefusals vectorRefusals keyRefusals
+    busy-begun end w l a = rw (eq-eqb (length w) vectorOctets l, eq-eqb (length b) bookOctets long, in-range, good, there)
 
-  pub busy-packet : (p : Packet) → packet.goodPacket p ≡ true → packet.isClosed p ≡ false → (kind : ℕ) → isKind kind ≡ true → (w : List ℕ) → length w ≡ 8
-      → (a : Answer) → answered (opening.openRefusals p kind c i w b) a ≡ NotNow
+  pub busy-packet : (p : Packet) → packet.goodPacket p ≡ true → packet.isClosed p ≡ false → (end kind : ℕ) → (opening.isEnd end && isKind kind) ≡ true → (w : List ℕ)
+      → length w ≡ 8 → (a : Answer) → answered (opening.openRefusals p end kind c i w b) a ≡ NotNow
   unfolding opening.openRefusals vectorRefusals keyRefusals
-  busy-packet p good there kind k w l a = rw (eq-eqb (length w) vectorOctets l, eq-eqb (length b) bookOctets long, k, in-range, good, there)
+  busy-packet p good there end kind k w l a = rw (eq-eqb (length w) vectorOctets l, eq-eqb (length b) bookOctets long, k, in-range, good, there)
 
 -- ---- what the test throws out
 

@@ -1,7 +1,7 @@
 -- What an operation is not refused was right and in time, what is not done leaves the lent octets, and only a slot whose vector is unknown is held, and it is
 -- never done.
 use mathlib.Core.Path.{_≡_, refl, sym, ap, _∙_}
-use mathlib.Core.Bool.{Bool, true, false, _&&_, not, true≢false}
+use mathlib.Core.Bool.{Bool, true, false, _&&_, _||_, not, true≢false}
 use mathlib.Core.List.{List}
 use Prim.Native.Nat.{ℕ, zero, suc, _≤_, _<_}
 use native.Mathlib.Omega.{arith}
@@ -24,8 +24,8 @@ use Rattle.keybook.specs.History as book
 use Rattle.sizes.specs.Ciphers.{vectorOctets}
 use Rattle.openings.specs.Ladder as ladder
 use Rattle.voice.specs.declared.call.Call.{Call}
-use Rattle.voice.specs.Call.{receivingEnd, unknownVector, goodCall, standing, knows, endRefusals}
-use Rattle.voice.specs.Opening.{joinRefusals, openRefusals}
+use Rattle.voice.specs.Call.{sendingEnd, receivingEnd, unknownVector, goodCall, standing, knows, endRefusals}
+use Rattle.voice.specs.Opening.{joinRefusals, begunRefusals}
 use Rattle.voice.specs.Slot.{lostRefusals, voiceRefusals, streamOf, voiceOf}
 use Rattle.voice.specs.Vector.{announceRefusals, following, nextRefusals, nextVectorOf}
 use Rattle.voice.proofs.CallLaws.{good-by, is-sender, or-receiver, knows-no}
@@ -39,7 +39,7 @@ use Rattle.data.specs.Opening as opening
 use Rattle.data.specs.Message as message
 use Rattle.demands.specs.Device.{Device, CallOperation, Open, Start, Join, Voice, Lost, End, Announce, NextVector, callStep, lentCall, PacketOperation, OpenPacket, Message, LostMessage, EndPacket, packetStep, lentPacket, Operation, OfBook, OfCall, OfPacket, step, lent}
 use Rattle.demands.specs.Refusals.{keyRefusals, callRefusals, packetRefusals, refusalsOf}
-use Rattle.demands.specs.Demand1.{Keyed, RightBook, RightVector, RightCall, RightPacket, RightInput, InTime, Unknown, slot}
+use Rattle.demands.specs.Demand1.{Keyed, RightBook, NotZeros, RightCall, RightPacket, RightInput, InTime, Unknown, slot}
 use Rattle.demands.proofs.TimeLaws.{unrefused-in-time}
 use Rattle.demands.proofs.DeviceLaws.{book-settles, call-settles, packet-settles, unrefused-only}
 
@@ -73,41 +73,52 @@ not-zeros : (w : List ℕ) → allZero w ≡ false → w ≡ replicate 8 0 → �
 unfolding allZero allBelow
 not-zeros w f e = true≢false (sym (ap allZero e) ∙ f)
 
-vector-right : (c : ℕ) (w : List ℕ) → not (eqb (length w) vectorOctets) ≡ false → ladder.zeroFor c w ≡ false → RightVector c w
-unfolding ladder.zeroFor
-vector-right c w l z =
-    record { long = sized (length w) vectorOctets l; some = λ n. not-zeros w (sym (ap (λ (t : Bool). not t && allZero w) (ne-eqb c 1 n)) ∙ z) }
+sender-not-zeros : (c : ℕ) (w : List ℕ) → NoneHolds (ladder.zeroRefusals true c w) → NotZeros c w
+unfolding ladder.zeroRefusals ladder.zeroFor
+sender-not-zeros c w n s = not-zeros w (sym (ap (λ (t : Bool). not t && allZero w) (ne-eqb c 1 s)) ∙ n .0)
 
 -- open and start
-begun-right : (b : List ℕ) (c : Call) (m i : ℕ) (w : List ℕ) → NoneHolds (openRefusals (standing c) m i w b)
-    → Keyed b m i × RightVector m w × (goodCall c ≡ true)
-unfolding openRefusals ladder.vectorRefusals ladder.keyRefusals
-begun-right b c m i w n = (
+begun-right : (end : ℕ) (b : List ℕ) (c : Call) (m i : ℕ) (w : List ℕ) → NoneHolds (begunRefusals end (standing c) m i w b)
+    → Keyed b m i × (length w ≡ 8) × (goodCall c ≡ true) × NoneHolds (ladder.zeroRefusals (eqb end sendingEnd) m w)
+unfolding begunRefusals ladder.vectorRefusals ladder.keyRefusals
+begun-right end b c m i w n = (
   keyed b m i true (n .1 .0) (n .1 .1 .0) (n .1 .1 .1 .1 .1 .0),
-  vector-right m w (n .0) (n .1 .1 .1 .1 .1 .1 .1 .1 .0),
+  sized (length w) vectorOctets (n .0),
   good-by c (n .1 .1 .1 .0),
+  n .1 .1 .1 .1 .1 .1 .1 .1,
 )
 
 call-right : (b : List ℕ) (c : Call) (o : CallOperation) → NoneHolds (callRefusals b c o) → RightCall b c o
 unfolding joinRefusals ladder.keyRefusals voiceRefusals lostRefusals endRefusals announceRefusals nextRefusals
-call-right b c (Open m i w) n = begun-right b c m i w n
-call-right b c (Start m i w) n = begun-right b c m i w n
+call-right b c (Open m i w) n = let r = begun-right receivingEnd b c m i w n in (r .0, r .1, r .2)
+call-right b c (Start m i w) n = let r = begun-right sendingEnd b c m i w n in (r .0, r .1, sender-not-zeros m w (r .3), r .2)
 call-right b c (Join m i) n = (keyed b m i true (n .0) (n .1 .0) (n .1 .1 .1 .1 .0), good-by c (n .1 .1 .0))
 call-right b c (Voice mask frame) n = (sized (length frame) 28 (n .0), ltb-false 15 mask (n .1 .0), good-by c (n .1 .1 .0))
 call-right b c Lost n = good-by c (n .0)
 call-right b c End n = good-by c (n .0)
-call-right b c (Announce w) n =
-    (record { long = sized (length w) vectorOctets (n .0); some = λ _. not-zeros w (n .1 .1 .1 .0) }, good-by c (n .1 .0))
+call-right b c (Announce w) n = (sized (length w) vectorOctets (n .0), good-by c (n .1 .0))
 call-right b c (NextVector out) n = (sized (length out) vectorOctets (n .0), good-by c (n .1 .0))
+
+end-range : (end : ℕ) → opening.isEnd end ≡ true → end ≤ 1
+unfolding opening.isEnd
+end-range end e = go (eqb end opening.toReceive) refl e
+  where
+    go : (t : Bool) → eqb end opening.toReceive ≡ t → (t || eqb end opening.toSend) ≡ true → end ≤ 1
+    go true z e = omega (arith, eqb-true end opening.toReceive z)
+    go false z e = omega (arith, eqb-true end opening.toSend e)
 
 packet-right : (b : List ℕ) (p : Packet) (o : PacketOperation) → NoneHolds (packetRefusals b p o) → RightPacket b p o
 unfolding opening.openRefusals ladder.vectorRefusals ladder.keyRefusals message.messageRefusals message.lostRefusals packet.endRefusals
-packet-right b p (OpenPacket kind c i w) n = (
-  keyed b c i (isKind kind) (n .1 .0) (n .1 .1 .0) (n .1 .1 .1 .1 .1 .0),
-  kind-range kind (and-left (isKind kind) (inRange c i) (not-false (isKind kind && inRange c i) (n .1 .1 .0))),
-  vector-right c w (n .0) (n .1 .1 .1 .1 .1 .1 .1 .1 .0),
-  not-false (packet.goodPacket p) (n .1 .1 .1 .0),
-)
+packet-right b p (OpenPacket end kind c i w) n =
+    let own = opening.isEnd end && isKind kind in
+    let r : own ≡ true = and-left own (inRange c i) (not-false (own && inRange c i) (n .1 .1 .0)) in (
+      keyed b c i own (n .1 .0) (n .1 .1 .0) (n .1 .1 .1 .1 .1 .0),
+      end-range end (and-left (opening.isEnd end) (isKind kind) r),
+      kind-range kind (and-right (opening.isEnd end) (isKind kind) r),
+      sized (length w) vectorOctets (n .0),
+      λ e. sender-not-zeros c w (rw (eq-eqb end opening.toSend e) at (n .1 .1 .1 .1 .1 .1 .1 .1)),
+      not-false (packet.goodPacket p) (n .1 .1 .1 .0),
+    )
 packet-right b p (Message octets) n = (sized (length octets) (messageOctets (p .kind)) (n .1 .1 .0), not-false (packet.goodPacket p) (n .0))
 packet-right b p LostMessage n = not-false (packet.goodPacket p) (n .0)
 packet-right b p EndPacket n = not-false (packet.goodPacket p) (n .0)
@@ -147,7 +158,7 @@ call-untouched b c (NextVector out) n = undone out (following (standing c)) (nex
 
 packet-untouched : (b : List ℕ) (p : Packet) (o : PacketOperation) → (numberOf (packetStep b p o .0) ≡ 0 → ⊥) → packetStep b p o .1 .1 ≡ lentPacket o
 unfolding packetStep message.messageOf
-packet-untouched b p (OpenPacket kind c i w) n = refl
+packet-untouched b p (OpenPacket end kind c i w) n = refl
 packet-untouched b p (Message octets) n =
     ap (λ (r : Packet × List ℕ). r .1) (undone (p, octets) (message.counted p, message.messageTurned p octets) (message.messageRefusals p octets) n)
 packet-untouched b p LostMessage n = refl

@@ -1,6 +1,6 @@
 -- Slots of silence and the seed of example 4, for the calls that show what is thrown out and what can be met.
 use mathlib.Core.Path.{_≡_, refl, ap}
-use mathlib.Core.Bool.{Bool, true≢false}
+use mathlib.Core.Bool.{Bool}
 use mathlib.Core.List.{List, [], _∷_}
 use Prim.Native.Nat.{ℕ, suc, _+_, _*_}
 use native.Mathlib.Omega.{arith}
@@ -8,11 +8,12 @@ use lib.ListN.{length, replicate}
 use Rattle.octets.proofs.Zeros.{octets-by, zeros-octets}
 use Rattle.octets.specs.Tests.{allBelow}
 use Rattle.octets.specs.Lists.{allZero}
-use Rattle.octets.specs.Bits.{Octets}
+use Rattle.generator.specs.Generator.{IsVector}
 use Rattle.voice.specs.Frame.{IsFrame}
 use Rattle.voice.proofs.FrameLaws.{protect-frame}
 use Rattle.openings.specs.Samples.{seed}
-use Rattle.demands.specs.Talk.{Slot, SlotKept, SlotsKept, VectorKept}
+use Rattle.demands.specs.Talk.{Slot, SlotKept, SlotsKept}
+use Rattle.demands.specs.OurSender.{StartVector}
 use Rattle.demands.specs.Others.{Sending, turning}
 use Rattle.demands.proofs.AirLaws.{protected-air}
 
@@ -43,27 +44,29 @@ saying-kept frame f ks p arrived =
       air = protected-air ks p (saying turning frame ks p arrived) (f .long) refl;
     }
 
--- a run of such slots of silence, from slot p on: which of them arrive
+-- a run of such slots that all say one frame, from slot p on: which of them arrive
+abbrev pub repeating : List ℕ → (ℕ → ℕ) → ℕ → List Bool → List Slot
+repeating frame ks p [] = []
+repeating frame ks p (a ∷ rest) = saying turning frame ks p a ∷ repeating frame ks (suc p) rest
+
+pub repeating-kept : (frame : List ℕ) → IsFrame frame → (ks : ℕ → ℕ) (p : ℕ) (arriving : List Bool) → SlotsKept ks p (repeating frame ks p arriving)
+repeating-kept frame f ks p [] = tt
+repeating-kept frame f ks p (a ∷ rest) = (saying-kept frame f ks p a, repeating-kept frame f ks (suc p) rest)
+
 abbrev pub quiet : (ℕ → ℕ) → ℕ → List Bool → List Slot
-quiet ks p [] = []
-quiet ks p (a ∷ rest) = saying turning silence ks p a ∷ quiet ks (suc p) rest
+quiet = repeating silence
 
 pub quiet-kept : (ks : ℕ → ℕ) (p : ℕ) (arriving : List Bool) → SlotsKept ks p (quiet ks p arriving)
-quiet-kept ks p [] = tt
-quiet-kept ks p (a ∷ rest) = (saying-kept silence silence-frame ks p a, quiet-kept ks (suc p) rest)
+quiet-kept = repeating-kept silence silence-frame
 
 pub quiet-long : (ks : ℕ → ℕ) (p : ℕ) (arriving : List Bool) → length (quiet ks p arriving) ≡ length arriving
 quiet-long ks p [] = refl
 quiet-long ks p (a ∷ rest) = ap suc (quiet-long ks (suc p) rest)
 
-pub no-vector-kept : VectorKept 1 (replicate 8 0)
-unfolding allZero allBelow
-no-vector-kept = record { long = refl; some = λ e. absurd (true≢false e) }
-
-pub seed-kept : (c : ℕ) → VectorKept c seed
-unfolding allZero allBelow
-seed-kept c = record { long = refl; some = λ e. refl }
-
-pub seed-octets : Octets seed
+pub seed-vector : IsVector seed
 unfolding allBelow
-seed-octets = octets-by seed refl
+seed-vector = record { long = refl; octets = octets-by seed refl }
+
+pub seed-starts : (c : ℕ) → StartVector c seed
+unfolding allZero allBelow
+seed-starts c = record { vector = seed-vector; some = λ e. refl }

@@ -13,7 +13,6 @@ use borrow.Author.Tests.{eq-eqb, le-ltb, lt-ltb}
 use Rattle.generator.proofs.NotZero.{next-not-zero}
 use Rattle.generator.proofs.OwnNext.{own-next-zero}
 use Rattle.octets.specs.Tests.{pick}
-use Rattle.octets.specs.Bits.{Octets}
 use Rattle.octets.specs.Lists.{allZero, Each}
 use Rattle.generator.specs.Generator.{IsVector, nextVector}
 use Rattle.sizes.specs.Ciphers.{keyOctets, sessionSlots, noVector, scrambles}
@@ -24,24 +23,26 @@ use Rattle.keybook.proofs.GoodLaws.{good-sized}
 use Rattle.voice.specs.declared.call.Terms.{Terms}
 use Rattle.voice.specs.declared.call.Call.{Call}
 use Rattle.voice.specs.Frame.{ofSlot, protect}
-use Rattle.openings.specs.Ladder.{sessionVector, keyFor, keyRefusals, vectorRefusals}
-use Rattle.voice.specs.Call.{vectorRight, sending, standing, termsOf, noCall, written}
-use Rattle.voice.specs.Opening.{openRefusals, startOf}
+use Rattle.openings.specs.Ladder.{sessionVector, keyFor, keyRefusals, zeroRefusals, vectorRefusals}
+use Rattle.openings.proofs.LadderLaws.{not-zero-for}
+use Rattle.voice.specs.Call.{sending, standing, termsOf, noCall, written}
+use Rattle.voice.specs.Opening.{begunRefusals, startOf}
 use Rattle.voice.specs.Slot.{goingOn, slotOn, streamOf, voiceOf}
 use Rattle.voice.specs.Vector.{nextVectorOf}
 use Rattle.voice.proofs.FrameLaws.{protect-same, protect-frame}
 use Rattle.sizes.proofs.SizeLaws.{no-vector-zero}
 use Rattle.voice.proofs.CallLaws.{is-sender}
-use Rattle.voice.proofs.GoodLaws.{sentRight, good-sender, read-written, sent-some, sender-some, going-right}
+use Rattle.voice.proofs.GoodLaws.{sentRight, good-sender, read-written, sender-some, going-right}
+use Rattle.voice.proofs.OpeningGood.{sent-right}
 use Rattle.voice.proofs.Exactly.{next-given}
 use Rattle.voice.proofs.NeverZero.{Sends, zeros-vector, going-vector, voice-sends}
 use Rattle.voice.proofs.SlotSteps.{voice-at}
-use Rattle.demands.specs.Talk.{Slot, Session, SlotKept, SlotsKept, VectorKept, SessionKept, Full, slotCounts, Kept, HasKey, WayIn}
+use Rattle.demands.specs.Talk.{Slot, Session, SlotKept, SlotsKept, SessionKept, Full, slotCounts, Kept, HasKey, WayIn}
 use Rattle.demands.specs.Log.{talkLog}
 use Rattle.demands.specs.Demand3.{Right, ours}
-use Rattle.demands.specs.OurSender.{Said, Saying, slotsMade, afterwards, sessionsMade, talkMade, SaidKept, AllSaid, Follows}
+use Rattle.demands.specs.OurSender.{Said, Saying, slotsMade, afterwards, sessionsMade, talkMade, StartVector, SaidKept, AllSaid, Follows}
 use Rattle.demands.proofs.AirLaws.{protected-air}
-use Rattle.demands.proofs.Standing.{pair-in-range, key-ranged, has-key-right, slots-some, closed-read, not-zero-for, same-stream}
+use Rattle.demands.proofs.Standing.{pair-in-range, key-ranged, has-key-right, slots-some, closed-read, same-stream}
 use Rattle.demands.proofs.ReceiverMeets.{ours-meets-3}
 
 -- a sender's vector: eight octets, and for DES and AES not zeros
@@ -49,16 +50,12 @@ pub record Sound (c : ℕ) (v : List ℕ) : Type 0 where
   pub vector : IsVector v
   pub right : sentRight c v ≡ true
 
-sound-kept : (c : ℕ) (v : List ℕ) → Sound c v → VectorKept c v
-sound-kept c v s = record { long = s .vector .long; some = sent-some c v (s .right) }
-
-starts-sound : (c : ℕ) (v : List ℕ) → VectorKept c v → Octets v → Sound c (sessionVector c v)
-unfolding vectorRight
-starts-sound c v s o = go (scrambles c) refl
+starts-sound : (c : ℕ) (v : List ℕ) → StartVector c v → Sound c (sessionVector c v)
+starts-sound c v s = record { vector = go (scrambles c); right = sent-right c v (not-zero-for c v (s .some)) }
   where
-    go : (t : Bool) → scrambles c ≡ t → Sound c (pick t noVector v)
-    go true e = record { vector = zeros-vector; right = rw (e, no-vector-zero) }
-    go false e = record { vector = record { long = s .long; octets = o }; right = rw (e, s .some e) }
+    go : (t : Bool) → IsVector (pick t noVector v)
+    go true = zeros-vector
+    go false = s .vector
 
 going-sound : (c : ℕ) (v : List ℕ) → Sound c v → Sound c (goingOn c v)
 going-sound c v s = record { vector = going-vector c v; right = going-right c v (λ e. s .vector) (s .right) }
@@ -157,10 +154,10 @@ module _ (b : List ℕ) (c i : ℕ) (key : List ℕ) (h : HasKey b c i key) (lon
   sessions-made : (v : List ℕ) → Sound c v → (xs : List Saying) → Each (λ x. Each SaidKept (x .slots)) xs → Full c (map (λ x. length (x .slots)) xs)
       → Each (SessionKept c key) (sessionsMade (from v) xs)
   sessions-made v a [] s f = tt
-  sessions-made v a (x ∷ []) s f = (record { vector = sound-kept c v a; slots = session-made v a x f (s .0) }, tt)
+  sessions-made v a (x ∷ []) s f = (record { vector = a .vector .long; slots = session-made v a x f (s .0) }, tt)
   sessions-made v a (x ∷ y ∷ ys) s f =
       let e = session-after v a x (f .0) (s .0) in (
-        record { vector = sound-kept c v a; slots = session-made v a x (omega (arith, f .0)) (s .0) },
+        record { vector = a .vector .long; slots = session-made v a x (omega (arith, f .0)) (s .0) },
         rw e (sessions-made (goingOn c v) (going-sound c v a) (y ∷ ys) (s .1) (f .1)),
       )
 
@@ -186,38 +183,38 @@ module _ (b : List ℕ) (c i : ℕ) (key : List ℕ) (h : HasKey b c i key) (lon
 
   -- ---- from the start
 
-  started-at : (v : List ℕ) → VectorKept c v → startOf noCall c i v b ≡ (Done, from (sessionVector c v))
-  unfolding startOf openRefusals vectorRefusals keyRefusals
+  started-at : (v : List ℕ) → StartVector c v → startOf noCall c i v b ≡ (Done, from (sessionVector c v))
+  unfolding startOf begunRefusals vectorRefusals keyRefusals zeroRefusals
   started-at v s =
-      rw (closed-read, eq-eqb _ _ (s .long), eq-eqb _ _ (good-sized b (h .good)), pair-in-range b c i key h, h .good, h .there, h .ready, not-zero-for c v s)
+      rw (closed-read, eq-eqb _ _ (s .vector .long), eq-eqb _ _ (good-sized b (h .good)), pair-in-range b c i key h, h .good, h .there, h .ready, not-zero-for c v (s .some))
 
-  pub ours-keeps : (v : List ℕ) → VectorKept c v → Octets v → (said : List Saying) → AllSaid c said → Kept (talkMade c key i v b said)
-  ours-keeps v s o said a =
+  pub ours-keeps : (v : List ℕ) → StartVector c v → (said : List Saying) → AllSaid c said → Kept (talkMade c key i v b said)
+  ours-keeps v s said a =
       let e = ap (λ (r : Answer × Call). r .1) (started-at v s) in
       record {
         key = long;
-        each = rw e (sessions-made (sessionVector c v) (starts-sound c v s o) said (a .each) (a .full));
+        each = rw e (sessions-made (sessionVector c v) (starts-sound c v s) said (a .each) (a .full));
         full = rw (counts-made (startOf noCall c i v b .1) said) (a .full);
       }
 
-  pub ours-follows : (v : List ℕ) → VectorKept c v → Octets v → (said : List Saying) → AllSaid c said → Follows c v (talkMade c key i v b said .sessions)
-  ours-follows v s o said a =
+  pub ours-follows : (v : List ℕ) → StartVector c v → (said : List Saying) → AllSaid c said → Follows c v (talkMade c key i v b said .sessions)
+  ours-follows v s said a =
       let e = ap (λ (r : Answer × Call). r .1) (started-at v s) in
-      rw e (sessions-follow v (starts-sound c v s o) said (a .each) (a .full))
+      rw e (sessions-follow v (starts-sound c v s) said (a .each) (a .full))
 
   -- with DES or AES no vector is its own next, so a sender that uses one vector for every session is not ours
-  pub one-vector-not-ours : (v : List ℕ) → VectorKept c v → Octets v → scrambles c ≡ false → (said : List Saying) → AllSaid c said
+  pub one-vector-not-ours : (v : List ℕ) → StartVector c v → scrambles c ≡ false → (said : List Saying) → AllSaid c said
       → (x y : Session) (zs : List Session) → talkMade c key i v b said .sessions ≡ x ∷ y ∷ zs → x .vector ≡ y .vector → ⊥
-  one-vector-not-ours v s o e said a x y zs made same =
-      let f : Follows c v (x ∷ y ∷ zs) = rw made at (ours-follows v s o said a) in
+  one-vector-not-ours v s e said a x y zs made same =
+      let f : Follows c v (x ∷ y ∷ zs) = rw made at (ours-follows v s said a) in
       let at : (u : List ℕ) → sessionVector c u ≡ u = λ u. ap (λ (t : Bool). pick t noVector u) e in
-      let zeros = own-next-zero v (record { long = s .long; octets = o }) (sym (at (nextVector v)) ∙ sym (f .1 .0) ∙ sym same ∙ f .0 ∙ at v) in
+      let zeros = own-next-zero v (s .vector) (sym (at (nextVector v)) ∙ sym (f .1 .0) ∙ sym same ∙ f .0 ∙ at v) in
       true≢false (sym no-vector-zero ∙ sym (ap allZero zeros) ∙ s .some e)
 
   -- our sender to our receiver, whose book has the key under an ID of its own
-  pub ours-to-ours : (v : List ℕ) → VectorKept c v → Octets v → (said : List Saying) → AllSaid c said
+  pub ours-to-ours : (v : List ℕ) → StartVector c v → (said : List Saying) → AllSaid c said
       → (b′ : List ℕ) (i′ : ℕ) → HasKey b′ c i′ key → (e : WayIn) → Each Right (talkLog ours b′ i′ (talkMade c key i v b said) e)
-  ours-to-ours v s o said a = ours-meets-3 (talkMade c key i v b said) (ours-keeps v s o said a)
+  ours-to-ours v s said a = ours-meets-3 (talkMade c key i v b said) (ours-keeps v s said a)
 
   -- ---- whatever slots it was given, done or refused
 
@@ -225,13 +222,13 @@ module _ (b : List ℕ) (c i : ℕ) (key : List ℕ) (h : HasKey b c i key) (lon
   sends-after s a [] = a
   sends-after s a (x ∷ xs) = sends-after (voiceOf s (x .mask) (x .spoken) .1 .0) (voice-sends t s a streamOf (x .mask) (x .spoken)) xs
 
-  module _ (v : List ℕ) (s : VectorKept c v) (o : Octets v) (said : List Said) where
+  module _ (v : List ℕ) (s : StartVector c v) (said : List Said) where
     abbrev pub sender : Call
     sender = afterwards (startOf noCall c i v b .1) said
 
     still : Sends t sender
     still =
-        let sound = starts-sound c v s o in
+        let sound = starts-sound c v s in
         let first : Sends t (from (sessionVector c v)) =
         record {
           good = good-sender t 0 (has-key-right b c i key h) some (sessionVector c v) (sound .right);

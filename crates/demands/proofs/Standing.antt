@@ -1,6 +1,6 @@
 -- Where a receiver stands after p slots of a session, and what each operation does there.
 use mathlib.Core.Path.{_≡_, refl, sym, ap, _∙_}
-use mathlib.Core.Bool.{Bool, true, false, _&&_, not, true≢false}
+use mathlib.Core.Bool.{Bool, true, false, true≢false}
 use mathlib.Core.List.{List}
 use Prim.Native.Nat.{ℕ, _+_, _*_, _≤_, _<_}
 use native.Mathlib.Omega.{arith}
@@ -11,10 +11,9 @@ use Rattle.ciphers.proofs.KeyLaws as keys
 use Rattle.ciphers.proofs.KeystreamLaws.{stream-rest}
 use Rattle.sizes.proofs.Cases.{by-range}
 use Rattle.octets.specs.Tests.{pick}
-use Rattle.octets.specs.Lists.{allZero}
 use Rattle.answers.specs.declared.Answer.{Answer}
 use Rattle.answers.specs.declared.Answer.the-variants.{Done, Held}
-use Rattle.sizes.specs.Ciphers.{keyOctets, sessionSlots, noVector, scrambles}
+use Rattle.sizes.specs.Ciphers.{keyOctets, sessionSlots, vectorOctets, noVector, scrambles}
 use Rattle.ciphers.specs.Keystream.{stream}
 use Rattle.keyentry.specs.Entry.{inRange}
 use Rattle.keybook.proofs.GoodLaws.{good-sized}
@@ -22,10 +21,10 @@ use Rattle.sizes.specs.Frame.{frameOctets}
 use Rattle.voice.specs.declared.call.Terms.{Terms}
 use Rattle.voice.specs.declared.call.Call.{Call}
 use Rattle.voice.specs.Frame.{ofSlot, protect}
-use Rattle.openings.specs.Ladder.{sessionVector, keyFor, keyRefusals, zeroFor, vectorRefusals}
+use Rattle.openings.specs.Ladder.{sessionVector, keyFor, keyRefusals, zeroRefusals, vectorRefusals}
 use Rattle.ciphers.specs.Keys.{keyRight}
 use Rattle.voice.specs.Call.{goodCall, Known, unknown, told, isKnown, untold, Standing, closed, receiving, standing, termsOf, noCall, written, isBad}
-use Rattle.voice.specs.Opening.{superframeSlots, joinRefusals, openRefusals, openOf, joined, joinOf}
+use Rattle.voice.specs.Opening.{superframeSlots, joinRefusals, begunRefusals, openOf, joined, joinOf}
 use Rattle.voice.specs.Slot.{slotOn, lostOf, topMask, streamOf, inSlot, voiceOf}
 use Rattle.voice.specs.Vector.{announceRefusals, announceOf}
 use Rattle.voice.proofs.FrameLaws.{protect-same}
@@ -34,7 +33,7 @@ use Rattle.voice.proofs.CallLaws.{good-by}
 use Rattle.voice.proofs.GoodLaws.{closed-good, read-written, slot-stands, announce-good}
 use Rattle.voice.proofs.OpeningGood.{open-good, join-good}
 use Rattle.voice.proofs.SlotSteps.{voice-at, lost-at}
-use Rattle.demands.specs.Talk.{VectorKept, HasKey}
+use Rattle.demands.specs.Talk.{HasKey}
 use Rattle.demands.specs.Notices.{isReached}
 
 -- ---- a book that has the key
@@ -64,14 +63,6 @@ closed-read = read-written closed refl closed-good
 session-stream : (key v : List ℕ) (n c : ℕ) → (1 ≤ c) × (c ≤ 3) → stream c key (sessionVector c v) n ≡ stream c key v n
 unfolding stream
 session-stream key v n = by-range (λ c. stream c key (sessionVector c v) n ≡ stream c key v n) refl refl refl
-
-pub not-zero-for : (c : ℕ) (v : List ℕ) → VectorKept c v → zeroFor c v ≡ false
-unfolding zeroFor
-not-zero-for c v k = go (scrambles c) refl
-  where
-    go : (t : Bool) → scrambles c ≡ t → (not t && allZero v) ≡ false
-    go true e = refl
-    go false e = k .some e
 
 -- ---- where the receiver stands
 
@@ -139,14 +130,14 @@ module _ (b : List ℕ) (c i : ℕ) (key : List ℕ) (h : HasKey b c i key) wher
   stood : {o : Answer × Call} {s u : Standing} → o ≡ (Done, written s) → goodCall (o .1) ≡ true → isBad s ≡ false → s ≡ u → standing (written s) ≡ u
   stood e g n q = read-written _ n (sym (ap (λ (o : Answer × Call). goodCall (o .1)) e) ∙ g) ∙ q
 
-  pub place-opened : (v : List ℕ) → VectorKept c v → openOf noCall c i v b ≡ (Done, written (receiving t 0 (told (sessionVector c v))))
-  unfolding openOf openRefusals vectorRefusals keyRefusals
-  place-opened v kept =
-      rw (closed-read, eq-eqb _ _ (kept .long), eq-eqb _ _ (good-sized b (h .good)), pair-in-range b c i key h, h .good, h .there, h .ready, not-zero-for c v kept)
+  pub place-opened : (v : List ℕ) → length v ≡ vectorOctets → openOf noCall c i v b ≡ (Done, written (receiving t 0 (told (sessionVector c v))))
+  unfolding openOf begunRefusals vectorRefusals keyRefusals zeroRefusals
+  place-opened v l =
+      rw (closed-read, eq-eqb _ _ l, eq-eqb _ _ (good-sized b (h .good)), pair-in-range b c i key h, h .good, h .there, h .ready)
 
-  pub opened-stands : (v : List ℕ) → VectorKept c v → standing (written (receiving t 0 (told (sessionVector c v)))) ≡ place t (knowing c true v) 0
-  opened-stands v kept =
-      stood (place-opened v kept) (open-good noCall closed-good c i b v) refl (sym (place-in t (knowing c true v) 0 some))
+  pub opened-stands : (v : List ℕ) → length v ≡ vectorOctets → standing (written (receiving t 0 (told (sessionVector c v)))) ≡ place t (knowing c true v) 0
+  opened-stands v l =
+      stood (place-opened v l) (open-good noCall closed-good c i b v) refl (sym (place-in t (knowing c true v) 0 some))
 
   pub place-joined : joinOf noCall c i b ≡ (Done, written (joined t))
   unfolding joinOf joinRefusals keyRefusals
@@ -157,13 +148,13 @@ module _ (b : List ℕ) (c i : ℕ) (key : List ℕ) (h : HasKey b c i key) wher
 
   module _ (s : Call) (e : standing s ≡ fresh t) (v : List ℕ) where
     -- as a session starts: told of its vector
-    pub place-announced : VectorKept c v → scrambles c ≡ false → announceOf s v ≡ (Done, written (receiving t 0 (told v)))
+    pub place-announced : length v ≡ vectorOctets → scrambles c ≡ false → announceOf s v ≡ (Done, written (receiving t 0 (told v)))
     unfolding announceOf announceRefusals
-    place-announced kept n = rw (e, eq-eqb _ _ (kept .long), kept .some n, n)
+    place-announced l n = rw (e, eq-eqb _ _ l, n)
 
-    pub announced-stands : VectorKept c v → scrambles c ≡ false → standing (written (receiving t 0 (told v))) ≡ place t (knowing c true v) 0
-    announced-stands kept n =
-        stood (place-announced kept n) (announce-good s (good-by s (ap isBad e)) v) refl
+    pub announced-stands : length v ≡ vectorOctets → scrambles c ≡ false → standing (written (receiving t 0 (told v))) ≡ place t (knowing c true v) 0
+    announced-stands l n =
+        stood (place-announced l n) (announce-good s (good-by s (ap isBad e)) v) refl
         (ap (λ (u : Bool). receiving t 0 (told (pick u noVector v))) (sym n) ∙ sym (place-in t (knowing c true v) 0 some))
 
     -- or not; scramble needs none

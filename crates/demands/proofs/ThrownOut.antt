@@ -27,14 +27,14 @@ use Rattle.voice.specs.Slot.{lostOf, voiceOf}
 use Rattle.voice.proofs.FrameLaws.{protect-frame}
 use Rattle.openings.specs.Samples.{seed}
 use Rattle.demands.specs.Marked.{key0001}
-use Rattle.demands.specs.Talk.{Session, Talk, opening, joining, SlotKept, VectorKept, SessionKept, Full, slotCounts, Kept}
+use Rattle.demands.specs.Talk.{Session, Talk, opening, joining, SlotKept, SessionKept, Full, slotCounts, Kept}
 use Rattle.demands.specs.Notices.{Notice, isReached, slotNotices, startNotices, sessionNotices}
 use Rattle.demands.specs.Log.{Receiver, events}
 use Rattle.demands.specs.Demand3.{Right, Meets3}
 use Rattle.demands.specs.Others.{SameSpeech, MeetsIn, Handing, upTo, upToSlots, upToSession, fourOn, atOnce, Sending, turning, identity, restarting, saving}
 use Rattle.demands.proofs.AirLaws.{word-bits}
 use Rattle.demands.proofs.Standing.{slots-some, eight-slots, knowing, place, place-lost, place-voice, place-on, place-opened, opened-stands}
-use Rattle.demands.proofs.Samples.{silence, silence-frame, loud, loud-frame, saying, quiet, saying-kept, quiet-kept, quiet-long, no-vector-kept, seed-kept, seed-octets}
+use Rattle.demands.proofs.Samples.{silence, silence-frame, loud, loud-frame, saying, quiet, saying-kept, quiet-kept, quiet-long, seed-vector}
 use Rattle.demands.proofs.SampleKeys.{keyOf, bookOfThree, has-key, key-long}
 use Rattle.demands.proofs.Ones.{all-words, unturned, first-some}
 
@@ -57,7 +57,7 @@ module _ (c : ℕ) (r : (1 ≤ c) × (c ≤ 3)) where
   not-silent : SameSpeech 15 (came silence) silence → ⊥
   not-silent e =
       let k = saying-kept silence silence-frame under 0 true in
-      first-some seed seed-octets c r
+      first-some seed (seed-vector .octets) c r
       (unturned under (bits-stream c (keyOf c) seed) 0 silence
       (λ w j lw lj. sym (k .air .speech w j lw lj (all-words w lw)) ∙ e w j lw lj (all-words w lw)))
 
@@ -74,7 +74,7 @@ module _ (c : ℕ) (r : (1 ≤ c) × (c ≤ 3)) where
     one-slot m frame f =
         let kept : Kept (one frame) = record {
           key = key-long c r;
-          each = (record { vector = seed-kept c; slots = (saying-kept frame f under 0 true, tt) }, tt);
+          each = (record { vector = refl; slots = (saying-kept frame f under 0 true, tt) }, tt);
           full = omega (arith, slots-some c r);
         } in
         let h = m (one frame) refl kept bookOfThree 0 (has-key c r) opening .1 .0 in
@@ -114,8 +114,8 @@ module _ (c : ℕ) (r : (1 ≤ c) × (c ≤ 3)) where
   quietFor (suc m) = gone ∷ quietFor m
 
   quietFor-each : (m : ℕ) → Each (SessionKept c (keyOf c)) (quietFor m)
-  quietFor-each zero = (record { vector = seed-kept c; slots = quiet-kept under 0 (true ∷ []) }, tt)
-  quietFor-each (suc m) = (record { vector = seed-kept c; slots = quiet-kept under 0 (replicate (sessionSlots c) false) }, quietFor-each m)
+  quietFor-each zero = (record { vector = refl; slots = quiet-kept under 0 (true ∷ []) }, tt)
+  quietFor-each (suc m) = (record { vector = refl; slots = quiet-kept under 0 (replicate (sessionSlots c) false) }, quietFor-each m)
 
   gone-long : length (gone .slots) ≡ sessionSlots c
   gone-long = quiet-long under 0 (replicate (sessionSlots c) false) ∙ length-replicate (sessionSlots c) false
@@ -174,7 +174,7 @@ module _ (c : ℕ) (r : (1 ≤ c) × (c ≤ 3)) where
 
 -- ---- the announced vector, applied at once, with DES or AES
 
-module _ (c : ℕ) (r : (1 ≤ c) × (c ≤ 3)) (n : scrambles c ≡ false) (w : List ℕ) (k : VectorKept c w) where
+module _ (c : ℕ) (r : (1 ≤ c) × (c ≤ 3)) (n : scrambles c ≡ false) (w : List ℕ) (k : length w ≡ 8) where
   -- a session with the seed as its vector, in which w is announced, and the session of w
   abbrev secondHalf : List Bool
   secondHalf = false ∷ false ∷ false ∷ false ∷ true ∷ true ∷ true ∷ true ∷ []
@@ -182,7 +182,7 @@ module _ (c : ℕ) (r : (1 ≤ c) × (c ≤ 3)) (n : scrambles c ≡ false) (w :
   abbrev half : List ℕ → Session
   half v = record { vector = v; announced = true; slots = quiet (stream c (keyOf c) v) 0 secondHalf }
 
-  half-kept : (v : List ℕ) → VectorKept c v → SessionKept c (keyOf c) (half v)
+  half-kept : (v : List ℕ) → length v ≡ 8 → SessionKept c (keyOf c) (half v)
   half-kept v k = record { vector = k; slots = quiet-kept (stream c (keyOf c) v) 0 secondHalf }
 
   abbrev announcing : Talk
@@ -190,7 +190,7 @@ module _ (c : ℕ) (r : (1 ≤ c) × (c ≤ 3)) (n : scrambles c ≡ false) (w :
 
   announcing-kept : Kept announcing
   announcing-kept =
-      record { key = key-long c r; each = (half-kept seed (seed-kept c), (half-kept w k, tt)); full = (sym (eight-slots c r n), omega (arith, eight-slots c r n)) }
+      record { key = key-long c r; each = (half-kept seed refl, (half-kept w k, tt)); full = (sym (eight-slots c r n), omega (arith, eight-slots c r n)) }
 
   abbrev t : Terms
   t = termsOf c (keyFor bookOfThree c 0)
@@ -241,7 +241,7 @@ twoSlots send =
 
 pub turning-keeps : Kept (twoSlots turning)
 turning-keeps =
-    record { key = refl; each = (record { vector = no-vector-kept; slots = quiet-kept ks 0 (true ∷ true ∷ []) }, tt); full = omega arith }
+    record { key = refl; each = (record { vector = refl; slots = quiet-kept ks 0 (true ∷ true ∷ []) }, tt); full = omega arith }
 
 -- P0 of key 0001 is 1
 pub identity-breaks : Kept (twoSlots identity) → ⊥

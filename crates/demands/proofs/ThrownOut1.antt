@@ -88,7 +88,7 @@ module _ (n c i d : ℕ) (half k : List ℕ) where
   version-one _ by-join = unfinished-loads-none (OpensCall n) (renewsCall n) _ d k (refl, (refl, (refl, (refl, tt))))
 
   pub version-one-packet : (o : Operation) → OpensPacket n c i o → Loaded (OpensPacket n) (renewsPacket n) (tooEarly c i half o) d k → ⊥
-  version-one-packet _ (by-opening kind w) = unfinished-loads-none (OpensPacket n) (renewsPacket n) _ d k (refl, (refl, (refl, (refl, tt))))
+  version-one-packet _ (by-opening end kind w) = unfinished-loads-none (OpensPacket n) (renewsPacket n) _ d k (refl, (refl, (refl, (refl, tt))))
 
 -- ---- one opening stands, and so one key is loaded
 
@@ -146,7 +146,7 @@ callNames (Announce w) = (0, 0)
 callNames (NextVector out) = (0, 0)
 
 abbrev packetNames : PacketOperation → ℕ × ℕ
-packetNames (OpenPacket kind c i w) = (c, i)
+packetNames (OpenPacket end kind c i w) = (c, i)
 packetNames (Message octets) = (0, 0)
 packetNames LostMessage = (0, 0)
 packetNames EndPacket = (0, 0)
@@ -171,10 +171,10 @@ module _ (n : ℕ) where
   call-names c i _ by-join = refl
 
   packet-renews : (c i : ℕ) (o : Operation) → OpensPacket n c i o → renewsPacket n o ≡ true
-  packet-renews c i _ (by-opening kind w) = rw own
+  packet-renews c i _ (by-opening end kind w) = rw own
 
   packet-names : (c i : ℕ) (o : Operation) → OpensPacket n c i o → (c, i) ≡ openingNames o
-  packet-names c i _ (by-opening kind w) = refl
+  packet-names c i _ (by-opening end kind w) = refl
 
   pub one-key-call : (h : History) (c c′ : ℕ) (k k′ : List ℕ) → Loaded (OpensCall n) (renewsCall n) h c k → Loaded (OpensCall n) (renewsCall n) h c′ k′
       → (c ≡ c′) × (k ≡ k′)

@@ -16,22 +16,21 @@ use Rattle.ciphers.proofs.KeystreamLaws.{bits-stream}
 use Rattle.voice.specs.declared.call.Call.{Call}
 use Rattle.sizes.specs.Frame.{frameOctets}
 use Rattle.voice.specs.Frame.{inMask}
-use Rattle.voice.specs.Call.{receivingEnd, told, Standing, receiving, standing, termsOf, written}
+use Rattle.voice.specs.Call.{told, Standing, receiving, standing, termsOf, written}
 use Rattle.voice.specs.Slot.{voiceRefusals, streamOf, voiceOf}
 use Rattle.voice.proofs.GoodLaws.{good-receiver, read-written}
-use Rattle.voice.proofs.OpeningGood.{session-right}
+use Rattle.voice.proofs.OpeningGood.{heard-right}
 use Rattle.voice.proofs.SlotLaws.{voice-done, voice-taken}
 use Rattle.voice.proofs.SlotSteps.{voice-at}
 use Rattle.openings.specs.Ladder.{sessionVector, keyFor}
 use Rattle.openings.specs.Samples.{seed}
 use Rattle.demands.specs.Marked.{scrambling}
-use Rattle.demands.specs.Talk.{VectorKept}
 use Rattle.demands.specs.Demand2.{OnSlot, OnMessage, Demand2}
 use Rattle.demands.specs.Others.{SameSpeech, Fixed, AsItCame, fixing, onlyMoves}
 use Rattle.demands.proofs.MarkedVoice.{example-2}
 use Rattle.octets.proofs.Zeros.{zeros-octets}
-use Rattle.demands.proofs.Standing.{has-key-right, slots-some, not-zero-for, same-stream}
-use Rattle.demands.proofs.Samples.{silence, loud, seed-kept, seed-octets}
+use Rattle.demands.proofs.Standing.{has-key-right, slots-some, same-stream}
+use Rattle.demands.proofs.Samples.{silence, loud, seed-vector}
 use Rattle.demands.proofs.SampleKeys.{keyOf, bookOfThree, has-key, key-long}
 use Rattle.demands.proofs.Ones.{all-words, unturned, last-some}
 
@@ -75,7 +74,7 @@ module _ (voice : OnSlot) (send : OnMessage) where
       unturned (streamOf call) (bits-stream (call .terms .cipher) (call .terms .key) (call .vector)) (call .position) silence
       (λ w j lw lj. sym (m .voice call 15 silence .turned (q .0) w j lw lj (all-words w lw)) ∙ q .1 w j lw lj (all-words w lw))
 
-  module _ (c : ℕ) (r : (1 ≤ c) × (c ≤ 3)) (v : List ℕ) (kept : VectorKept c v) (o : Octets v) where
+  module _ (c : ℕ) (r : (1 ≤ c) × (c ≤ 3)) (v : List ℕ) (o : Octets v) where
     -- our receiver at the last slot of a session of this vector
     abbrev at-last : Standing
     at-last = receiving (termsOf c (keyFor bookOfThree c 0)) (sessionSlots c - 1) (told (sessionVector c v))
@@ -88,7 +87,7 @@ module _ (voice : OnSlot) (send : OnMessage) where
         let l : sessionSlots c - 1 < sessionSlots c = let s = slots-some c r in omega arith in
         read-written at-last refl
         (good-receiver (termsOf c (keyFor bookOfThree c 0)) (sessionSlots c - 1) (has-key-right bookOfThree c 0 (keyOf c) (has-key c r)) l (told (sessionVector c v))
-        (session-right receivingEnd c v (not-zero-for c v kept)))
+        (heard-right c v))
 
     vector-octets : (t : Bool) → Octets (pick t noVector v)
     vector-octets true = zeros-octets 8
@@ -118,5 +117,5 @@ fixing-fails-2 g send =
 
 pub onlyMoves-fails-2 : (n : ℕ) → n < 8 → (send : OnMessage) → Demand2 (onlyMoves n) send → ⊥
 onlyMoves-fails-2 n l send =
-    leaves-fails-2 (onlyMoves n) send 2 (omega arith, omega arith) seed (seed-kept 2) seed-octets n l
+    leaves-fails-2 (onlyMoves n) send 2 (omega arith, omega arith) seed (seed-vector .octets) n l
     (λ call mask c v at frame z. rw (le-ltb (call .position) n at) (z, λ w j lw lj h. refl))

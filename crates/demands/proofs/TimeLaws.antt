@@ -11,7 +11,7 @@ use Rattle.sizes.specs.Ciphers.{scrambles}
 use Rattle.openings.specs.Ladder as ladder
 use Rattle.voice.specs.declared.call.Call.{Call}
 use Rattle.voice.specs.Call.{closedEnd, sendingEnd, receivingEnd, unknownVector, isKnown, knownBy, Standing, standing, isBad, stands, receives, endRefusals}
-use Rattle.voice.specs.Opening.{joinRefusals, openRefusals}
+use Rattle.voice.specs.Opening.{joinRefusals, begunRefusals}
 use Rattle.voice.specs.Slot.{lostRefusals, voiceRefusals}
 use Rattle.voice.specs.Vector.{awaits, announceRefusals, generates, nextRefusals}
 use Rattle.voice.proofs.CallLaws.{is-known, by-stands, good-by, stands-none}
@@ -66,7 +66,7 @@ module _ (c : Call) (good : isBad (standing c) ≡ false) where
       (λ o e s. absurd (unlike generates r s refl))
 
 call-time : (b : List ℕ) (c : Call) (o : CallOperation) → NoneHolds (callRefusals b c o) → TimeOfCall c o
-unfolding openRefusals joinRefusals ladder.vectorRefusals ladder.keyRefusals voiceRefusals lostRefusals endRefusals announceRefusals nextRefusals
+unfolding begunRefusals joinRefusals ladder.vectorRefusals ladder.keyRefusals voiceRefusals lostRefusals endRefusals announceRefusals nextRefusals
 call-time b c (Open m i w) n = closed-time c (n .1 .1 .1 .0) (n .1 .1 .1 .1 .0)
 call-time b c (Start m i w) n = closed-time c (n .1 .1 .1 .0) (n .1 .1 .1 .1 .0)
 call-time b c (Join m i) n = closed-time c (n .1 .1 .0) (n .1 .1 .1 .0)
@@ -95,7 +95,7 @@ module _ (p : Packet) (good : not (packet.goodPacket p) ≡ false) where
 
 packet-time : (b : List ℕ) (p : Packet) (o : PacketOperation) → NoneHolds (packetRefusals b p o) → TimeOfPacket p o
 unfolding opening.openRefusals ladder.vectorRefusals ladder.keyRefusals message.messageRefusals message.lostRefusals packet.endRefusals
-packet-time b p (OpenPacket kind c i w) n = none-time p (n .1 .1 .1 .0) (n .1 .1 .1 .1 .0)
+packet-time b p (OpenPacket end kind c i w) n = none-time p (n .1 .1 .1 .0) (n .1 .1 .1 .1 .0)
 packet-time b p (Message octets) n = message-time p (n .0) (n .1 .0)
 packet-time b p LostMessage n = message-time p (n .0) (n .1 .0)
 packet-time b p EndPacket n = some-time p (n .0) (n .1 .0)

@@ -38,25 +38,25 @@ RightBook b (book.Add c i xs) = Keyed b c i × (length xs ≤ 32)
 RightBook b (book.Finish c i) = Keyed b c i
 RightBook b (book.Erase c i) = Keyed b c i
 
--- a vector has 8 octets, and for DES and AES it is not all zero
-pub record RightVector (c : ℕ) (w : List ℕ) : Type 0 where
-  pub long : length w ≡ 8
-  pub some : (c ≡ 1 → ⊥) → w ≡ replicate 8 0 → ⊥
+-- with DES or AES a sender's vector is not all zero
+abbrev pub NotZeros : ℕ → List ℕ → Type 0
+NotZeros c w = (c ≡ 1 → ⊥) → w ≡ replicate 8 0 → ⊥
 
--- a frame has 28 octets, and a mask is at most 15
+-- a vector has 8 octets, a frame 28, and a mask is at most 15
 abbrev pub RightCall : List ℕ → Call → CallOperation → Type 0
-RightCall b c (Open cipher i w) = Keyed b cipher i × RightVector cipher w × (goodCall c ≡ true)
-RightCall b c (Start cipher i w) = Keyed b cipher i × RightVector cipher w × (goodCall c ≡ true)
+RightCall b c (Open cipher i w) = Keyed b cipher i × (length w ≡ 8) × (goodCall c ≡ true)
+RightCall b c (Start cipher i w) = Keyed b cipher i × (length w ≡ 8) × NotZeros cipher w × (goodCall c ≡ true)
 RightCall b c (Join cipher i) = Keyed b cipher i × (goodCall c ≡ true)
 RightCall b c (Voice mask frame) = (length frame ≡ 28) × (mask ≤ 15) × (goodCall c ≡ true)
 RightCall b c Lost = goodCall c ≡ true
 RightCall b c End = goodCall c ≡ true
-RightCall b c (Announce w) = RightVector (c .terms .cipher) w × (goodCall c ≡ true)
+RightCall b c (Announce w) = (length w ≡ 8) × (goodCall c ≡ true)
 RightCall b c (NextVector out) = (length out ≡ 8) × (goodCall c ≡ true)
 
--- a message kind is 1 to 4, and a message has the length of its packet's kind
+-- a packet is opened to receive, 0, or to send, 1; a message kind is 1 to 4, and a message has the length of its packet's kind
 abbrev pub RightPacket : List ℕ → Packet → PacketOperation → Type 0
-RightPacket b p (OpenPacket kind c i w) = Keyed b c i × ((1 ≤ kind) × (kind ≤ 4)) × RightVector c w × (goodPacket p ≡ true)
+RightPacket b p (OpenPacket end kind c i w) =
+    Keyed b c i × (end ≤ 1) × ((1 ≤ kind) × (kind ≤ 4)) × (length w ≡ 8) × (end ≡ 1 → NotZeros c w) × (goodPacket p ≡ true)
 RightPacket b p (Message octets) = (length octets ≡ messageOctets (p .kind)) × (goodPacket p ≡ true)
 RightPacket b p LostMessage = goodPacket p ≡ true
 RightPacket b p EndPacket = goodPacket p ≡ true
@@ -82,7 +82,7 @@ TimeOfCall c (NextVector out) = (c .end ≡ sendingEnd) × (c .terms .cipher ≡
 
 -- opening while there is no packet, the others with one, and no message past the 1,000th
 abbrev pub TimeOfPacket : Packet → PacketOperation → Type 0
-TimeOfPacket p (OpenPacket kind c i w) = p .kind ≡ 0
+TimeOfPacket p (OpenPacket end kind c i w) = p .kind ≡ 0
 TimeOfPacket p (Message octets) = (p .kind ≡ 0 → ⊥) × (p .count < 1000)
 TimeOfPacket p LostMessage = (p .kind ≡ 0 → ⊥) × (p .count < 1000)
 TimeOfPacket p EndPacket = p .kind ≡ 0 → ⊥
@@ -122,7 +122,7 @@ pub data OpensCall (n c i : ℕ) : Operation → Type 0 where
   by-join : OpensCall n c i (OfCall n (Join c i))
 
 pub data OpensPacket (n c i : ℕ) : Operation → Type 0 where
-  by-opening : (kind : ℕ) (w : List ℕ) → OpensPacket n c i (OfPacket n (OpenPacket kind c i w))
+  by-opening : (end kind : ℕ) (w : List ℕ) → OpensPacket n c i (OfPacket n (OpenPacket end kind c i w))
 
 -- it opens or ends call n, or packet n
 abbrev pub opensOrEnds : CallOperation → Bool
@@ -136,7 +136,7 @@ opensOrEnds (Announce w) = false
 opensOrEnds (NextVector out) = false
 
 abbrev pub opensOrEndsPacket : PacketOperation → Bool
-opensOrEndsPacket (OpenPacket kind c i w) = true
+opensOrEndsPacket (OpenPacket end kind c i w) = true
 opensOrEndsPacket (Message octets) = false
 opensOrEndsPacket LostMessage = false
 opensOrEndsPacket EndPacket = true

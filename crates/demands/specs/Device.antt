@@ -71,21 +71,21 @@ lentCall (NextVector out) = out
 
 -- on a packet
 pub data PacketOperation : Type 0 where
-  -- kind, cipher, key ID and vector
-  OpenPacket : ℕ → ℕ → ℕ → List ℕ → PacketOperation
+  -- end, kind, cipher, key ID and vector
+  OpenPacket : ℕ → ℕ → ℕ → ℕ → List ℕ → PacketOperation
   -- message
   Message : List ℕ → PacketOperation
   LostMessage EndPacket : PacketOperation
 
 module _ (b : List ℕ) (p : Packet) where
   unfoldable pub packetStep : PacketOperation → Answer × (Packet × List ℕ)
-  packetStep (OpenPacket kind c i w) = withNone (opening.openOf p kind c i w b)
+  packetStep (OpenPacket end kind c i w) = withNone (opening.openOf p end kind c i w b)
   packetStep (Message octets) = message.messageOf p octets
   packetStep LostMessage = withNone (message.lostOf p)
   packetStep EndPacket = withNone (packet.endOf p)
 
 abbrev pub lentPacket : PacketOperation → List ℕ
-lentPacket (OpenPacket kind c i w) = []
+lentPacket (OpenPacket end kind c i w) = []
 lentPacket (Message octets) = octets
 lentPacket LostMessage = []
 lentPacket EndPacket = []

@@ -1,7 +1,6 @@
 -- The build paper's marked examples in one table, each as a statement about the definitions.
 use mathlib.Core.Path.{_≡_}
 use mathlib.Core.List.{List, [], _∷_, _++_}
-use mathlib.Core.Bool.{false}
 use Prim.Native.Nat.{ℕ, _-_, _*_, _≤_}
 use lib.ListN.{length, replicate}
 use Rattle.octets.specs.Bits.{bit, octetsFrom}
@@ -10,7 +9,6 @@ use Rattle.generator.specs.Generator.{nextVector, aesVector}
 use Rattle.des.specs.Des.{des}
 use Rattle.aes.specs.Cipher.{aes}
 use Rattle.ciphers.specs.Keystream.{usedBlock, stream}
-use Rattle.octets.specs.Lists.{allZero}
 use Rattle.answers.specs.declared.Answer.the-variants.{Done, Held, NotNow, ZeroVector}
 use Rattle.answers.specs.Numbers.{numberOf}
 use Rattle.keyentry.specs.Entry.{entryOctets, keyPlace}
@@ -21,7 +19,7 @@ use Rattle.sizes.specs.Frame.{frameOctets}
 use Rattle.sizes.specs.Ciphers.{vectorOctets, noVector}
 use Rattle.openings.specs.Samples.{scramble0001, desABCD, seed}
 use Rattle.voice.specs.Call.{unknown, told, receiving, termsOf, noCall, written}
-use Rattle.voice.specs.Opening.{openOf, joinOf}
+use Rattle.voice.specs.Opening.{openOf, startOf, joinOf}
 use Rattle.voice.specs.Slot.{topMask, voiceOf}
 use Rattle.voice.specs.Vector.{announceOf}
 use Rattle.data.specs.declared.packet.Packet.{Packet}
@@ -95,14 +93,16 @@ pub record Marked : Type 0 where
   pub example-10 : (key vector : List ℕ)
       → (ofMessage (stream 2 key vector) 2 1 0 ≡ bit (usedBlock (des key) vector 1) 48)
       × (ofMessage (stream 2 key vector) 3 1 0 ≡ bit (usedBlock (des key) vector 1) 48)
-  -- a DES join, then four voice slots: 1 each; then announce: 0. Announce after three: 9. With any mask, any frame, and any vector that is not zero
+  -- a DES join, then four voice slots: 1 each; then announce: 0. Announce after three: 9. With any mask, any frame and any vector
   pub example-11 : (joinOf noCall 2 0 bookOfTwo ≡ (Done, waiting 4))
       × ((mask : ℕ) (frame : List ℕ) → mask ≤ topMask → length frame ≡ frameOctets
       → (voiceOf (waiting 4) mask frame ≡ (Held, (waiting 5, frame)))
       × (voiceOf (waiting 5) mask frame ≡ (Held, (waiting 6, frame)))
       × (voiceOf (waiting 6) mask frame ≡ (Held, (waiting 7, frame)))
       × (voiceOf (waiting 7) mask frame ≡ (Held, (waiting 0, frame))))
-      × ((w : List ℕ) → length w ≡ vectorOctets → allZero w ≡ false → announceOf (waiting 0) w ≡ (Done, written (receiving (termsOf 2 desABCD) 0 (told w))))
+      × ((w : List ℕ) → length w ≡ vectorOctets → announceOf (waiting 0) w ≡ (Done, written (receiving (termsOf 2 desABCD) 0 (told w))))
       × ((w : List ℕ) → length w ≡ vectorOctets → announceOf (waiting 7) w ≡ (NotNow, waiting 7))
-  -- vector zero: DES open 8, scramble open 0
-  pub example-12 : (openOf noCall 2 0 noVector bookOfTwo ≡ (ZeroVector, noCall)) × (openOf noCall 1 0 noVector bookOfTwo ≡ (Done, scrambling 0))
+  -- vector zero, as document 02 has it: DES open 0, DES start 8; scramble open 0
+  pub example-12 : (openOf noCall 2 0 noVector bookOfTwo ≡ (Done, written (receiving (termsOf 2 desABCD) 0 (told noVector))))
+      × (startOf noCall 2 0 noVector bookOfTwo ≡ (ZeroVector, noCall))
+      × (openOf noCall 1 0 noVector bookOfTwo ≡ (Done, scrambling 0))

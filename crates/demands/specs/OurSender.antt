@@ -4,8 +4,9 @@ use mathlib.Core.List.{List, [], _∷_, map}
 use mathlib.Core.Bool.{Bool, false}
 use Prim.Native.Nat.{ℕ, _≤_, _<_}
 use lib.ListN.{length}
-use Rattle.octets.specs.Lists.{Each}
-use Rattle.generator.specs.Generator.{nextVector}
+use Rattle.octets.specs.Lists.{allZero, Each}
+use Rattle.generator.specs.Generator.{IsVector, nextVector}
+use Rattle.sizes.specs.Ciphers.{scrambles}
 use Rattle.openings.specs.Ladder.{sessionVector}
 use Rattle.voice.specs.declared.call.Call.{Call}
 use Rattle.voice.specs.Frame.{IsFrame, word, inMask}
@@ -46,6 +47,11 @@ abbrev pub talkMade : ℕ → List ℕ → ℕ → List ℕ → List ℕ → Lis
 talkMade c key i v b said = record { cipher = c; key = key; sessions = sessionsMade (startOf noCall c i v b .1) said }
 
 -- ---- what is asked of those who speak
+
+-- what our sender is started with: eight octets, for DES and AES not all zero
+pub record StartVector (c : ℕ) (v : List ℕ) : Type 0 where
+  pub vector : IsVector v
+  pub some : scrambles c ≡ false → allZero v ≡ false
 
 pub record SaidKept (x : Said) : Type 0 where
   pub mask : x .mask ≤ 15

@@ -1,16 +1,17 @@
 -- What refuses each operation, all in one table, what it is answered else, and the order in which refusals count (document 01, "Answer numbers": "Several at once").
 use mathlib.Core.List.{List, [], _∷_, _++_}
 use Prim.Native.Nat.{ℕ}
+use lib.Dec.{eqb}
 use Rattle.octets.specs.Tests.{pick}
 use Rattle.answers.specs.declared.Answer.{Answer}
 use Rattle.answers.specs.declared.Answer.the-variants.{Done, Held}
 use Rattle.answers.specs.Outcomes.{Refusals}
-use Rattle.answers.specs.Order.{refusalOrder, ofGiven, ofCall, ofBook, ofZeros}
+use Rattle.answers.specs.Order.{ofGiven, ofCall, ofBook, withoutZeros, refusalOrder}
 use Rattle.keybook.specs.Operations.{beginRefusals, addRefusals, finishRefusals, eraseRefusals}
 use Rattle.keybook.specs.History as book
 use Rattle.voice.specs.declared.call.Call.{Call}
-use Rattle.voice.specs.Call.{standing, knows, endRefusals}
-use Rattle.voice.specs.Opening.{joinRefusals, openRefusals}
+use Rattle.voice.specs.Call.{sendingEnd, receivingEnd, standing, knows, endRefusals}
+use Rattle.voice.specs.Opening.{joinRefusals, begunRefusals}
 use Rattle.voice.specs.Slot.{lostRefusals, voiceRefusals}
 use Rattle.voice.specs.Vector.{announceRefusals, nextRefusals}
 use Rattle.data.specs.declared.packet.Packet.{Packet}
@@ -26,8 +27,8 @@ keyRefusals b (book.Finish c i) = finishRefusals b c i
 keyRefusals b (book.Erase c i) = eraseRefusals b c i
 
 abbrev pub callRefusals : List ℕ → Call → CallOperation → Refusals
-callRefusals b c (Open cipher i w) = openRefusals (standing c) cipher i w b
-callRefusals b c (Start cipher i w) = openRefusals (standing c) cipher i w b
+callRefusals b c (Open cipher i w) = begunRefusals receivingEnd (standing c) cipher i w b
+callRefusals b c (Start cipher i w) = begunRefusals sendingEnd (standing c) cipher i w b
 callRefusals b c (Join cipher i) = joinRefusals (standing c) cipher i b
 callRefusals b c (Voice mask frame) = voiceRefusals (standing c) mask frame
 callRefusals b c Lost = lostRefusals (standing c)
@@ -36,7 +37,7 @@ callRefusals b c (Announce w) = announceRefusals (standing c) w
 callRefusals b c (NextVector out) = nextRefusals (standing c) out
 
 abbrev pub packetRefusals : List ℕ → Packet → PacketOperation → Refusals
-packetRefusals b p (OpenPacket kind c i w) = opening.openRefusals p kind c i w b
+packetRefusals b p (OpenPacket end kind c i w) = opening.openRefusals p end kind c i w b
 packetRefusals b p (Message octets) = message.messageRefusals p octets
 packetRefusals b p LostMessage = message.lostRefusals p
 packetRefusals b p EndPacket = packet.endRefusals p
@@ -63,17 +64,17 @@ unrefused d (OfBook o) = Done
 unrefused d (OfCall n o) = callUnrefused (d .calls n) o
 unrefused d (OfPacket n o) = Done
 
--- the order of each, "where the operation can give it": a key operation has no call, and only an opening has both call and book
+-- the order of each, "where the operation can give it": a key operation has no call, only an opening has both call and book, and only one that sends has 8
 abbrev pub withoutCall : List ℕ
-withoutCall = ofGiven ++ (ofBook ++ ofZeros)
+withoutCall = ofGiven ++ ofBook
 
 abbrev pub withoutBook : List ℕ
-withoutBook = ofGiven ++ (ofCall ++ ofZeros)
+withoutBook = ofGiven ++ ofCall
 
 abbrev callOrder : CallOperation → List ℕ
-callOrder (Open cipher i w) = refusalOrder
+callOrder (Open cipher i w) = withoutZeros
 callOrder (Start cipher i w) = refusalOrder
-callOrder (Join cipher i) = refusalOrder
+callOrder (Join cipher i) = withoutZeros
 callOrder (Voice mask frame) = withoutBook
 callOrder Lost = withoutBook
 callOrder End = withoutBook
@@ -82,7 +83,7 @@ callOrder (NextVector out) = withoutBook
 
 -- the paper's exception: a data message's length depends on its packet, so there 4 and 9 come before 2
 abbrev packetOrder : PacketOperation → List ℕ
-packetOrder (OpenPacket kind c i w) = refusalOrder
+packetOrder (OpenPacket end kind c i w) = pick (eqb end opening.toSend) refusalOrder withoutZeros
 packetOrder (Message octets) = 4 ∷ 9 ∷ 2 ∷ []
 packetOrder LostMessage = withoutBook
 packetOrder EndPacket = withoutBook

@@ -1,12 +1,12 @@
 -- Demand 3, what was said (document 01, "Voice"): one call of a sender that keeps the rules, and what the channel let through.
 use mathlib.Core.Path.{_≡_}
 use mathlib.Core.List.{List, [], _∷_, _++_, map}
-use mathlib.Core.Bool.{Bool, true, false}
+use mathlib.Core.Bool.{Bool, true}
 use Prim.Native.Nat.{ℕ, suc, _+_, _-_, _*_, _≤_, _<_}
 use lib.ListN.{length, replicate}
 use Rattle.octets.specs.Bits.{bit, flip}
-use Rattle.octets.specs.Lists.{allZero, Each}
-use Rattle.sizes.specs.Ciphers.{keyOctets, sessionSlots, keyRoom, vectorOctets, scrambles}
+use Rattle.octets.specs.Lists.{Each}
+use Rattle.sizes.specs.Ciphers.{keyOctets, sessionSlots, keyRoom, vectorOctets}
 use Rattle.ciphers.specs.Keystream.{stream}
 use Rattle.keyentry.specs.Entry.{isReady}
 use Rattle.keybook.specs.Book.{goodBook}
@@ -59,13 +59,9 @@ abbrev pub SlotsKept : (ℕ → ℕ) → ℕ → List Slot → Type 0
 SlotsKept ks p [] = Unit {0}
 SlotsKept ks p (x ∷ xs) = SlotKept ks p x × SlotsKept ks (suc p) xs
 
--- eight octets, for DES and AES not all zero; scramble ignores them
-pub record VectorKept (c : ℕ) (v : List ℕ) : Type 0 where
-  pub long : length v ≡ vectorOctets
-  pub some : scrambles c ≡ false → allZero v ≡ false
-
+-- a vector has eight octets. It may be zeros (document 02, W-204), and scramble ignores it
 pub record SessionKept (c : ℕ) (key : List ℕ) (x : Session) : Type 0 where
-  pub vector : VectorKept c (x .vector)
+  pub vector : length (x .vector) ≡ vectorOctets
   pub slots : SlotsKept (stream c key (x .vector)) 0 (x .slots)
 
 -- of sessions with so many slots each, every one has all of its cipher's; the last may have fewer

@@ -49,28 +49,28 @@ module _ {S : Type 0} (before : S) (make : List ℕ → S) where
       unfolding openingKeyOf
       key-begun d = began-done (keyRefusals ranged bad busy c i b) (keyFor b c i) (key-never ranged bad busy c i b) e d ∙ key-alike (Done, make (keyFor b c i))
 
-    module _ (w : List ℕ) where
-      vector-alike : (last : Answer × S) → settled before (vectorRefusals ranged bad busy c i w b) last ≡ settled before (vectorRefusals ranged bad′ busy′ c i w b) last
+    module _ (w : List ℕ) (sends : Bool) where
+      vector-alike : (last : Answer × S) → settled before (vectorRefusals sends ranged bad busy c i w b) last ≡ settled before (vectorRefusals sends ranged bad′ busy′ c i w b) last
       unfolding vectorRefusals keyRefusals
       vector-alike last = go same
         where
-          go : Alike bad busy bad′ busy′ → settled before (vectorRefusals ranged bad busy c i w b) last ≡ settled before (vectorRefusals ranged bad′ busy′ c i w b) last
+          go : Alike bad busy bad′ busy′ → settled before (vectorRefusals sends ranged bad busy c i w b) last ≡ settled before (vectorRefusals sends ranged bad′ busy′ c i w b) last
           go (both-bad p q) = rw (p, q)
           go (the-same p q) = rw (p, q)
 
-      module _ (a : Answer) (key : List ℕ) (e : (a, key) ≡ vectorKeyOf ranged bad busy c i w b) where
-        pub vector-begun-refused : isDone a ≡ false → (a, before) ≡ outcome before (vectorRefusals ranged bad′ busy′ c i w b) (make (keyFor b c i))
+      module _ (a : Answer) (key : List ℕ) (e : (a, key) ≡ vectorKeyOf sends ranged bad busy c i w b) where
+        pub vector-begun-refused : isDone a ≡ false → (a, before) ≡ outcome before (vectorRefusals sends ranged bad′ busy′ c i w b) (make (keyFor b c i))
         unfolding vectorKeyOf
         vector-begun-refused d =
-            began-refused (vectorRefusals ranged bad busy c i w b) (keyFor b c i) (vector-never ranged bad busy c i b w) e d ∙ vector-alike (Done, make (keyFor b c i))
+            began-refused (vectorRefusals sends ranged bad busy c i w b) (keyFor b c i) (vector-never ranged bad busy c i b w sends) e d ∙ vector-alike (Done, make (keyFor b c i))
 
-        pub vector-begun : isDone a ≡ true → (Done, make key) ≡ outcome before (vectorRefusals ranged bad′ busy′ c i w b) (make (keyFor b c i))
+        pub vector-begun : isDone a ≡ true → (Done, make key) ≡ outcome before (vectorRefusals sends ranged bad′ busy′ c i w b) (make (keyFor b c i))
         unfolding vectorKeyOf
         vector-begun d =
-            began-done (vectorRefusals ranged bad busy c i w b) (keyFor b c i) (vector-never ranged bad busy c i b w) e d ∙ vector-alike (Done, make (keyFor b c i))
+            began-done (vectorRefusals sends ranged bad busy c i w b) (keyFor b c i) (vector-never ranged bad busy c i b w sends) e d ∙ vector-alike (Done, make (keyFor b c i))
 
-pub begun-sized : (ranged bad busy : Bool) (c i : ℕ) (w b : List ℕ) {o : Answer × List ℕ} → o ≡ vectorKeyOf ranged bad busy c i w b → isDone (o .0) ≡ true
+pub begun-sized : (sends ranged bad busy : Bool) (c i : ℕ) (w b : List ℕ) {o : Answer × List ℕ} → o ≡ vectorKeyOf sends ranged bad busy c i w b → isDone (o .0) ≡ true
     → length w ≡ vectorOctets
 unfolding vectorKeyOf
-begun-sized ranged bad busy c i w b e d =
-    vector-sized ranged bad busy c i b w (given-none (vectorRefusals ranged bad busy c i w b) (keyFor b c i) (vector-never ranged bad busy c i b w) e d)
+begun-sized sends ranged bad busy c i w b e d =
+    vector-sized ranged bad busy c i b w sends (given-none (vectorRefusals sends ranged bad busy c i w b) (keyFor b c i) (vector-never ranged bad busy c i b w sends) e d)

@@ -65,6 +65,6 @@ module _ (ranged bad busy : Bool) (c i : ℕ) (b : List ℕ) (n : NoneHolds (key
       key-ready ranged bad busy c i b (eqb-true _ _ (not-false _ (n .0))) (none-ranged .0) (none-ranged .1) (n .1 .1 .0) (n .1 .1 .1 .0)
       ∙ none-settles (keyRefusals ranged bad busy c i b) noKey (Done, keyFor b c i) n
 
-pub none-ready-vector : (ranged bad busy : Bool) (c i : ℕ) (b w : List ℕ) → NoneHolds (vectorRefusals ranged bad busy c i w b)
+pub none-ready-vector : (sends ranged bad busy : Bool) (c i : ℕ) (b w : List ℕ) → NoneHolds (vectorRefusals sends ranged bad busy c i w b)
     → readyKeyOf b c i ≡ (Done, keyFor b c i)
-none-ready-vector ranged bad busy c i b w n = none-ready ranged bad busy c i b (vector-none ranged bad busy c i b w n)
+none-ready-vector sends ranged bad busy c i b w n = none-ready ranged bad busy c i b (vector-none ranged bad busy c i b w sends n)

@@ -36,14 +36,18 @@ openingKeyOf ranged isBad busy c i b = outcome noKey (keyRefusals ranged isBad b
 abbrev pub sessionVector : ℕ → List ℕ → List ℕ
 sessionVector c w = pick (scrambles c) noVector w
 
--- zeros, DES and AES
+-- zeros, with DES or AES
 unfoldable pub zeroFor : ℕ → List ℕ → Bool
 zeroFor c w = not (scrambles c) && allZero w
 
--- with a vector: its length is asked with the book's, for scramble too, and 8 at the end
-unfoldable pub vectorRefusals : Bool → Bool → Bool → ℕ → ℕ → List ℕ → List ℕ → Refusals
-vectorRefusals ranged isBad busy c i w b =
-    (not (eqb (length w) vectorOctets), WrongLength) ∷ (keyRefusals ranged isBad busy c i b ++ ((zeroFor c w, ZeroVector) ∷ []))
+-- 8 is for senders only (document 02, W-204): what is on the air may be zeros
+unfoldable pub zeroRefusals : Bool → ℕ → List ℕ → Refusals
+zeroRefusals sends c w = pick sends ((zeroFor c w, ZeroVector) ∷ []) []
 
-unfoldable pub vectorKeyOf : Bool → Bool → Bool → ℕ → ℕ → List ℕ → List ℕ → Answer × List ℕ
-vectorKeyOf ranged isBad busy c i w b = outcome noKey (vectorRefusals ranged isBad busy c i w b) (keyFor b c i)
+-- with a vector: its length is asked with the book's, for scramble too, and a sender's 8 at the end
+unfoldable pub vectorRefusals : Bool → Bool → Bool → Bool → ℕ → ℕ → List ℕ → List ℕ → Refusals
+vectorRefusals sends ranged isBad busy c i w b =
+    (not (eqb (length w) vectorOctets), WrongLength) ∷ (keyRefusals ranged isBad busy c i b ++ zeroRefusals sends c w)
+
+unfoldable pub vectorKeyOf : Bool → Bool → Bool → Bool → ℕ → ℕ → List ℕ → List ℕ → Answer × List ℕ
+vectorKeyOf sends ranged isBad busy c i w b = outcome noKey (vectorRefusals sends ranged isBad busy c i w b) (keyFor b c i)

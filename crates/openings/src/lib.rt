@@ -48,7 +48,7 @@ pub fn session_vector(cipher: u8, vector: &[u8]) -> [u8; VECTOR_OCTETS]
     own
 }
 
-// Whether a vector is refused because it is zero.
+// Whether a sender's vector is refused because it is zero.
 fn is_zero_for(cipher: u8, vector: &[u8]) -> bool
     ensures { λ r. ⌜ r ≡ zeroFor cipher (now (vector .entry)) ⌝ }
 {
@@ -58,8 +58,9 @@ fn is_zero_for(cipher: u8, vector: &[u8]) -> bool
     all_zero(vector)
 }
 
-// The same, for an opening that is given a vector.
+// The ready key for an opening that is given a vector: by the caller's word a sender's, or not.
 pub fn opening_key_with(
+    sends: bool,
     ranged: bool,
     bad: bool,
     busy: bool,
@@ -68,7 +69,7 @@ pub fn opening_key_with(
     vector: &[u8],
     book: &[u8],
 ) -> Ready
-    ensures { λ r. ⌜ (r .answer, r .key) ≡ vectorKeyOf ranged bad busy cipher id (now (vector .entry)) (now (book .entry)) ⌝ }
+    ensures { λ r. ⌜ (r .answer, r .key) ≡ vectorKeyOf sends ranged bad busy cipher id (now (vector .entry)) (now (book .entry)) ⌝ }
 {
     if vector.len() != VECTOR_OCTETS {
         return refused(Answer::WrongLength);
@@ -78,7 +79,7 @@ pub fn opening_key_with(
     if answer.number() != 0 {
         return ready;
     }
-    if is_zero_for(cipher, vector) {
+    if sends && is_zero_for(cipher, vector) {
         return refused(Answer::ZeroVector);
     }
     ready

@@ -18,10 +18,10 @@ use Rattle.keyentry.proofs.WriteLaws.{in-range-used}
 use Rattle.keybook.specs.Book.{entries, bookOctets, goodBook, findEntry, bookRefusals}
 use Rattle.keybook.specs.Operations.{hasEntry, entryFor, beginRefusals, beginAfter, beginOf, addRefusals, addOf, finishRefusals, finishOf, loadOf}
 use Rattle.keybook.proofs.GoodLaws.{good-sized, found-for}
-use Rattle.openings.specs.Ladder.{keyRefusals, vectorRefusals}
+use Rattle.openings.specs.Ladder.{keyRefusals, zeroRefusals, vectorRefusals}
 use Rattle.voice.specs.declared.call.Call.{Call}
-use Rattle.voice.specs.Call.{standing, isBad, stands, knows, endRefusals, endOf}
-use Rattle.voice.specs.Opening.{joinRefusals, openRefusals, begun, openOf, joinOf}
+use Rattle.voice.specs.Call.{receivingEnd, standing, isBad, stands, knows, endRefusals, endOf}
+use Rattle.voice.specs.Opening.{joinRefusals, begunRefusals, openOf, joinOf}
 use Rattle.sizes.specs.Frame.{frameOctets}
 use Rattle.voice.specs.Slot.{lostRefusals, lostOf, voiceRefusals, streamOf, voiceAfter, voiceBy, voiceOf}
 use Rattle.voice.specs.Vector.{announceRefusals, announceOf}
@@ -109,11 +109,11 @@ module _ (book : List ℕ) (call : Call) (s : Sound book call) where
   )
 
   open-can : (c i : ℕ) (w : List ℕ) → length w ≡ vectorOctets → Can (Open c i w) (openOf call c i w book .0)
-  unfolding openOf openRefusals vectorRefusals
+  unfolding openOf begunRefusals vectorRefusals zeroRefusals
   open-can c i w l =
       let r = Open c i w in
-      gives (Can r) call (openRefusals (standing call) c i w book) _
-      (never-not (eq-eqb (length w) vectorOctets l), λ _. gives-more (Can r) (keyRefusals true (isBad (standing call)) (stands (standing call)) c i book) _ (key-can r refl refl refl c i) (λ h. refl, λ _. tt)) refl
+      gives (Can r) call (begunRefusals receivingEnd (standing call) c i w book) _
+      (never-not (eq-eqb (length w) vectorOctets l), λ _. gives-more (Can r) (keyRefusals true (isBad (standing call)) (stands (standing call)) c i book) _ (key-can r refl refl refl c i) tt) refl
 
   join-can : (c i : ℕ) → Can (Join c i) (joinOf call c i book .0)
   unfolding joinOf joinRefusals
@@ -143,7 +143,7 @@ module _ (book : List ℕ) (call : Call) (s : Sound book call) where
   unfolding announceOf announceRefusals
   announce-can w l =
       gives (Can (Announce w)) call (announceRefusals (standing call) w) _
-      (never-not (eq-eqb (length w) vectorOctets l), λ _. (good-stays, λ _. (λ h. refl, λ _. (λ h. refl, λ _. tt)))) refl
+      (never-not (eq-eqb (length w) vectorOctets l), λ _. (good-stays, λ _. (λ h. refl, λ _. tt))) refl
 
   lost-can : Can Lost (lostOf call .0)
   unfolding lostOf lostRefusals

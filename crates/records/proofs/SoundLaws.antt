@@ -23,7 +23,7 @@ use Rattle.openings.specs.Ladder.{sessionVector, keyFor}
 use Rattle.voice.specs.declared.call.Terms.{Terms}
 use Rattle.voice.specs.declared.call.Call.{Call}
 use Rattle.voice.specs.Call.{sendingEnd, receivingEnd, goodCall, Known, knownBy, untold, Standing, closed, receiving, standing, termsOf, noCall, written, endRefusals, endOf}
-use Rattle.voice.specs.Opening.{joinRefusals, openRefusals, begun, openOf, joined, joinOf}
+use Rattle.voice.specs.Opening.{joinRefusals, begunRefusals, begun, openOf, joined, joinOf}
 use Rattle.voice.specs.Slot.{slotOn, lostRefusals, lostOf, voiceRefusals, streamOf, voiceAfter, voiceBy, voiceOf}
 use Rattle.voice.specs.Vector.{withVector, announceRefusals, announceOf}
 use Rattle.voice.proofs.CallLaws.{by-stands}
@@ -121,7 +121,7 @@ module _ (c : Call) (good : goodCall c ≡ true) (no : NoSender c) where
   module _ (n i : ℕ) (b : List ℕ) where
     open-ends : (w : List ℕ) → NoSender (openOf c n i w b .1)
     unfolding openOf
-    open-ends w = unless (λ d. d) c (openRefusals (standing c) n i w b) (Done, written (begun receivingEnd (termsOf n (keyFor b n i)) (sessionVector n w))) no (λ e. omega arith)
+    open-ends w = unless (λ d. d) c (begunRefusals receivingEnd (standing c) n i w b) (Done, written (begun receivingEnd (termsOf n (keyFor b n i)) (sessionVector n w))) no (λ e. omega arith)
 
     join-ends : NoSender (joinOf c n i b .1)
     unfolding joinOf

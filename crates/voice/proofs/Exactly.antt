@@ -1,7 +1,7 @@
--- When a slot is done or held, an announcement taken and a next vector given, by the struct's own fields: in both directions. And nothing opens a
--- call that stands.
+-- When a slot is done or held, an announcement taken and a next vector given, by the struct's own fields: in both directions. What start answers
+-- besides what open does. And nothing opens a call that stands.
 use mathlib.Core.Path.{_≡_, refl, sym, ap, _∙_}
-use mathlib.Core.Bool.{Bool, true, false, not, true≢false}
+use mathlib.Core.Bool.{Bool, true, false, _&&_, not, true≢false}
 use mathlib.Core.List.{List}
 use Prim.Native.Nat.{ℕ, _≤_}
 use native.Mathlib.Omega.{arith}
@@ -9,19 +9,21 @@ use lib.Dec.{eqb}
 use lib.ListN.{length}
 use borrow.Author.Tests.{eq-eqb, eqb-true, ltb-false, not-true, not-false}
 use Rattle.octets.specs.Tests.{pick}
-use Rattle.octets.specs.Lists.{allZero}
 use Rattle.octets.proofs.TestLaws.{and-left, and-right}
 use Rattle.generator.specs.Generator.{nextVector}
 use Rattle.answers.specs.declared.Answer.{Answer}
-use Rattle.answers.specs.declared.Answer.the-variants.{Done, Held}
-use Rattle.answers.specs.Numbers.{numberOf}
+use Rattle.answers.specs.declared.Answer.the-variants.{Done, Held, ZeroVector}
+use Rattle.answers.specs.Numbers.{numberOf, isDone}
+use Rattle.answers.specs.Outcomes.{Refusals, outcome}
 use Rattle.answers.proofs.OutcomeLaws.{NoneHolds, Refusal, fromTwo, among-refuses, by-refusals, some-refuses}
+use Rattle.answers.proofs.TableLaws.{answer-alone}
 use Rattle.sizes.specs.Ciphers.{vectorOctets, scrambles}
-use Rattle.openings.specs.Ladder.{sessionVector, keyFor, keyRefusals, vectorRefusals}
+use Rattle.openings.specs.Ladder.{sessionVector, keyFor, keyRefusals, zeroFor, vectorRefusals}
+use Rattle.openings.proofs.LadderLaws.{vector-from-two, sends-more}
 use Rattle.voice.specs.declared.call.Call.{Call}
 use Rattle.sizes.specs.Frame.{frameOctets}
 use Rattle.voice.specs.Call.{closedEnd, sendingEnd, receivingEnd, unknownVector, goodCall, standing, termsOf, written, isBad, stands}
-use Rattle.voice.specs.Opening.{joinRefusals, openRefusals, begun, begunOf, openOf, startOf, joined, joinOf}
+use Rattle.voice.specs.Opening.{joinRefusals, begunRefusals, begun, begunOf, openOf, startOf, joined, joinOf}
 use Rattle.voice.specs.Slot.{topMask, voiceRefusals, streamOf, voiceOf}
 use Rattle.voice.specs.Vector.{awaits, withVector, announceRefusals, announceOf, generates, following, nextRefusals, nextVectorOf}
 use Rattle.voice.proofs.CallLaws.{is-sender, is-known, by-stands, good-by, not-bad, stands-some, is-receiver, knows-is}
@@ -83,7 +85,7 @@ module _ (c : Call) (mask : ℕ) (frame : List ℕ) where
 
 -- ---- an announcement
 
--- eight octets that are not all zero, and a good receiving call, DES or AES, at position 0 with its vector unknown
+-- eight octets, zeros or not, and a good receiving call, DES or AES, at position 0 with its vector unknown
 pub record Timely (c : Call) (w : List ℕ) : Type 0 where
   pub long : length w ≡ vectorOctets
   pub good : goodCall c ≡ true
@@ -91,7 +93,6 @@ pub record Timely (c : Call) (w : List ℕ) : Type 0 where
   pub vectored : scrambles (c .terms .cipher) ≡ false
   pub starts : c .position ≡ 0
   pub unknown : c .known ≡ unknownVector
-  pub given : allZero w ≡ false
 
 module _ (c : Call) (w : List ℕ) where
   awaited : Timely c w → awaits (standing c) ≡ true
@@ -111,7 +112,6 @@ module _ (c : Call) (w : List ℕ) where
         vectored = not-true _ (and-left (not (scrambles (c .terms .cipher))) _ a);
         starts = eqb-true _ _ (and-left (eqb (c .position) 0) _ b);
         unknown = eqb-true _ _ (sym (is-known (c .known) (c .vector) .1) ∙ and-right (eqb (c .position) 0) _ b);
-        given = n .1 .1 .1 .0;
       })
     where
       good : goodCall c ≡ true
@@ -129,7 +129,7 @@ module _ (c : Call) (w : List ℕ) where
   announced-exactly = (
     by-refusals (λ o. numberOf (o .0) ≡ 0 → Timely c w) c (announceRefusals (standing c) w) (Done, written (withVector w (standing c)))
         (λ a m z. absurd (omega (arith, among-refuses a (announceRefusals (standing c) w) from-two m))) (λ n z. timely n),
-    λ t. ap (λ (o : Answer × Call). numberOf (o .0)) (sym (announce-done c w (ap not (eq-eqb _ _ (t .long)), (not-bad c (t .good), (ap not (awaited t), (t .given, tt)))))),
+    λ t. ap (λ (o : Answer × Call). numberOf (o .0)) (sym (announce-done c w (ap not (eq-eqb _ _ (t .long)), (not-bad c (t .good), (ap not (awaited t), tt))))),
   )
 
   -- at any position but 0 no announcement is taken, and the call stays as it was
@@ -169,6 +169,29 @@ module _ (c : Call) (out : List ℕ) where
     λ g. ap (λ (o : Answer × List ℕ). numberOf (o .0)) (next-given g),
   )
 
+-- ---- open and start
+
+module _ (c : Call) (n i : ℕ) (w b : List ℕ) where
+  abbrev openAsks : Refusals
+  openAsks = vectorRefusals false true (isBad (standing c)) (stands (standing c)) n i w b
+
+  abbrev started : ℕ → Call
+  started end = written (begun end (termsOf n (keyFor b n i)) (sessionVector n w))
+
+  -- start answers what open does, but 8 where that would be done with zeros, of DES or AES
+  pub start-answers : startOf c n i w b .0 ≡ pick (isDone (openOf c n i w b .0) && zeroFor n w) ZeroVector (openOf c n i w b .0)
+  unfolding startOf openOf begunRefusals
+  start-answers =
+      ap (λ (o : Answer × Call). o .0) (sends-more true (isBad (standing c)) (stands (standing c)) n i b w c (started sendingEnd))
+      ∙ go (outcome c openAsks (started sendingEnd)) (outcome c openAsks (started receivingEnd)) (answer-alone c openAsks (Done, started sendingEnd) ∙ sym (answer-alone c openAsks (Done, started receivingEnd)))
+    where
+      by : (t : Bool) (d : Call) (a : Answer) → pick {A = Answer × Call} t (ZeroVector, c) (a, d) .0 ≡ pick t ZeroVector a
+      by true d a = refl
+      by false d a = refl
+
+      go : (x y : Answer × Call) → x .0 ≡ y .0 → pick (isDone (x .0) && zeroFor n w) (ZeroVector, c) x .0 ≡ pick (isDone (y .0) && zeroFor n w) ZeroVector (y .0)
+      go x y e = rw e (by (isDone (y .0) && zeroFor n w) (x .1) (y .0))
+
 -- ---- while a call stands
 
 module _ (c : Call) (busy : c .end ≡ closedEnd → ⊥) (n i : ℕ) (b : List ℕ) where
@@ -183,9 +206,10 @@ module _ (c : Call) (busy : c .end ≡ closedEnd → ⊥) (n i : ℕ) (b : List 
 
   module _ (w : List ℕ) where
     begin-busy : (end : ℕ) → Refusal (begunOf end c n i w b .0) × (begunOf end c n i w b .1 ≡ c)
-    unfolding openRefusals vectorRefusals keyRefusals
+    unfolding begunRefusals vectorRefusals keyRefusals
     begin-busy end =
-        some-refuses c (openRefusals (standing c) n i w b) (Done, written (begun end (termsOf n (keyFor b n i)) (sessionVector n w))) refl (λ h. no-busy (search h) (search h))
+        some-refuses c (begunRefusals end (standing c) n i w b) (Done, written (begun end (termsOf n (keyFor b n i)) (sessionVector n w)))
+        (vector-from-two true (isBad (standing c)) (stands (standing c)) n i b w (eqb end sendingEnd)) (λ h. no-busy (search h) (search h))
 
     pub open-busy : Refusal (openOf c n i w b .0) × (openOf c n i w b .1 ≡ c)
     unfolding openOf

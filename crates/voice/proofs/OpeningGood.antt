@@ -1,6 +1,6 @@
 -- What open, join and start leave is a good call.
-use mathlib.Core.Path.{_≡_, refl}
-use mathlib.Core.Bool.{Bool, true, false, true≢false}
+use mathlib.Core.Path.{_≡_, refl, ap}
+use mathlib.Core.Bool.{Bool, true, false, _&&_, not, true≢false}
 use mathlib.Core.List.{List, [], _∷_}
 use Prim.Native.Nat.{ℕ, _≤_, _<_}
 use native.Mathlib.Omega.{arith}
@@ -8,18 +8,18 @@ use lib.Dec.{eqb}
 use Rattle.sizes.proofs.Cases.{by-range}
 use Rattle.octets.specs.Tests.{pick}
 use Rattle.octets.specs.Lists.{allZero}
-use Rattle.sizes.specs.Ciphers.{sessionSlots, scrambles}
+use Rattle.sizes.specs.Ciphers.{sessionSlots, noVector, scrambles}
 use Rattle.answers.specs.declared.Answer.the-variants.{Done, ZeroVector}
 use Rattle.answers.proofs.OutcomeLaws.{NoneHolds, none-left, none-right}
-use Rattle.openings.specs.Ladder.{sessionVector, keyFor, keyRefusals, zeroFor, vectorRefusals}
+use Rattle.openings.specs.Ladder.{sessionVector, keyFor, keyRefusals, zeroFor, zeroRefusals, vectorRefusals}
 use Rattle.ciphers.specs.Keys.{keyRight}
 use Rattle.sizes.proofs.SizeLaws.{no-vector-zero}
 use Rattle.openings.proofs.ReadyLaws.{none-in-range, none-key}
 use Rattle.voice.specs.declared.call.Terms.{Terms}
 use Rattle.voice.specs.declared.call.Call.{Call}
-use Rattle.voice.specs.Call.{sendingEnd, receivingEnd, toldVector, vectorRight, goodCall, told, untold, sending, receiving, standing, termsOf, written, isBad, stands}
-use Rattle.voice.specs.Opening.{superframeSlots, joinRefusals, openRefusals, begun, begunOf, openOf, startOf, joined, joinOf}
-use Rattle.voice.proofs.GoodLaws.{good-sender, good-receiver, untold-right, kept}
+use Rattle.voice.specs.Call.{sendingEnd, receivingEnd, vectorRight, goodCall, told, untold, sending, receiving, standing, termsOf, written, isBad, stands}
+use Rattle.voice.specs.Opening.{superframeSlots, joinRefusals, begunRefusals, begun, begunOf, openOf, startOf, joined, joinOf}
+use Rattle.voice.proofs.GoodLaws.{knownRight, sentRight, good-sender, good-receiver, untold-right, kept}
 
 -- a session has slots, and more than a superframe where it needs a vector
 slots-some : (c : ℕ) → (1 ≤ c) × (c ≤ 3) → 0 < sessionSlots c
@@ -28,18 +28,22 @@ slots-some = by-range (λ n. 0 < sessionSlots n) (omega arith) (omega arith) (om
 slots-more : (c : ℕ) → (1 ≤ c) × (c ≤ 3) → scrambles c ≡ false → superframeSlots < sessionSlots c
 slots-more = by-range (λ n. scrambles n ≡ false → superframeSlots < sessionSlots n) (λ e. absurd (true≢false e)) (λ e. omega arith) (λ e. omega arith)
 
--- the vector of a session that begins: 8 was not given
-pub session-right : (end c : ℕ) (w : List ℕ) → zeroFor c w ≡ false → vectorRight end c toldVector (allZero (sessionVector c w)) ≡ true
-unfolding vectorRight zeroFor
-session-right end c w z = go (scrambles c) refl
+-- the vector that a receiver is told as it opens; and a sender's, where 8 was not given
+pub heard-right : (c : ℕ) (w : List ℕ) → knownRight c (told (sessionVector c w)) ≡ true
+unfolding vectorRight
+heard-right c w = go (scrambles c)
   where
-    go : (t : Bool) → scrambles c ≡ t → vectorRight end c toldVector (allZero (sessionVector c w)) ≡ true
-    go true e = rw (e, no-vector-zero)
-    go false e = rw (e, (rw e at z)) (go′ (eqb end 1))
-      where
-        go′ : (t : Bool) → pick t true true ≡ true
-        go′ true = refl
-        go′ false = refl
+    go : (t : Bool) → pick t (allZero (pick t noVector w)) true ≡ true
+    go true = no-vector-zero
+    go false = refl
+
+pub sent-right : (c : ℕ) (w : List ℕ) → zeroFor c w ≡ false → sentRight c (sessionVector c w) ≡ true
+unfolding vectorRight zeroFor
+sent-right c w = go (scrambles c)
+  where
+    go : (t : Bool) → (not t && allZero w) ≡ false → pick t (allZero (pick t noVector w)) (not (allZero (pick t noVector w))) ≡ true
+    go true z = no-vector-zero
+    go false z = ap not z
 
 module _ (bad busy : Bool) (c i : ℕ) (b : List ℕ) (n : NoneHolds (keyRefusals true bad busy c i b)) where
   ranged : (1 ≤ c) × (c ≤ 3)
@@ -58,12 +62,14 @@ module _ (bad busy : Bool) (c i : ℕ) (b : List ℕ) (n : NoneHolds (keyRefusal
       go true e = slots-some c ranged
       go false e = slots-more c ranged e
 
-  begun-good : (end : ℕ) (w : List ℕ) → zeroFor c w ≡ false → goodCall (written (begun end terms (sessionVector c w))) ≡ true
-  begun-good end w z = go (eqb end sendingEnd)
+  begun-good : (end : ℕ) (w : List ℕ) → NoneHolds (zeroRefusals (eqb end sendingEnd) c w) → goodCall (written (begun end terms (sessionVector c w))) ≡ true
+  unfolding zeroRefusals
+  begun-good end w = go (eqb end sendingEnd)
     where
-      go : (t : Bool) → goodCall (written (pick t (sending terms 0 (sessionVector c w)) (receiving terms 0 (told (sessionVector c w))))) ≡ true
-      go true = good-sender terms 0 key (slots-some c ranged) (sessionVector c w) (session-right sendingEnd c w z)
-      go false = good-receiver terms 0 key (slots-some c ranged) (told (sessionVector c w)) (session-right receivingEnd c w z)
+      go : (t : Bool) → NoneHolds (pick t ((zeroFor c w, ZeroVector) ∷ []) [])
+          → goodCall (written (pick t (sending terms 0 (sessionVector c w)) (receiving terms 0 (told (sessionVector c w))))) ≡ true
+      go true n = good-sender terms 0 key (slots-some c ranged) (sessionVector c w) (sent-right c w (n .0))
+      go false n = good-receiver terms 0 key (slots-some c ranged) (told (sessionVector c w)) (heard-right c w)
 
 module _ (call : Call) (good : goodCall call ≡ true) (c i : ℕ) (b : List ℕ) where
   pub join-good : goodCall (joinOf call c i b .1) ≡ true
@@ -74,13 +80,12 @@ module _ (call : Call) (good : goodCall call ≡ true) (c i : ℕ) (b : List ℕ
 
   module _ (w : List ℕ) where
     begun-kept : (end : ℕ) → goodCall (begunOf end call c i w b .1) ≡ true
-    unfolding openRefusals vectorRefusals
+    unfolding begunRefusals vectorRefusals
     begun-kept end =
-        kept (λ d. d) call (openRefusals (standing call) c i w b) (Done, written (begun end (termsOf c (keyFor b c i)) (sessionVector c w))) good
-        (λ n.
-        begun-good (isBad (standing call)) (stands (standing call)) c i b
-        (none-left (keyRefusals true (isBad (standing call)) (stands (standing call)) c i b) ((zeroFor c w, ZeroVector) ∷ []) (n .1)) end w
-        (none-right (keyRefusals true (isBad (standing call)) (stands (standing call)) c i b) ((zeroFor c w, ZeroVector) ∷ []) (n .1) .0))
+        let asked = keyRefusals true (isBad (standing call)) (stands (standing call)) c i b in
+        let zeros = zeroRefusals (eqb end sendingEnd) c w in
+        kept (λ d. d) call (begunRefusals end (standing call) c i w b) (Done, written (begun end (termsOf c (keyFor b c i)) (sessionVector c w))) good
+        (λ n. begun-good (isBad (standing call)) (stands (standing call)) c i b (none-left asked zeros (n .1)) end w (none-right asked zeros (n .1)))
 
     pub open-good : goodCall (openOf call c i w b .1) ≡ true
     unfolding openOf

@@ -13,8 +13,8 @@ use Rattle.openings.specs.Ladder.{sessionVector, openingKeyOf, vectorKeyOf}
 use Rattle.openings.proofs.BegunLaws.{Alike, both-bad, the-same, key-begun-refused, key-begun, vector-begun-refused, vector-begun}
 use Rattle.voice.specs.declared.call.Terms.{Terms}
 use Rattle.voice.specs.declared.call.Call.{Call}
-use Rattle.voice.specs.Call.{closedEnd, goodCall, untold, receiving, standing, termsOf, written, isBad, stands}
-use Rattle.voice.specs.Opening.{superframeSlots, joinRefusals, openRefusals, begun, begunOf, joined, joinOf}
+use Rattle.voice.specs.Call.{closedEnd, sendingEnd, goodCall, untold, receiving, standing, termsOf, written, isBad, stands}
+use Rattle.voice.specs.Opening.{superframeSlots, joinRefusals, begunRefusals, begun, begunOf, joined, joinOf}
 use Rattle.voice.proofs.CallLaws.{by-stands, is-bad}
 
 -- the code and the definition refuse alike
@@ -46,11 +46,11 @@ module _ (call : Call) (good : Bool) (g : good ≡ goodCall call) (c i : ℕ) (b
     unfolding joinOf joinRefusals
     join-done = key-begun call (λ k. written (joined (termsOf c k))) true (not good) busy _ _ (call-alike call good g) c i b a key e
 
-  module _ (w : List ℕ) (a : Answer) (key : List ℕ) (e : (a, key) ≡ vectorKeyOf true (not good) busy c i w b) (end : ℕ) where
+  module _ (w : List ℕ) (end : ℕ) (a : Answer) (key : List ℕ) (e : (a, key) ≡ vectorKeyOf (eqb end sendingEnd) true (not good) busy c i w b) where
     pub begun-refused : isDone a ≡ false → (a, call) ≡ begunOf end call c i w b
-    unfolding openRefusals
-    begun-refused = vector-begun-refused call (λ k. written (begun end (termsOf c k) (sessionVector c w))) true (not good) busy _ _ (call-alike call good g) c i b w a key e
+    unfolding begunRefusals
+    begun-refused = vector-begun-refused call (λ k. written (begun end (termsOf c k) (sessionVector c w))) true (not good) busy _ _ (call-alike call good g) c i b w (eqb end sendingEnd) a key e
 
     pub begun-done : isDone a ≡ true → (Done, written (begun end (termsOf c key) (sessionVector c w))) ≡ begunOf end call c i w b
-    unfolding openRefusals
-    begun-done = vector-begun call (λ k. written (begun end (termsOf c k) (sessionVector c w))) true (not good) busy _ _ (call-alike call good g) c i b w a key e
+    unfolding begunRefusals
+    begun-done = vector-begun call (λ k. written (begun end (termsOf c k) (sessionVector c w))) true (not good) busy _ _ (call-alike call good g) c i b w (eqb end sendingEnd) a key e

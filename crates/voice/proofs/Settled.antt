@@ -11,7 +11,7 @@ use Rattle.answers.proofs.OutcomeLaws.{Refusal, keeps, one-outcome}
 use Rattle.voice.specs.declared.call.Call.{Call}
 use Rattle.openings.specs.Ladder.{sessionVector, keyFor}
 use Rattle.voice.specs.Call.{sendingEnd, receivingEnd, closed, standing, termsOf, written, knows, endRefusals, endOf}
-use Rattle.voice.specs.Opening.{joinRefusals, openRefusals, begun, begunOf, openOf, startOf, joined, joinOf}
+use Rattle.voice.specs.Opening.{joinRefusals, begunRefusals, begun, begunOf, openOf, startOf, joined, joinOf}
 use Rattle.voice.specs.Slot.{slotOn, lostRefusals, lostOf, voiceRefusals, streamOf, voiceAfter, voiceBy, voiceOf, voiceByOctets, sessionStreamOf}
 use Rattle.voice.specs.Vector.{withVector, announceRefusals, announceOf, following, nextRefusals, nextVectorOf}
 use Rattle.voice.proofs.SlotLaws.{taken-under-two, by-lent}
@@ -97,7 +97,7 @@ module _ (c : Call) where
 
     begun-keeps : (end : ℕ) (w : List ℕ) → Refusal (begunOf end c n i w book .0) → begunOf end c n i w book .1 ≡ c
     begun-keeps end w =
-        keeps c (openRefusals (standing c) n i w book) (Done, written (begun end (termsOf n (keyFor book n i)) (sessionVector n w))) (omega arith)
+        keeps c (begunRefusals end (standing c) n i w book) (Done, written (begun end (termsOf n (keyFor book n i)) (sessionVector n w))) (omega arith)
 
     pub open-keeps : (w : List ℕ) → Refusal (openOf c n i w book .0) → openOf c n i w book .1 ≡ c
     unfolding openOf

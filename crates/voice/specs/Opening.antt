@@ -20,9 +20,9 @@ superframeSlots = 4
 unfoldable pub joinRefusals : Standing → ℕ → ℕ → List ℕ → Refusals
 joinRefusals s c i b = keyRefusals true (isBad s) (stands s) c i b
 
--- the same, with the vector's 2 first and its 8 last
-unfoldable pub openRefusals : Standing → ℕ → ℕ → List ℕ → List ℕ → Refusals
-openRefusals s c i w b = vectorRefusals true (isBad s) (stands s) c i w b
+-- the same of a call at one of its ends, with the vector's 2 first, and its 8 last for a sender
+unfoldable pub begunRefusals : ℕ → Standing → ℕ → ℕ → List ℕ → List ℕ → Refusals
+begunRefusals end s c i w b = vectorRefusals (eqb end sendingEnd) true (isBad s) (stands s) c i w b
 
 -- a call at one of its ends, at position 0 of its first session, vector told
 abbrev pub begun : ℕ → Terms → List ℕ → Standing
@@ -30,12 +30,11 @@ begun end t v = pick (eqb end sendingEnd) (sending t 0 v) (receiving t 0 (told v
 
 abbrev pub begunOf : ℕ → Call → ℕ → ℕ → List ℕ → List ℕ → Answer × Call
 begunOf end call c i w b =
-    outcome call (openRefusals (standing call) c i w b) (written (begun end (termsOf c (keyFor b c i)) (sessionVector c w)))
+    outcome call (begunRefusals end (standing call) c i w b) (written (begun end (termsOf c (keyFor b c i)) (sessionVector c w)))
 
 unfoldable pub openOf : Call → ℕ → ℕ → List ℕ → List ℕ → Answer × Call
 openOf = begunOf receivingEnd
 
--- a sender takes what open takes
 unfoldable pub startOf : Call → ℕ → ℕ → List ℕ → List ℕ → Answer × Call
 startOf = begunOf sendingEnd
 

@@ -4,9 +4,8 @@ use mathlib.Core.Bool.{Bool, false, _&&_, not}
 use Prim.Native.Nat.{ℕ}
 use lib.Dec.{eqb}
 use lib.ListN.{length}
-use Rattle.octets.specs.Lists.{allZero}
 use Rattle.answers.specs.declared.Answer.{Answer}
-use Rattle.answers.specs.declared.Answer.the-variants.{WrongLength, Bad, ZeroVector, NotNow}
+use Rattle.answers.specs.declared.Answer.the-variants.{WrongLength, Bad, NotNow}
 use Rattle.answers.specs.Outcomes.{Refusals, outcome}
 use Rattle.generator.specs.Generator.{nextVector}
 use Rattle.voice.specs.declared.call.Call.{Call}
@@ -29,10 +28,9 @@ withVector w bad = bad
 withVector w (sending t p v) = sending t p v
 withVector w (receiving t p k) = receiving t p (told w)
 
--- 2, 4, 9, 8
+-- 2, 4, 9
 unfoldable pub announceRefusals : Standing → List ℕ → Refusals
-announceRefusals s w =
-    (not (eqb (length w) vectorOctets), WrongLength) ∷ (isBad s, Bad) ∷ (not (awaits s), NotNow) ∷ (allZero w, ZeroVector) ∷ []
+announceRefusals s w = (not (eqb (length w) vectorOctets), WrongLength) ∷ (isBad s, Bad) ∷ (not (awaits s), NotNow) ∷ []
 
 unfoldable pub announceOf : Call → List ℕ → Answer × Call
 announceOf c w = outcome c (announceRefusals (standing c) w) (written (withVector w (standing c)))

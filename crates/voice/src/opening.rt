@@ -37,6 +37,7 @@ fn begin(end: u8, call: Call, cipher: u8, id: u8, vector: &[u8], book: &[u8]) ->
     ensures { λ r. ⌜ (r .answer, r .call) ≡ begunOf end call cipher id (now (vector .entry)) (now (book .entry)) ⌝ }
 {
     let ready = opening_key_with(
+        end == SENDING,
         true,
         !good_call(call),
         call.end != CLOSED,

@@ -13,7 +13,6 @@ use crate::call::good_call;
 use crate::call::receiver;
 use crate::call::refused;
 use answers::Answer;
-use octets::all_zero;
 use octets::copy;
 use sizes::cipher::Scramble;
 use sizes::cipher::VECTOR_OCTETS;
@@ -47,9 +46,6 @@ pub fn announce(call: Call, vector: &[u8]) -> Stepped
     }
     if !is_awaiting(call) {
         return refused(Answer::NotNow, call);
-    }
-    if all_zero(vector) {
-        return refused(Answer::ZeroVector, call);
     }
     let terms = call.terms;
     let mut own = [0; VECTOR_OCTETS];

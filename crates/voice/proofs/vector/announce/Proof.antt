@@ -1,5 +1,5 @@
 -- `voice::vector::announce` meets its contract.
-use mathlib.Core.Path.{sym, ap, _∙_}
+use mathlib.Core.Path.{ap}
 use mathlib.Core.Bool.{not}
 use borrow.Author.Tests.{eq-eqb, ne-eqb}
 use denote.Ref.{now}
@@ -24,12 +24,9 @@ announce-spec =
     (λ c κs. holds (c .before .good-call .ensures) (c .if2 .left))
     (λ c κs. search needs)
     (λ c. refusal-is (c .refused3 .ensures) (announce-refused _ _ 2 (ap not (eq-eqb _ _ (c .before .before .before .before .before .if1 .left)), (not-bad _ (holds (c .before .before .before .before .good-call .ensures) (c .before .before .before .if2 .left)), ap not (fails (c .before .before .is-awaiting .ensures) (c .before .if3 .taken))))))
-    (λ c κs. search needs)
-    (λ c κs. search needs)
-    (λ c. refusal-is (c .refused4 .ensures) (announce-refused _ _ 3 (ap not (eq-eqb _ _ (c .before .before .before .before .before .before .before .if1 .left)), (not-bad _ (holds (c .before .before .before .before .before .before .good-call .ensures) (c .before .before .before .before .before .if2 .left)), (ap not (holds (c .before .before .before .before .is-awaiting .ensures) (c .before .before .before .if3 .left)), sym (c .before .before .all-zero .ensures) ∙ c .before .if4 .taken)))))
     (λ c. search needs)
     (λ c κs. search needs)
     (λ c κs. search needs)
-    (λ c. let good = holds (c .before .before .before .before .before .before .before .before .before .before .good-call .ensures) (c .before .before .before .before .before .before .before .before .before .if2 .left) in
-    let waits = holds (c .before .before .before .before .before .before .before .before .is-awaiting .ensures) (c .before .before .before .before .before .before .before .if3 .left) in
-    rw (c .receiver .ensures, c .before .before .copy .ensures, ← told-is _ good waits (now (c .before .before .before .before .before .before .before .before .before .before .before .before .before .args .vector))) (announce-done _ _ (ap not (eq-eqb _ _ (c .before .before .before .before .before .before .before .before .before .before .before .if1 .left)), (not-bad _ good, (ap not waits, (sym (c .before .before .before .before .before .before .all-zero .ensures) ∙ c .before .before .before .before .before .if4 .left, tt)))))))
+    (λ c. let good = holds (c .before .before .before .before .before .before .before .before .good-call .ensures) (c .before .before .before .before .before .before .before .if2 .left) in
+    let waits = holds (c .before .before .before .before .before .before .is-awaiting .ensures) (c .before .before .before .before .before .if3 .left) in
+    rw (c .receiver .ensures, c .before .before .copy .ensures, ← told-is _ good waits (now (c .before .before .before .before .before .before .before .before .before .before .before .args .vector))) (announce-done _ _ (ap not (eq-eqb _ _ (c .before .before .before .before .before .before .before .before .before .if1 .left)), (not-bad _ good, (ap not waits, tt))))))
