@@ -120,11 +120,35 @@ module _ {S : Type 0} where
   none-settles [] before last n = refl
   none-settles (r ∷ rs) before last n = rw (n .0) (none-settles rs before last (n .1))
 
-  -- of two lists, the first decides where one of its tests holds, and else the second
+  -- two lists one after the other: the first decides where one of its tests holds, and else the second
+  pub in-a-row : (rs rest : Refusals) (before : S) (last : Answer × S) → settled before (rs ++ rest) last ≡ settled before rs (settled before rest last)
+  in-a-row [] rest before last = refl
+  in-a-row (r ∷ rs) rest before last = ap (pick (r .0) (r .1, before)) (in-a-row rs rest before last)
+
   pub none-first : (rs rest : Refusals) (before : S) (last : Answer × S) → NoneHolds rs
       → settled before (rs ++ rest) last ≡ settled before rest last
-  none-first [] rest before last n = refl
-  none-first (r ∷ rs) rest before last n = rw (n .0) (none-first rs rest before last (n .1))
+  none-first rs rest before last n = in-a-row rs rest before last ∙ none-settles rs before (settled before rest last) n
+
+  -- what holds of one last outcome, and of the whole with another, holds of the whole with the one
+  pub or-last : (P : Answer × S → Type 0) (before : S) (rs : Refusals) (one two : Answer × S) → P one → P (settled before rs two) → P (settled before rs one)
+  or-last P before [] one two p q = p
+  or-last P before (r ∷ rs) one two p q = go (r .0) (or-last P before rs one two p) q
+    where
+      go : (t : Bool) → (P (settled before rs two) → P (settled before rs one)) → P (pick t (r .1, before) (settled before rs two))
+          → P (pick t (r .1, before) (settled before rs one))
+      go true h q = q
+      go false h q = h q
+
+  -- a refusal is the same whatever comes last
+  pub refused-alike : (before : S) (rs : Refusals) (one two : Answer × S) → numberOf (two .0) < 2 → Refusal (settled before rs two .0)
+      → settled before rs one ≡ settled before rs two
+  refused-alike before [] one two l h = absurd (omega arith)
+  refused-alike before (r ∷ rs) one two l h = go (r .0) (refused-alike before rs one two l) h
+    where
+      go : (t : Bool) → (Refusal (settled before rs two .0) → settled before rs one ≡ settled before rs two)
+          → Refusal (pick t (r .1, before) (settled before rs two) .0) → pick t (r .1, before) (settled before rs one) ≡ pick t (r .1, before) (settled before rs two)
+      go true h q = refl
+      go false h q = h q
 
   -- one refusal more at the end: it is given where its test holds and all else would be done
   pub asked-last : (rs : Refusals) (t : Bool) (a : Answer) (before after : S) → neverDone rs ≡ true
