@@ -5,7 +5,9 @@ model.py first               prints crates/vectors/data/nxdn-first-messages.tsv,
 model.py messages            prints crates/vectors/data/data-messages.tsv
 model.py slots               prints crates/vectors/data/voice-slots.tsv
 model.py slotcheck < FILE    prints what slotcheck should print
-Each first checks the model against section 7.2.2 of NXDN TS 1-D ("001")."""
+Each first checks the model against section 7.2.2 of NXDN TS 1-D ("001").
+A voice call has a rate: a word has 49 speech bits at half rate and 72 at full rate, and each other size follows from that. A row of slots gives the rate, and where it
+gave a position it gives how many slots of the call come before, so that it may stand in a later session. slotcheck's calls stay at half rate."""
 import functools
 import re
 import subprocess
@@ -13,6 +15,14 @@ import sys
 
 KEY_OCTETS = {1: 2, 2: 8, 3: 32}
 SLOTS = {1: 4, 2: 8, 3: 8}
+HALF, FULL = 0, 1
+WIDTH = {HALF: 49, FULL: 72}  # the speech bits of a word (001, 5.4.2 and 5.4.4.1)
+WORDS = 4
+
+
+def word_octets(rate):
+    return (WIDTH[rate] + 7) // 8
+
 
 # ---- keystreams
 
@@ -93,12 +103,30 @@ def messages():
                 row(cipher, kind, count, text, turned(cipher, count, text))
 
 
+# ---- a voice slot
+
+
+def turned_frame(rate, cipher, key, vector, position, mask, frame):
+    """The words of the mask turned by the bits of the session's slot, which stand for all words, in the mask or not."""
+    width, octets, slot = WIDTH[rate], word_octets(rate), WORDS * WIDTH[rate]
+    session = 8 * slot
+    bits = int.from_bytes(stream(cipher, key, vector, session // 8), "big")
+    out = b""
+    for word in range(WORDS):
+        spoken = int.from_bytes(frame[octets * word:octets * (word + 1)], "big")
+        if mask >> word & 1:
+            after = session - (slot * position + width * (word + 1))
+            spoken ^= (bits >> after & 2**width - 1) << 8 * octets - width
+        out += spoken.to_bytes(octets, "big")
+    return out
+
+
 # ---- the receiver
 
 NUMBER, HEX = "(0|[1-9][0-9]{0,2})", "((?:[0-9A-F]{2})%s)"
 RECORD = re.compile(
     "K\t%s\t%s\t%s|O\t%s\t%s\t%s|J\t%s\t%s|V\t%s\t%s|I\t%s|L|E"
-    % (NUMBER, NUMBER, HEX % "{1,32}", NUMBER, NUMBER, HEX % "{8}", NUMBER, NUMBER, NUMBER, HEX % "{28}", HEX % "{8}"))
+    % (NUMBER, NUMBER, HEX % "{1,32}", NUMBER, NUMBER, HEX % "{8}", NUMBER, NUMBER, NUMBER, HEX % f"{{{WORDS * word_octets(HALF)}}}", HEX % "{8}"))
 
 
 def read(line):
@@ -164,14 +192,7 @@ class Receiver:
         self.slot()
         if vector is None:
             return 1, None
-        bits = int.from_bytes(stream(cipher, key, vector, 196), "big")
-        out = b""
-        for word in range(4):
-            spoken = int.from_bytes(frame[7 * word:7 * word + 7], "big")
-            if mask >> word & 1:
-                spoken ^= (bits >> 1568 - 49 - (196 * position + 49 * word) & 2**49 - 1) << 7
-            out += spoken.to_bytes(7, "big")
-        return 0, out
+        return 0, turned_frame(HALF, cipher, key, vector, position, mask, frame)
 
     def announce(self, vector):
         if not self.call or self.call[0] == 1 or self.call[2] != 0 or self.call[3] is not None:
@@ -207,27 +228,48 @@ class Receiver:
 
 # ---- voice slots
 
-# cipher type, key, position, mask and a frame that came, any octets
+# cipher type, rate, key, slots of the call before it, mask and a frame, any octets
 FRAMES = [
-    (1, "5A3C", 2, 15, "A3E46432FF55F87827B12299E296E86E70D3C2A3864C3D50E8F049CE"),
-    (1, "5A3C", 3, 10, "9E006095AAC607C8B0E24C9AF4894DC4CE73FF23C4310C3982F5FE96"),
-    (2, KEYS[2], 1, 15, "1D1676873F7FE5974381DB2340834680F5049B34E19671BF0155964F"),
-    (2, KEYS[2], 3, 10, "2B18CADAAFD04F196799B30C84065F049B837D0E8C28CB500727FC37"),
-    (2, KEYS[2], 7, 14, "ACCDC65C47B6DAF73D136F9CD4809CD8894415AB99DB0809BD5DD760"),
-    (3, KEYS[3], 1, 15, "55AF56D922BC7FAF4AE1EFD028334F46B188B218C37BCB2CBDFB3CF7"),
-    (3, KEYS[3], 5, 5, "748DB6313C5AE63AC1883AFEE5D2BFF653903D46577817C081279AAE"),
-    (3, KEYS[3], 7, 8, "53211E950C8C4B90FA2A8A2581D626544FC52A56411CE18D3E305AA1"),
+    (1, HALF, "5A3C", 2, 15, "A3E46432FF55F87827B12299E296E86E70D3C2A3864C3D50E8F049CE"),
+    (1, HALF, "5A3C", 3, 10, "9E006095AAC607C8B0E24C9AF4894DC4CE73FF23C4310C3982F5FE96"),
+    (1, HALF, "5A3C", 6, 15, "FF382EB1D01AA4458A07E26103E1FC6630914D3BB086BDD47B2AC93C"),
+    (1, FULL, "5A3C", 0, 15, "9C07D50B2A057C32191834DF504E708A49FFC5937BA38340209660B12BA1D215AE6B15EB"),
+    (1, FULL, "5A3C", 2, 6, "366E61B4E5966C77276E6DC192DBBACD36EF7B1F48CFD7E7AB9BB894594698DD44BEDFA6"),
+    (1, FULL, "5A3C", 3, 8, "68A0A9DC7A4929E86C0AE51BE84CFA9A63E180CC9BFD598A1FF5FEA46E2B75F3932DFB6A"),
+    (1, FULL, "5A3C", 4, 15, "3626145EB72E6C9A6441661039A1C8AD2CF43A4B61229F7C06511B1C0E383BBBC292B88B"),
+    (1, FULL, "5A3C", 9, 15, "10083CD4F389CA05129E1225A0866CAE2B7B6EE9D8705E96913FB3CE51533FFAEEE61BAD"),
+    (2, HALF, KEYS[2], 1, 15, "1D1676873F7FE5974381DB2340834680F5049B34E19671BF0155964F"),
+    (2, HALF, KEYS[2], 3, 10, "2B18CADAAFD04F196799B30C84065F049B837D0E8C28CB500727FC37"),
+    (2, HALF, KEYS[2], 7, 14, "ACCDC65C47B6DAF73D136F9CD4809CD8894415AB99DB0809BD5DD760"),
+    (2, HALF, KEYS[2], 8, 15, "830C64E1CE3A922FB50633A5EBB5E0A9FE69D7B2F13B117FC68A6160"),
+    (2, FULL, KEYS[2], 0, 15, "09B23A35CE2E26690CD9804A7ACBCC8A1721BA2A3D16A79930FB4BF491ABBF88A04175C6"),
+    (2, FULL, KEYS[2], 4, 10, "BBC96629D6D5F6379D3121E4230EB25E9327DB21D17DEA8D170F477F9BD3DD0DEF39E1C8"),
+    (2, FULL, KEYS[2], 7, 8, "B89533B4651BE70D33BE95A108FEB7A2D3AE63FCC6DC7A8537E46E169FA22AD56A1C4286"),
+    (2, FULL, KEYS[2], 10, 15, "4A789ACF873C4867D9F7605A5CE0A4C381E86280D5EE37E9DA00008B96AAB41F5699B914"),
+    (2, FULL, KEYS[2], 17, 15, "7EF1B5FF6DAB015B958E6ED8509AA02819FC52A9485D9A06D752DCAB024931C6B903647B"),
+    (3, HALF, KEYS[3], 1, 15, "55AF56D922BC7FAF4AE1EFD028334F46B188B218C37BCB2CBDFB3CF7"),
+    (3, HALF, KEYS[3], 5, 5, "748DB6313C5AE63AC1883AFEE5D2BFF653903D46577817C081279AAE"),
+    (3, HALF, KEYS[3], 7, 8, "53211E950C8C4B90FA2A8A2581D626544FC52A56411CE18D3E305AA1"),
+    (3, HALF, KEYS[3], 12, 7, "8E52E0C43F5BA42D69242340371198E441CED460EE3BB7676C4CF1B9"),
+    (3, FULL, KEYS[3], 0, 1, "0EFF3B31A0FC444D79D52E8CAD9FD4FD6DE2AE94166FBEA88AEF81F74B3E647372470D90"),
+    (3, FULL, KEYS[3], 0, 15, "8B68F21CD90566A1E7CDE3D6B6DB9A8BA729BE29D5C14B33CA3486665B328D1AFCBC3913"),
+    (3, FULL, KEYS[3], 5, 9, "0741461CBCCAEE8C05654414EEFD98D9F7EEBDFB3F4FBF94D925E1C4C82757E77B9DD031"),
+    (3, FULL, KEYS[3], 7, 15, "8A4943BAFBB4F2844A61A63A6EF6E76F54C9F56581F2190235C84FAE1568DCFF929D00F7"),
+    (3, FULL, KEYS[3], 10, 15, "434C197180FB8B6EB6022EF3B90BEE4EEC588561A023C952DAD452AFCCA3AD0DF16C9318"),
+    (3, FULL, KEYS[3], 17, 15, "84CA3FE535B821A993E7E918AA53A5C75FDCBF277A9674EF444FE8EE30EF6382FC4D95DD"),
 ]
 
 
 def slots():
-    print("# Voice slots past the first: cipher type, key, vector, position, mask (hex), frame that came, opened frame.")
+    print("# Voice slots at both rates, in a first session and past it: cipher type, rate, key, vector of the call's first session, slots of the call before it, mask (hex), frame, turned frame.")
     print("# Printed by bench/model.py slots: scramble and the generator in Python, DES and AES by OpenSSL.")
-    for cipher, key, position, mask, frame in FRAMES:
-        receiver = Receiver()
-        receiver.call = [cipher, bytes.fromhex(key), position, bytes.fromhex(SEED[cipher])]
-        _, opened = receiver.voice(mask, bytes.fromhex(frame))
-        print(cipher, key, SEED[cipher], position, f"{mask:02X}", frame, opened.hex().upper(), sep="\t")
+    for cipher, rate, key, before, mask, frame in FRAMES:
+        sessions, position = divmod(before, SLOTS[cipher])
+        vector = bytes.fromhex(SEED[cipher])
+        for _ in range(sessions):
+            vector = following(vector)  # scramble's zeros stay
+        out = turned_frame(rate, cipher, bytes.fromhex(key), vector, position, mask, bytes.fromhex(frame))
+        print(cipher, rate, key, SEED[cipher], before, f"{mask:02X}", frame, out.hex().upper(), sep="\t")
 
 
 # ---- slotcheck

@@ -17,12 +17,13 @@ use Rattle.voice.specs.declared.call.Terms.{Terms}
 use Rattle.voice.specs.declared.call.Call.{Call}
 use Rattle.voice.specs.Call.{sendingEnd, receivingEnd, goodCall, Known, told, knownBy, untold, Standing, closed, bad, sending, receiving, standing, termsOf, written, isBad, stands, endRefusals, endOf}
 use Rattle.voice.specs.Opening.{joinRefusals, begunRefusals, begun, begunOf, openOf, startOf, joined, joinOf}
+use Rattle.sizes.specs.Frame.{isRate}
 use Rattle.voice.specs.Slot.{goingOn, slotOn, lostRefusals, lostOf, voiceRefusals, streamOf, voiceAfter, voiceBy}
 use Rattle.voice.specs.Vector.{withVector, announceRefusals, announceOf, nextVectorOf}
 use Rattle.voice.proofs.CallLaws.{by-stands, stands-bad}
 use Rattle.demands.specs.Device.{Device, CallOperation, Open, Start, Join, Voice, Lost, End, Announce, NextVector, callStep, packetStep, Operation, OfBook, OfCall, OfPacket, step, deviceAfter, history}
 use Rattle.demands.specs.Demand1.{OpensCall, by-open, by-start, by-join, renewsCall}
-use Rattle.demands.proofs.LoadedLaws.{Holder, KeepsKey, begins, Left, Held, always-loaded, as-it-was, renewing, keeping, of-number}
+use Rattle.demands.proofs.LoadedLaws.{Holder, SameKey, KeepsKey, begins, Left, Held, always-loaded, as-it-was, renewing, keeping, of-number}
 use Rattle.openings.proofs.ReadyLaws.{none-ready, none-ready-vector}
 
 -- ---- a call
@@ -35,6 +36,7 @@ theCalls =
       opens = OpensCall;
       renews = renewsCall;
       stands = λ c. c .end ≡ 0 → ⊥;
+      fixed = λ c. c .terms .rate;
       cipher = λ c. c .terms .cipher;
       key = λ c. c .terms .key;
     }
@@ -57,13 +59,12 @@ module _ (f : Standing → Standing) (of-closed : f closed ≡ closed) (of-bad :
   standing-kept c st = go (goodCall c) refl
     where
       under : {s : Standing} → (c .end ≡ 0 → ⊥) → standing c ≡ s → Under (c .terms) (f s)
-          → (c .end ≡ 0 → ⊥) × (c .terms .cipher ≡ written (f (standing c)) .terms .cipher) × (c .terms .key ≡ written (f (standing c)) .terms .key)
+          → SameKey theCalls c (written (f (standing c)))
       under n s u =
           let q : c .terms ≡ written (f (standing c)) .terms = rw s u in
-          (n, ap (λ (t : Terms). t .cipher) q, ap (λ (t : Terms). t .key) q)
+          (n, ap (λ (t : Terms). t .rate) q, ap (λ (t : Terms). t .cipher) q, ap (λ (t : Terms). t .key) q)
 
-      go : (t : Bool) → goodCall c ≡ t
-          → (c .end ≡ 0 → ⊥) × (c .terms .cipher ≡ written (f (standing c)) .terms .cipher) × (c .terms .key ≡ written (f (standing c)) .terms .key)
+      go : (t : Bool) → goodCall c ≡ t → SameKey theCalls c (written (f (standing c)))
       go true g =
           by-stands c g (λ o e s. absurd (st (ended (standing c) s of-closed refl)))
           (λ o e s. under (λ z. omega arith) s (of-sender (c .terms) (c .position) (c .vector)))
@@ -81,26 +82,26 @@ told-kept : (w : List ℕ) (c : Call) → KeepsKey theCalls c (written (withVect
 told-kept w = standing-kept (withVector w) refl refl (λ t p v. refl) (λ t p k. refl)
 
 -- open and start
-begun-left : (n : ℕ) (b : List ℕ) (c : Call) (end m i : ℕ) (w : List ℕ) (o : CallOperation) → OpensCall n m i (OfCall n o)
-    → Left theCalls n b (OfCall n o) c (begunOf end c m i w b .0) (begunOf end c m i w b .1)
+begun-left : (n : ℕ) (b : List ℕ) (c : Call) (end m i r : ℕ) (w : List ℕ) (o : CallOperation) → OpensCall n r m i (OfCall n o)
+    → Left theCalls n b (OfCall n o) c (begunOf end c m i r w b .0) (begunOf end c m i r w b .1)
 unfolding begunRefusals
-begun-left n b c end m i w o p =
-    let u : Under (termsOf m (keyFor b m i)) (begun end (termsOf m (keyFor b m i)) (sessionVector m w)) =
-    picked (eqb end sendingEnd) (sending (termsOf m (keyFor b m i)) 0 (sessionVector m w)) (receiving (termsOf m (keyFor b m i)) 0 (told (sessionVector m w))) refl refl in
-    renewing theCalls n b (OfCall n o) c (written (begun end (termsOf m (keyFor b m i)) (sessionVector m w))) (begunRefusals end (standing c) m i w b)
-    (vector-never true (isBad (standing c)) (stands (standing c)) m i b w (eqb end sendingEnd))
+begun-left n b c end m i r w o p =
+    let u : Under (termsOf m (keyFor b m i) r) (begun end (termsOf m (keyFor b m i) r) (sessionVector m w)) =
+    picked (eqb end sendingEnd) (sending (termsOf m (keyFor b m i) r) 0 (sessionVector m w)) (receiving (termsOf m (keyFor b m i) r) 0 (told (sessionVector m w))) refl refl in
+    renewing theCalls n b (OfCall n o) c (written (begun end (termsOf m (keyFor b m i) r) (sessionVector m w))) (begunRefusals end (standing c) m i r w b)
+    (vector-never (isRate r) (isBad (standing c)) (stands (standing c)) m i b w (eqb end sendingEnd))
     (λ h s.
-    begins m i (keyFor b m i) refl p (none-ready-vector (eqb end sendingEnd) true (isBad (standing c)) (stands (standing c)) m i b w h) (ap (λ (t : Terms). t .cipher) u)
+    begins r m i (keyFor b m i) refl p (none-ready-vector (eqb end sendingEnd) (isRate r) (isBad (standing c)) (stands (standing c)) m i b w h) (ap (λ (t : Terms). t .rate) u) (ap (λ (t : Terms). t .cipher) u)
     (ap (λ (t : Terms). t .key) u))
 
 call-left : (n : ℕ) (b : List ℕ) (c : Call) (o : CallOperation) → Left theCalls n b (OfCall n o) c (callStep b c o .0) (callStep b c o .1 .0)
 unfolding callStep openOf startOf joinOf voiceBy lostOf endOf announceOf joinRefusals endRefusals
-call-left n b c (Open m i w) = begun-left n b c receivingEnd m i w (Open m i w) (by-open w)
-call-left n b c (Start m i w) = begun-left n b c sendingEnd m i w (Start m i w) (by-start w)
-call-left n b c (Join m i) =
-    renewing theCalls n b (OfCall n (Join m i)) c (written (joined (termsOf m (keyFor b m i)))) (joinRefusals (standing c) m i b)
-    (key-never true (isBad (standing c)) (stands (standing c)) m i b)
-    (λ h s. begins m i (keyFor b m i) refl by-join (none-ready true (isBad (standing c)) (stands (standing c)) m i b h) refl refl)
+call-left n b c (Open m i r w) = begun-left n b c receivingEnd m i r w (Open m i r w) (by-open w)
+call-left n b c (Start m i r w) = begun-left n b c sendingEnd m i r w (Start m i r w) (by-start w)
+call-left n b c (Join m i r) =
+    renewing theCalls n b (OfCall n (Join m i r)) c (written (joined (termsOf m (keyFor b m i) r))) (joinRefusals (standing c) m i r b)
+    (key-never (isRate r) (isBad (standing c)) (stands (standing c)) m i b)
+    (λ h s. begins r m i (keyFor b m i) refl by-join (none-ready (isRate r) (isBad (standing c)) (stands (standing c)) m i b h) refl refl refl)
 call-left n b c (Voice mask frame) =
     keeping theCalls n b (OfCall n (Voice mask frame)) (λ (r : Call × List ℕ). r .0) (c, frame) (voiceRefusals (standing c) mask frame)
     (voiceAfter streamOf mask frame (standing c)) (and-false-r (eqb n n)) (slot-kept c)

@@ -54,9 +54,9 @@ none-lent {S} s = record { number = s .number; answer = s .answer; none-holds = 
 pub call-settles : (b : List ℕ) (c : Call) (o : CallOperation) → Settles (c, lentCall o) (callRefusals b c o) (callUnrefused c o) (callStep b c o)
 unfolding callStep openOf startOf joinOf voiceBy lostOf endOf announceOf nextVectorOf begunRefusals joinRefusals vectorRefusals ladder.keyRefusals ladder.zeroRefusals
     voiceRefusals lostRefusals endRefusals announceRefusals nextRefusals
-call-settles b c (Open n i w) = none-lent (settles c (begunRefusals receivingEnd (standing c) n i w b) (Done, written (begun receivingEnd (termsOf n (keyFor b n i)) (sessionVector n w))) refl (omega arith))
-call-settles b c (Start n i w) = none-lent (settles c (begunRefusals sendingEnd (standing c) n i w b) (Done, written (begun sendingEnd (termsOf n (keyFor b n i)) (sessionVector n w))) refl (omega arith))
-call-settles b c (Join n i) = none-lent (settles c (joinRefusals (standing c) n i b) (Done, written (joined (termsOf n (keyFor b n i)))) refl (omega arith))
+call-settles b c (Open n i r w) = none-lent (settles c (begunRefusals receivingEnd (standing c) n i r w b) (Done, written (begun receivingEnd (termsOf n (keyFor b n i) r) (sessionVector n w))) refl (omega arith))
+call-settles b c (Start n i r w) = none-lent (settles c (begunRefusals sendingEnd (standing c) n i r w b) (Done, written (begun sendingEnd (termsOf n (keyFor b n i) r) (sessionVector n w))) refl (omega arith))
+call-settles b c (Join n i r) = none-lent (settles c (joinRefusals (standing c) n i r b) (Done, written (joined (termsOf n (keyFor b n i) r))) refl (omega arith))
 call-settles b c (Voice mask frame) =
     settles (c, frame) (voiceRefusals (standing c) mask frame) (voiceAfter streamOf mask frame (standing c)) refl (taken-under-two (knows (standing c)))
 call-settles b c Lost = none-lent (settles c (lostRefusals (standing c)) (Done, written (slotOn (standing c))) refl (omega arith))

@@ -20,10 +20,11 @@ use Rattle.keybook.specs.Book as rules
 use Rattle.keybook.specs.Operations as operations
 use Rattle.keybook.specs.History as book
 use Rattle.sizes.specs.Ciphers.{noVector}
+use Rattle.sizes.specs.Frame.{halfRate, isRate, width}
 use Rattle.openings.specs.Ladder.{keyRefusals, zeroFor, zeroRefusals, vectorRefusals}
 use Rattle.openings.specs.Samples.{seed, desABCD}
 use Rattle.voice.specs.declared.call.Call.{Call}
-use Rattle.voice.specs.Call.{vectorRight, closedTests, openTests, isClosed, isOpen, unknown, told, Standing, sending, receiving, standing, termsOf, noCall, written, stands, knows}
+use Rattle.voice.specs.Call.{vectorRight, closedTests, openTests, isClosed, isOpen, unknown, told, Standing, sending, receiving, standing, termsOf, noCall, written, widthIn, stands, knows}
 use Rattle.voice.specs.Opening.{begunRefusals, joinRefusals}
 use Rattle.voice.specs.Slot.{voiceOf}
 use Rattle.voice.specs.Vector.{announceRefusals}
@@ -33,7 +34,8 @@ use Rattle.demands.specs.Marked.{holding}
 use Rattle.demands.specs.Device.{Device, CallOperation, Open, Start, Join, Voice, Announce, callStep, Operation, OfBook, OfCall, OfPacket, Step, step, deviceAfter, history}
 use Rattle.demands.specs.Demand1.{Unknown, slot, NoneDone, Demand1}
 use Rattle.demands.specs.OtherDevices.{noise, noisy, filing, wiped, wiping, careless, holdingAll, ending, hastyCall, hasty, eager}
-use Rattle.demands.proofs.Samples.{silence}
+use Rattle.demands.proofs.Layouts.{rate-is}
+use Rattle.demands.proofs.Samples.{silence, silent-long}
 use Rattle.demands.proofs.ThrownOut1.{finishing, no-word}
 
 -- a device with this book, these calls and no packet
@@ -44,21 +46,21 @@ having b calls = record { book = b; calls = calls; packets = λ n. packet.noPack
 
 -- a DES receiver that joined
 abbrev listening : Call
-listening = written (receiving (termsOf 2 desABCD) 4 unknown)
+listening = written (receiving (termsOf 2 desABCD halfRate) 4 unknown)
 
-listens : standing listening ≡ receiving (termsOf 2 desABCD) 4 unknown
-unfolding standing isClosed closedTests isOpen openTests keyRight vectorRight keyAllowed desKey oddOctet allZero allBelow
+listens : standing listening ≡ receiving (termsOf 2 desABCD halfRate) 4 unknown
+unfolding standing isClosed closedTests isOpen openTests keyRight isRate vectorRight keyAllowed desKey oddOctet allZero allBelow
 listens = refl
 
 pub noisy-thrown-out : Demand1 noisy → ⊥
 unfolding step callStep
 noisy-thrown-out meets =
     let d = having [] (λ n. listening) in
-    let o = OfCall 0 (Voice 15 silence) in
+    let o = OfCall 0 (Voice 15 (silence halfRate)) in
     let e : numberOf (step d o .0) ≡ 1 =
-    ap (λ (r : Answer × (Call × List ℕ)). numberOf (r .0)) (voice-at listening 15 silence (omega arith) refl (receiving (termsOf 2 desABCD) 4 unknown) listens refl) in
-    let u : pick (eqb (numberOf (step d o .0)) 1) noise (step d o .1 .1) ≡ silence = meets .untouched d o (λ z. omega arith) in
-    let q : noise ≡ silence = rw e at u in
+    ap (λ (r : Answer × (Call × List ℕ)). numberOf (r .0)) (voice-at listening 15 (silence halfRate) (omega arith) (receiving (termsOf 2 desABCD halfRate) 4 unknown) refl listens refl) in
+    let u : pick (eqb (numberOf (step d o .0)) 1) noise (step d o .1 .1) ≡ silence halfRate = meets .untouched d o (λ z. omega arith) in
+    let q : noise ≡ silence halfRate = rw e at u in
     let r = ap (λ (xs : List ℕ). getD xs 0 0) q in
     omega arith
 
@@ -68,11 +70,11 @@ pub filing-thrown-out : Demand1 filing → ⊥
 unfolding step callStep
 filing-thrown-out meets =
     let d = having [] (λ n. listening) in
-    let o = OfCall 0 (Voice 15 silence) in
+    let o = OfCall 0 (Voice 15 (silence halfRate)) in
     let e : numberOf (step d o .0) ≡ 1 =
-    ap (λ (r : Answer × (Call × List ℕ)). numberOf (r .0)) (voice-at listening 15 silence (omega arith) refl (receiving (termsOf 2 desABCD) 4 unknown) listens refl) in
+    ap (λ (r : Answer × (Call × List ℕ)). numberOf (r .0)) (voice-at listening 15 (silence halfRate) (omega arith) (receiving (termsOf 2 desABCD halfRate) 4 unknown) refl listens refl) in
     let z : numberOf (filing d o .0) ≡ 0 = rw e in
-    meets .unopened d o (slot 0 15 silence refl refl) z
+    meets .unopened d o (slot 0 15 (silence halfRate) refl refl) z
 
 -- ---- a bad book taken, by whatever device else
 
@@ -167,24 +169,27 @@ unfolding book.step operations.beginOf operations.addOf operations.beginRefusals
     entry.lacks entry.newEntry entry.extendRefusals entry.extended allZero allBelow firstBelow replaced keyAllowed
 books = (refl, refl, refl, refl)
 
--- the calls stand
-abbrev openedAes : Standing
-openedAes = receiving (termsOf 3 keptAes) 0 (told seed)
+-- the calls, and that they stand, at any one rate
+abbrev openedAes : ℕ → Standing
+openedAes r = receiving (termsOf 3 keptAes r) 0 (told seed)
 
-abbrev startedAes : Standing
-startedAes = sending (termsOf 3 keptAes) 0 seed
+abbrev startedAes : ℕ → Standing
+startedAes r = sending (termsOf 3 keptAes r) 0 seed
 
-abbrev joinedScramble : Standing
-joinedScramble = receiving (termsOf 1 keptScramble) 0 (told noVector)
+abbrev joinedScramble : ℕ → Standing
+joinedScramble r = receiving (termsOf 1 keptScramble r) 0 (told noVector)
 
-stand : (standing (written openedAes) ≡ openedAes) × (standing (written startedAes) ≡ startedAes) × (standing (written joinedScramble) ≡ joinedScramble)
-unfolding standing isClosed closedTests isOpen openTests keyRight vectorRight keyAllowed scrambleKey allZero allBelow
-stand = (refl, refl, refl)
+module _ (r : ℕ) (low : r ≤ 1) where
+  stand : (standing (written (openedAes r)) ≡ openedAes r) × (standing (written (startedAes r)) ≡ startedAes r)
+      × (standing (written (joinedScramble r)) ≡ joinedScramble r)
+  unfolding standing isClosed closedTests isOpen openTests keyRight vectorRight keyAllowed scrambleKey allZero allBelow
+  stand = rw (rate-is r low) (refl, refl, refl)
 
-turns : (s : Standing) → standing (written s) ≡ s → stands s ≡ true → knows s ≡ true → numberOf (voiceOf (written s) 15 silence .0) ≡ 0
-turns s e o k =
-    ap (λ (r : Answer × (Call × List ℕ)). numberOf (r .0)) (voice-at (written s) 15 silence (omega arith) refl s e o)
-    ∙ ap (λ (t : Bool). numberOf (pick t Done Held)) k
+  turns : (s : Standing) → widthIn s ≡ width r → standing (written s) ≡ s → stands s ≡ true → knows s ≡ true → numberOf (voiceOf (written s) 15 (silence r) .0) ≡ 0
+  turns s h e o k =
+      ap (λ (r : Answer × (Call × List ℕ)). numberOf (r .0))
+      (voice-at (written s) 15 (silence r) (omega arith) s (rw h (silent-long r)) e o)
+      ∙ ap (λ (t : Bool). numberOf (pick t Done Held)) k
 
 -- half a key of cipher c is added, a call is opened all the same, and its first slot is turned
 module _ (isHasty : CallOperation → Bool) where
@@ -199,34 +204,38 @@ module _ (isHasty : CallOperation → Bool) where
         ap (λ (r : Answer × List ℕ). having (book.step (book.Add c 0 half) (r .1) .1) (λ n. noCall)) begins
         ∙ ap (λ (r : Answer × List ℕ). having (r .1) (λ n. noCall)) adds
 
-    half-key-fails : (o : CallOperation) (call : Call) → hastyCall isHasty (holding c half) noCall o ≡ (Done, (call, []))
-        → numberOf (voiceOf call 15 silence .0) ≡ 0 → Demand1 (hasty isHasty) → ⊥
+    half-key-fails : (o : CallOperation) (call : Call) (frame : List ℕ) → hastyCall isHasty (holding c half) noCall o ≡ (Done, (call, []))
+        → numberOf (voiceOf call 15 frame .0) ≡ 0 → Demand1 (hasty isHasty) → ⊥
     unfolding deviceAfter callStep half-loaded
-    half-key-fails o call opens turns meets =
+    half-key-fails o call frame opens turns meets =
         let st = hasty isHasty in
         no-word st (OfCall 0 o ∷ half-loaded)
         (never-done st (OfCall 0 o) half-loaded refl
         (never-done st (OfBook (book.Add c 0 half)) (OfBook (book.Begin c 0) ∷ []) refl (never-done st (OfBook (book.Begin c 0)) [] refl (none-yet st))))
-        0 meets 15 silence
-        (ap (λ (d : Device). numberOf (voiceOf (hastyCall isHasty (d .book) (d .calls 0) o .1 .0) 15 silence .0)) is-half
-        ∙ ap (λ (r : Answer × (Call × List ℕ)). numberOf (voiceOf (r .1 .0) 15 silence .0)) opens
+        0 meets 15 frame
+        (ap (λ (d : Device). numberOf (voiceOf (hastyCall isHasty (d .book) (d .calls 0) o .1 .0) 15 frame .0)) is-half
+        ∙ ap (λ (r : Answer × (Call × List ℕ)). numberOf (voiceOf (r .1 .0) 15 frame .0)) opens
         ∙ turns)
 
-  -- hasty in open, in start or in join: each alone is thrown out
-  pub hasty-open-thrown-out : isHasty (Open 3 0 seed) ≡ true → Demand1 (hasty isHasty) → ⊥
-  unfolding begunRefusals vectorRefusals keyRefusals zeroRefusals zeroFor standing isClosed closedTests allZero allBelow firstBelow entry.inRange entry.isFor
-      entry.entryRight entry.usedRight entry.readyRight entry.lacks rules.entryOf rules.findEntry rules.apart rules.goodBook
-  hasty-open-thrown-out e =
-      half-key-fails 3 halfAes (books .0) (books .1) (Open 3 0 seed) (written openedAes) (rw e) (turns openedAes (stand .0) refl refl)
+  -- hasty in open, in start or in join, at one rate: each alone is thrown out
+  module _ (r : ℕ) (low : r ≤ 1) where
+    pub hasty-open-thrown-out : isHasty (Open 3 0 r seed) ≡ true → Demand1 (hasty isHasty) → ⊥
+    unfolding begunRefusals vectorRefusals keyRefusals zeroRefusals zeroFor standing isClosed closedTests allZero allBelow firstBelow entry.inRange entry.isFor
+        entry.entryRight entry.usedRight entry.readyRight entry.lacks rules.entryOf rules.findEntry rules.apart rules.goodBook
+    hasty-open-thrown-out e =
+        half-key-fails 3 halfAes (books .0) (books .1) (Open 3 0 r seed) (written (openedAes r)) (silence r) (rw (e, rate-is r low))
+        (turns r low (openedAes r) refl (stand r low .0) refl refl)
 
-  pub hasty-start-thrown-out : isHasty (Start 3 0 seed) ≡ true → Demand1 (hasty isHasty) → ⊥
-  unfolding begunRefusals vectorRefusals keyRefusals zeroRefusals zeroFor standing isClosed closedTests allZero allBelow firstBelow entry.inRange entry.isFor
-      entry.entryRight entry.usedRight entry.readyRight entry.lacks rules.entryOf rules.findEntry rules.apart rules.goodBook
-  hasty-start-thrown-out e =
-      half-key-fails 3 halfAes (books .0) (books .1) (Start 3 0 seed) (written startedAes) (rw e) (turns startedAes (stand .1) refl refl)
+    pub hasty-start-thrown-out : isHasty (Start 3 0 r seed) ≡ true → Demand1 (hasty isHasty) → ⊥
+    unfolding begunRefusals vectorRefusals keyRefusals zeroRefusals zeroFor standing isClosed closedTests allZero allBelow firstBelow entry.inRange entry.isFor
+        entry.entryRight entry.usedRight entry.readyRight entry.lacks rules.entryOf rules.findEntry rules.apart rules.goodBook
+    hasty-start-thrown-out e =
+        half-key-fails 3 halfAes (books .0) (books .1) (Start 3 0 r seed) (written (startedAes r)) (silence r) (rw (e, rate-is r low))
+        (turns r low (startedAes r) refl (stand r low .1) refl refl)
 
-  pub hasty-join-thrown-out : isHasty (Join 1 0) ≡ true → Demand1 (hasty isHasty) → ⊥
-  unfolding joinRefusals keyRefusals standing isClosed closedTests allZero allBelow firstBelow entry.inRange entry.isFor entry.entryRight entry.usedRight
-      entry.readyRight entry.lacks rules.entryOf rules.findEntry rules.apart rules.goodBook
-  hasty-join-thrown-out e =
-      half-key-fails 1 halfScramble (books .2) (books .3) (Join 1 0) (written joinedScramble) (rw e) (turns joinedScramble (stand .2) refl refl)
+    pub hasty-join-thrown-out : isHasty (Join 1 0 r) ≡ true → Demand1 (hasty isHasty) → ⊥
+    unfolding joinRefusals keyRefusals standing isClosed closedTests allZero allBelow firstBelow entry.inRange entry.isFor entry.entryRight entry.usedRight
+        entry.readyRight entry.lacks rules.entryOf rules.findEntry rules.apart rules.goodBook
+    hasty-join-thrown-out e =
+        half-key-fails 1 halfScramble (books .2) (books .3) (Join 1 0 r) (written (joinedScramble r)) (silence r) (rw (e, rate-is r low))
+        (turns r low (joinedScramble r) refl (stand r low .2) refl refl)

@@ -1,7 +1,7 @@
 -- The premises can be met: for DES and for AES a call of our sender with losses, of whose three sessions the second's vector does not reach the
 -- receiver, and one of another maker's whose vectors are all zeros; for scramble a call with losses and with words that gave way to signalling; and
 -- what our receiver answers.
-use mathlib.Core.Path.{_≡_, refl, sym, ap, _∙_}
+use mathlib.Core.Path.{_≡_, refl, sym, ap, subst, _∙_}
 use mathlib.Core.Bool.{Bool, true, false, true≢false}
 use mathlib.Core.List.{List, [], _∷_, _++_, map}
 use Prim.Native.Nat.{ℕ, zero, suc, _+_, _*_, _^_, _≤_, _<_}
@@ -15,9 +15,11 @@ use Rattle.octets.specs.Lists.{Each}
 use Rattle.octets.specs.Bits.{flip}
 use Rattle.generator.proofs.OwnNext.{zeros-next}
 use Rattle.ciphers.specs.Keystream.{stream}
-use Rattle.voice.specs.Frame.{IsFrame, word, inMask, ofSlot}
+use Rattle.sizes.specs.Frame.{width}
+use Rattle.voice.specs.Frame.{IsFrame, inMask, ofSlot}
 use Rattle.voice.proofs.FrameLaws.{protect-frame, word-stays}
 use Rattle.demands.specs.Marked.{key0001}
+use Rattle.demands.specs.Rates.{Layout, half, full, layout, FrameAt, wordAt}
 use Rattle.demands.specs.Talk.{Slot, Session, Talk, WayIn, opening, joining, OnAir, SlotKept, SessionKept, Kept, HasKey}
 use Rattle.demands.specs.Notices.{noticesOf}
 use Rattle.demands.specs.Log.{talkLog}
@@ -25,12 +27,13 @@ use Rattle.demands.specs.Demand3.{Right, ours}
 use Rattle.demands.specs.Others.{turning}
 use Rattle.demands.specs.OurSender.{Said, Saying, talkMade, SaidKept, Follows}
 use Rattle.octets.proofs.Zeros.{octets-by}
-use Rattle.demands.proofs.AirLaws.{word-bits, protected-air}
+use Rattle.demands.proofs.Layouts.{layoutBy, layout-is, by-layout}
+use Rattle.demands.proofs.AirLaws.{is-frame, frame-at, word-bits, protected-air}
 use Rattle.demands.proofs.Standing.{eight-slots}
 use Rattle.demands.proofs.ReceiverMeets.{ours-meets-3}
 use Rattle.demands.proofs.Settled.{answers, due, answers-settled}
 use Rattle.demands.proofs.SenderKeeps.{ours-keeps}
-use Rattle.demands.proofs.Samples.{silence, silence-frame, loud, saying, repeating, saying-kept, repeating-kept, seed-starts}
+use Rattle.demands.proofs.Samples.{silence, silence-frame, loud, loud-frame, saying, repeating, saying-kept, repeating-kept, seed-starts}
 use Rattle.demands.proofs.SampleKeys.{keyOf, bookOfThree, has-key, key-long}
 
 -- ---- DES and AES
@@ -40,9 +43,9 @@ abbrev saidAll : List ℕ → List Bool → List Said
 saidAll frame [] = []
 saidAll frame (a ∷ rest) = record { mask = 15; spoken = frame; arrives = a } ∷ saidAll frame rest
 
-said-all-kept : (frame : List ℕ) → IsFrame frame → (arriving : List Bool) → Each SaidKept (saidAll frame arriving)
-said-all-kept frame f [] = tt
-said-all-kept frame f (a ∷ rest) = (record { mask = omega arith; frame = f }, said-all-kept frame f rest)
+said-all-kept : (l : Layout) (frame : List ℕ) → FrameAt l frame → (arriving : List Bool) → Each (SaidKept l) (saidAll frame arriving)
+said-all-kept l frame f [] = tt
+said-all-kept l frame f (a ∷ rest) = (record { mask = omega arith; frame = f }, said-all-kept l frame f rest)
 
 -- every other slot is lost
 abbrev others : List Bool
@@ -81,152 +84,182 @@ module _ (t : Talk) (k : Kept t) (h : HasKey bookOfThree (t .cipher) 0 (t .key))
       record { kept = k; opened = settled opening ∙ o; joined = settled (joining 0) ∙ j; joined-later = settled (joining 1) ∙ l; right = ours-meets-3 t k bookOfThree 0 h }
 
 -- a call of our sender
-abbrev pub mixed : ℕ → List ℕ → Talk
-mixed c frame = talkMade c (keyOf c) 0 seed bookOfThree (three frame)
+abbrev pub mixed : ℕ → ℕ → List ℕ → Talk
+mixed c r frame = talkMade c (keyOf c) 0 r seed bookOfThree (three frame)
 
 -- a call of another maker's sender whose vectors are all zeros
-abbrev zeroSession : ℕ → List ℕ → Bool → List Bool → Session
-zeroSession c frame announced arriving = record { vector = noVector; announced = announced; slots = repeating frame (stream c (keyOf c) noVector) 0 arriving }
+abbrev zeroSession : ℕ → ℕ → List ℕ → Bool → List Bool → Session
+zeroSession c r frame announced arriving = record { vector = noVector; announced = announced; slots = repeating r frame (stream c (keyOf c) noVector) 0 arriving }
 
-abbrev pub zeros : ℕ → List ℕ → Talk
-zeros c frame =
+abbrev pub zeros : ℕ → ℕ → List ℕ → Talk
+zeros c r frame =
     record {
       cipher = c;
+      rate = r;
       key = keyOf c;
-      sessions = zeroSession c frame true others ∷ zeroSession c frame false others ∷ zeroSession c frame true (true ∷ []) ∷ [];
+      sessions = zeroSession c r frame true others ∷ zeroSession c r frame false others ∷ zeroSession c r frame true (true ∷ []) ∷ [];
     }
 
-module _ (c : ℕ) (r : (1 ≤ c) × (c ≤ 3)) (n : scrambles c ≡ false) (frame : List ℕ) (f : IsFrame frame) where
+module _ (c : ℕ) (g : (1 ≤ c) × (c ≤ 3)) (n : scrambles c ≡ false) (r : ℕ) (l : r ≤ 1) (frame : List ℕ) (f : FrameAt (layout r) frame) where
   eight : 8 ≡ sessionSlots c
-  eight = sym (eight-slots c r n)
+  eight = sym (eight-slots c g n)
 
-  mixed-kept : Kept (mixed c frame)
+  mixed-kept : Kept (mixed c r frame)
   mixed-kept =
-      let said = said-all-kept frame f in
-      ours-keeps bookOfThree c 0 (keyOf c) (has-key c r) (key-long c r) seed (seed-starts c) (three frame)
+      let said = said-all-kept (layout r) frame f in
+      ours-keeps bookOfThree c 0 (keyOf c) (has-key c g) (key-long c g) r l seed (seed-starts c) (three frame)
       (record { each = (said others, (said others, (said (true ∷ []), tt))); full = (eight, (eight, omega (arith, eight))) })
 
-  mixed-heard : Heard (mixed c frame)
-  mixed-heard = heard (mixed c frame) mixed-kept (has-key c r) (rw n) (rw n) (rw n)
+  mixed-heard : Heard (mixed c r frame)
+  mixed-heard = heard (mixed c r frame) mixed-kept (has-key c g) (rw n) (rw n) (rw n)
 
-  zero-session-kept : (announced : Bool) (arriving : List Bool) → SessionKept c (keyOf c) (zeroSession c frame announced arriving)
-  zero-session-kept announced arriving = record { vector = refl; slots = repeating-kept frame f (stream c (keyOf c) noVector) 0 arriving }
+  zero-session-kept : (announced : Bool) (arriving : List Bool) → SessionKept (layout r) c (keyOf c) (zeroSession c r frame announced arriving)
+  zero-session-kept announced arriving = record { vector = refl; slots = repeating-kept r frame f (stream c (keyOf c) noVector) 0 arriving }
 
-  zeros-kept : Kept (zeros c frame)
+  zeros-kept : Kept (zeros c r frame)
   zeros-kept =
       record {
-        key = key-long c r;
+        rate = l;
+        key = key-long c g;
         each = (zero-session-kept true others, (zero-session-kept false others, (zero-session-kept true (true ∷ []), tt)));
         full = (eight, (eight, omega (arith, eight)));
       }
 
   -- and its vectors are the generator's: zeros are their own next
-  zeros-heard : Heard (zeros c frame) × Follows c noVector (zeros c frame .sessions)
-  zeros-heard = (heard (zeros c frame) zeros-kept (has-key c r) (rw n) (rw n) (rw n), rw (n, zeros-next, zeros-next) (refl, (refl, (refl, tt))))
+  zeros-heard : Heard (zeros c r frame) × Follows c noVector (zeros c r frame .sessions)
+  zeros-heard = (heard (zeros c r frame) zeros-kept (has-key c g) (rw n) (rw n) (rw n), rw (n, zeros-next, zeros-next) (refl, (refl, (refl, tt))))
 
--- whatever frame is said
-module _ (frame : List ℕ) (f : IsFrame frame) where
-  pub mixed-des : Heard (mixed 2 frame)
-  mixed-des = mixed-heard 2 (omega arith, omega arith) refl frame f
+-- at either rate, whatever one frame is said in every slot
+module _ (r : ℕ) (l : r ≤ 1) (frame : List ℕ) (f : FrameAt (layout r) frame) where
+  pub mixed-des : Heard (mixed 2 r frame)
+  mixed-des = mixed-heard 2 (omega arith, omega arith) refl r l frame f
 
-  pub mixed-aes : Heard (mixed 3 frame)
-  mixed-aes = mixed-heard 3 (omega arith, omega arith) refl frame f
+  pub mixed-aes : Heard (mixed 3 r frame)
+  mixed-aes = mixed-heard 3 (omega arith, omega arith) refl r l frame f
 
-  pub zeros-des : Heard (zeros 2 frame) × Follows 2 noVector (zeros 2 frame .sessions)
-  zeros-des = zeros-heard 2 (omega arith, omega arith) refl frame f
+  pub zeros-des : Heard (zeros 2 r frame) × Follows 2 noVector (zeros 2 r frame .sessions)
+  zeros-des = zeros-heard 2 (omega arith, omega arith) refl r l frame f
 
-  pub zeros-aes : Heard (zeros 3 frame) × Follows 3 noVector (zeros 3 frame .sessions)
-  zeros-aes = zeros-heard 3 (omega arith, omega arith) refl frame f
+  pub zeros-aes : Heard (zeros 3 r frame) × Follows 3 noVector (zeros 3 r frame .sessions)
+  zeros-aes = zeros-heard 3 (omega arith, omega arith) refl r l frame f
 
--- ---- scramble
+-- ---- scramble, at either rate
 
 abbrev ks : ℕ → ℕ
 ks = stream 1 key0001 noVector
 
 -- slot p of silence, where what goes on the air is that of another frame, and the same in the words that the mask has
-abbrev gaveWay : ℕ → List ℕ → ℕ → Slot
-gaveWay mask frame p = record { mask = mask; spoken = silence; sent = turning ks p mask frame; arrived = true }
+abbrev gaveWay : ℕ → ℕ → List ℕ → ℕ → Slot
+gaveWay r mask frame p = record { mask = mask; spoken = silence r; sent = turning r ks p mask frame; arrived = true }
 
-gave-way-kept : (mask : ℕ) (frame : List ℕ) → length frame ≡ 28 → mask ≤ 15 → ((w : ℕ) → w < 4 → inMask mask w ≡ true → word w frame ≡ word w silence)
-    → (p : ℕ) → SlotKept ks p (gaveWay mask frame p)
-gave-way-kept mask frame l m same p =
-    record {
-      mask = m;
-      spoken = silence-frame;
-      sent = protect-frame (λ n. ks (196 * p + n)) mask frame l;
-      air = record {
-        speech = λ w j lw lj h. air .speech w j lw lj h ∙ ap (λ (a : ℕ). flip a (ks (196 * p + 49 * w + j))) (word-bits w frame silence (same w lw h) j (omega arith));
-        spare = λ w j lw l lj h. air .spare w j lw l lj h ∙ word-bits w frame silence (same w lw h) j lj;
-      };
-    }
-  where
-    air : OnAir ks p (record { mask = mask; spoken = frame; sent = turning ks p mask frame; arrived = true })
-    air = protected-air ks p (record { mask = mask; spoken = frame; sent = turning ks p mask frame; arrived = true }) l refl
+module _ (r mask : ℕ) (frame : List ℕ) (long : length frame ≡ layout r .frame) (m : mask ≤ 15)
+    (same : (w : ℕ) → w < 4 → inMask mask w ≡ true → wordAt (layout r) w frame ≡ wordAt (layout r) w (silence r)) where
+  abbrev its : Layout
+  its = layoutBy (width r)
+
+  sized : length frame ≡ its .frame
+  sized = long ∙ ap (λ (l : Layout). l .frame) (layout-is r)
+
+  as-silence : (w : ℕ) → w < 4 → inMask mask w ≡ true → wordAt its w frame ≡ wordAt its w (silence r)
+  as-silence =
+      subst (λ (l : Layout). (w : ℕ) → w < 4 → inMask mask w ≡ true → wordAt l w frame ≡ wordAt l w (silence r)) (layout-is r) same
+
+  air : (p : ℕ) → OnAir its ks p (record { mask = mask; spoken = frame; sent = turning r ks p mask frame; arrived = true })
+  air p = protected-air (width r) ks p (record { mask = mask; spoken = frame; sent = turning r ks p mask frame; arrived = true }) sized refl
+
+  gave-way-kept : (p : ℕ) → SlotKept (layout r) ks p (gaveWay r mask frame p)
+  gave-way-kept p =
+      subst (λ (l : Layout). SlotKept l ks p (gaveWay r mask frame p)) (sym (layout-is r))
+      (record {
+        mask = m;
+        spoken = subst (λ (l : Layout). FrameAt l (silence r)) (layout-is r) (silence-frame r);
+        sent = frame-at (width r) (protect-frame (width r) (ofSlot (width r) ks p) mask frame sized);
+        air = record {
+          speech = λ w j lw lj h.
+              air p .speech w j lw lj h
+              ∙ ap (λ (a : ℕ). flip a (ks (its .slot * p + its .speech * w + j))) (word-bits (width r) w frame (silence r) (as-silence w lw h) j (omega arith));
+          spare = λ w j lw l lj h. air p .spare w j lw l lj h ∙ word-bits (width r) w frame (silence r) (as-silence w lw h) j lj;
+        };
+      })
 
 -- the second word gave way to signalling
-abbrev signalling : List ℕ
-signalling = replicate 7 0 ++ (replicate 7 255 ++ replicate 14 0)
+abbrev signallingIn : Layout → List ℕ
+signallingIn l = replicate (l .octets) 0 ++ (replicate (l .octets) 255 ++ replicate (l .octets * 2) 0)
 
-one-gave-way : (p : ℕ) → SlotKept ks p (gaveWay 13 signalling p)
-one-gave-way = gave-way-kept 13 signalling refl (omega arith) same
+abbrev signalling : ℕ → List ℕ
+signalling r = signallingIn (layout r)
+
+signalling-frame : (r : ℕ) → FrameAt (layout r) (signalling r)
+unfolding allBelow
+signalling-frame =
+    by-layout (λ l. FrameAt l (signallingIn l)) (record { long = refl; octets = octets-by (signallingIn half) refl }) (record { long = refl; octets = octets-by (signallingIn full) refl })
+
+one-gave-way : (r p : ℕ) → SlotKept (layout r) ks p (gaveWay r 13 (signalling r) p)
+one-gave-way r = gave-way-kept r 13 (signalling r) (signalling-frame r .long) (omega arith) same
   where
-    same : (w : ℕ) → w < 4 → inMask 13 w ≡ true → word w signalling ≡ word w silence
-    same zero l h = refl
+    apart : (w : ℕ) → wordAt half w (signallingIn half) ≡ wordAt half w (replicate 28 0) → wordAt full w (signallingIn full) ≡ wordAt full w (replicate 36 0)
+        → wordAt (layout r) w (signalling r) ≡ wordAt (layout r) w (silence r)
+    apart w h f = by-layout (λ l. wordAt l w (signallingIn l) ≡ wordAt l w (replicate (l .frame) 0)) h f r
+
+    same : (w : ℕ) → w < 4 → inMask 13 w ≡ true → wordAt (layout r) w (signalling r) ≡ wordAt (layout r) w (silence r)
+    same zero l h = apart 0 refl refl
     same (suc zero) l h = absurd (true≢false (sym h))
-    same (suc (suc zero)) l h = refl
-    same (suc (suc (suc zero))) l h = refl
+    same (suc (suc zero)) l h = apart 2 refl refl
+    same (suc (suc (suc zero))) l h = apart 3 refl refl
     same (suc (suc (suc (suc w)))) l h = absurd (omega arith)
 
 -- and all words, as those of each second slot at 9600 bps half rate
-all-gave-way : (p : ℕ) → SlotKept ks p (gaveWay 0 loud p)
-all-gave-way = gave-way-kept 0 loud refl (omega arith) same
-  where
-    same : (w : ℕ) → w < 4 → inMask 0 w ≡ true → word w loud ≡ word w silence
-    same w l h = absurd (true≢false (sym h ∙ rw (zero-div (2 ^ w))))
+all-gave-way : (r p : ℕ) → SlotKept (layout r) ks p (gaveWay r 0 (loud r) p)
+all-gave-way r = gave-way-kept r 0 (loud r) (loud-frame r .long) (omega arith) (λ w l h. absurd (true≢false (sym h ∙ rw (zero-div (2 ^ w)))))
 
 -- of two sessions, in one slot of each the second word gave way, in another all did, and two slots are lost
-abbrev pub replacing : Talk
-replacing =
+abbrev pub replacing : ℕ → Talk
+replacing r =
     record {
       cipher = 1;
+      rate = r;
       key = key0001;
       sessions =
           record {
             vector = noVector;
             announced = false;
-            slots = gaveWay 13 signalling 0 ∷ saying turning silence ks 1 false ∷ saying turning silence ks 2 true ∷ gaveWay 0 loud 3 ∷ [];
+            slots = gaveWay r 13 (signalling r) 0 ∷ saying turning r (silence r) ks 1 false ∷ saying turning r (silence r) ks 2 true ∷ gaveWay r 0 (loud r) 3 ∷ [];
           }
-          ∷ record { vector = noVector; announced = false; slots = saying turning silence ks 0 false ∷ gaveWay 13 signalling 1 ∷ [] } ∷ [];
+          ∷ record { vector = noVector; announced = false; slots = saying turning r (silence r) ks 0 false ∷ gaveWay r 13 (signalling r) 1 ∷ [] } ∷ [];
     }
 
-pub replacing-kept : Kept replacing
-replacing-kept =
-    record {
-      key = refl;
-      each = (
-        record {
-          vector = refl;
-          slots = (one-gave-way 0, (saying-kept silence silence-frame ks 1 false, (saying-kept silence silence-frame ks 2 true, (all-gave-way 3, tt))));
-        },
-        (record { vector = refl; slots = (saying-kept silence silence-frame ks 0 false, (one-gave-way 1, tt)) }, tt),
-      );
-      full = (refl, omega arith);
-    }
+module _ (r : ℕ) (l : r ≤ 1) where
+  pub replacing-kept : Kept (replacing r)
+  replacing-kept =
+      let quiet = saying-kept r (silence r) (silence-frame r) ks in
+      record {
+        rate = l;
+        key = refl;
+        each = (
+          record { vector = refl; slots = (one-gave-way r 0, (quiet 1 false, (quiet 2 true, (all-gave-way r 3, tt)))) },
+          (record { vector = refl; slots = (quiet 0 false, (one-gave-way r 1, tt)) }, tt),
+        );
+        full = (refl, omega arith);
+      }
+
+  replacing-settled : (e : WayIn) → answers (talkLog ours bookOfThree 0 (replacing r) e) ≡ map due (noticesOf (replacing r) e)
+  replacing-settled = answers-settled ours ours-meets-3 (replacing r) replacing-kept bookOfThree 0 (has-key 1 (omega arith, omega arith))
+
+  -- by the opening, and joining in the first session: all 0
+  pub replacing-opened : answers (talkLog ours bookOfThree 0 (replacing r) opening) ≡ 0 ∷ (0 ∷ 0 ∷ 0 ∷ 0 ∷ (0 ∷ 0 ∷ []))
+  replacing-opened = replacing-settled opening
+
+  pub replacing-joined : answers (talkLog ours bookOfThree 0 (replacing r) (joining 0)) ≡ 0 ∷ (0 ∷ 0 ∷ [])
+  replacing-joined = replacing-settled (joining 0)
 
 -- the replaced word goes out as something else than was spoken
-pub replaced-otherwise : word 1 (gaveWay 13 signalling 0 .sent) ≡ word 1 (gaveWay 13 signalling 0 .spoken) → ⊥
-unfolding allBelow
-replaced-otherwise e =
-    let f : IsFrame signalling = record { long = refl; octets = octets-by signalling refl } in
-    let z : _≡_ {A = ℕ} 255 0 = ap (λ (xs : List ℕ). getD xs 0 0) (sym (word-stays (ofSlot ks 0) 13 1 signalling f (omega arith) refl) ∙ e) in
-    omega arith
-
-replacing-settled : (e : WayIn) → answers (talkLog ours bookOfThree 0 replacing e) ≡ map due (noticesOf replacing e)
-replacing-settled = answers-settled ours ours-meets-3 replacing replacing-kept bookOfThree 0 (has-key 1 (omega arith, omega arith))
-
--- by the opening, and joining in the first session: all 0
-pub replacing-opened : answers (talkLog ours bookOfThree 0 replacing opening) ≡ 0 ∷ (0 ∷ 0 ∷ 0 ∷ 0 ∷ (0 ∷ 0 ∷ []))
-replacing-opened = replacing-settled opening
-
-pub replacing-joined : answers (talkLog ours bookOfThree 0 replacing (joining 0)) ≡ 0 ∷ (0 ∷ 0 ∷ [])
-replacing-joined = replacing-settled (joining 0)
+pub replaced-otherwise : (r : ℕ) → wordAt (layout r) 1 (gaveWay r 13 (signalling r) 0 .sent) ≡ wordAt (layout r) 1 (gaveWay r 13 (signalling r) 0 .spoken) → ⊥
+replaced-otherwise r e =
+    let f : IsFrame (width r) (signalling r) = is-frame (width r) (subst (λ (l : Layout). FrameAt l (signalling r)) (layout-is r) (signalling-frame r)) in
+    let stays : wordAt (layout r) 1 (gaveWay r 13 (signalling r) 0 .sent) ≡ wordAt (layout r) 1 (signalling r) =
+    subst (λ (l : Layout). wordAt l 1 (gaveWay r 13 (signalling r) 0 .sent) ≡ wordAt l 1 (signalling r)) (sym (layout-is r))
+    (word-stays (width r) (ofSlot (width r) ks 0) 13 1 (signalling r) f (omega arith) refl) in
+    by-layout (λ l. wordAt l 1 (signallingIn l) ≡ wordAt l 1 (replicate (l .frame) 0) → ⊥) (λ q. not-silent q) (λ q. not-silent q) r (sym stays ∙ e)
+  where
+    not-silent : {xs ys : List ℕ} → 255 ∷ xs ≡ 0 ∷ ys → ⊥
+    not-silent q = let z : _≡_ {A = ℕ} 255 0 = ap (λ (xs : List ℕ). getD xs 0 0) q in omega arith

@@ -2,7 +2,7 @@
 -- message are turned, under it and no other.
 use mathlib.Core.Path.{_≡_, refl, sym, ap, _∙_}
 use mathlib.Core.List.{List, [], _∷_, _++_}
-use Prim.Native.Nat.{ℕ}
+use Prim.Native.Nat.{ℕ, _≤_}
 use native.Mathlib.Omega.{arith}
 use lib.ListN.{replicate}
 use Rattle.octets.specs.Tests.{allBelow, firstBelow}
@@ -33,7 +33,8 @@ use Rattle.demands.specs.Marked.{holding}
 use Rattle.demands.specs.Device.{Device, Open, Voice, callStep, OpenPacket, Message, packetStep, Operation, OfBook, OfCall, OfPacket, step, deviceAfter, history}
 use Rattle.demands.specs.Demand1.{WordsTurned, MessageTurned}
 use Rattle.demands.proofs.Meets1.{ours-meets-1}
-use Rattle.demands.proofs.Samples.{silence}
+use Rattle.demands.proofs.Layouts.{rate-is}
+use Rattle.demands.proofs.Samples.{silence, silent-long}
 use Rattle.demands.proofs.SampleKeys.{keyABCD}
 
 -- ---- the key is loaded
@@ -82,40 +83,41 @@ is-loaded =
     (loads (OfBook (book.Begin 2 0) ∷ []) (book.Add 2 0 first) (loads [] (book.Begin 2 0) none-yet (books .0)) (books .1)) (books .2))
     (books .3)
 
--- ---- it opens a call
+-- ---- it opens a call, at either rate
 
-abbrev heard : Standing
-heard = receiving (termsOf 2 desABCD) 0 (told seed)
+module _ (r : ℕ) (low : r ≤ 1) where
+  abbrev heard : Standing
+  heard = receiving (termsOf 2 desABCD r) 0 (told seed)
 
-opens : openOf noCall 2 0 seed ready ≡ (Done, written heard)
-unfolding openOf begunRefusals vectorRefusals keyRefusals zeroRefusals standing isClosed closedTests allZero allBelow firstBelow entry.inRange entry.isFor
-    entry.entryRight entry.usedRight entry.readyRight entry.lacks rules.entryOf rules.findEntry rules.apart rules.goodBook keyAllowed desKey oddOctet
-opens = refl
+  opens : openOf noCall 2 0 r seed ready ≡ (Done, written heard)
+  unfolding openOf begunRefusals vectorRefusals keyRefusals zeroRefusals standing isClosed closedTests allZero allBelow firstBelow entry.inRange entry.isFor
+      entry.entryRight entry.usedRight entry.readyRight entry.lacks rules.entryOf rules.findEntry rules.apart rules.goodBook keyAllowed desKey oddOctet
+  opens = rw (rate-is r low)
 
-heard-stands : standing (written heard) ≡ heard
-unfolding standing isClosed closedTests isOpen openTests keyRight vectorRight keyAllowed desKey oddOctet allZero allBelow
-heard-stands = refl
+  heard-stands : standing (written heard) ≡ heard
+  unfolding standing isClosed closedTests isOpen openTests keyRight vectorRight keyAllowed desKey oddOctet allZero allBelow
+  heard-stands = rw (rate-is r low)
 
-abbrev pub opening-call : List Operation
-opening-call = OfCall 0 (Open 2 0 seed) ∷ loading
+  abbrev pub opening-call : List Operation
+  opening-call = OfCall 0 (Open 2 0 r seed) ∷ loading
 
-is-open : deviceAfter step opening-call .calls 0 ≡ written heard
-unfolding deviceAfter step callStep
-is-open = ap (λ (d : Device). step d (OfCall 0 (Open 2 0 seed)) .1 .0 .calls 0) is-loaded ∙ ap (λ (r : Answer × Call). r .1) opens
+  is-open : deviceAfter step opening-call .calls 0 ≡ written heard
+  unfolding deviceAfter step callStep
+  is-open = ap (λ (d : Device). step d (OfCall 0 (Open 2 0 r seed)) .1 .0 .calls 0) is-loaded ∙ ap (λ (r : Answer × Call). r .1) opens
 
--- every word of a slot
-pub word-done : numberOf (step (deviceAfter step opening-call) (OfCall 0 (Voice 15 silence)) .0) ≡ 0
-unfolding step callStep
-word-done =
-    ap (λ (c : Call). numberOf (voiceOf c 15 silence .0)) is-open
-    ∙ ap (λ (r : Answer × (Call × List ℕ)). numberOf (r .0)) (voice-at (written heard) 15 silence (omega arith) refl heard heard-stands refl)
+  -- every word of a slot
+  pub word-done : numberOf (step (deviceAfter step opening-call) (OfCall 0 (Voice 15 (silence r))) .0) ≡ 0
+  unfolding step callStep
+  word-done =
+      ap (λ (c : Call). numberOf (voiceOf c 15 (silence r) .0)) is-open
+      ∙ ap (λ (r : Answer × (Call × List ℕ)). numberOf (r .0)) (voice-at (written heard) 15 (silence r) (omega arith) heard (silent-long r) heard-stands refl)
 
-pub word-turned : WordsTurned (history step opening-call) 0 (deviceAfter step opening-call .calls 0) 15 silence (step (deviceAfter step opening-call) (OfCall 0 (Voice 15 silence)) .1 .1)
-word-turned = ours-meets-1 .words opening-call 0 15 silence word-done
+  pub word-turned : WordsTurned (history step opening-call) 0 (deviceAfter step opening-call .calls 0) 15 (silence r) (step (deviceAfter step opening-call) (OfCall 0 (Voice 15 (silence r))) .1 .1)
+  word-turned = ours-meets-1 .words opening-call 0 15 (silence r) word-done
 
--- and under this key
-pub word-key : deviceAfter step opening-call .calls 0 .terms .key ≡ desABCD
-word-key = ap (λ (c : Call). c .terms .key) is-open
+  -- and under this key
+  pub word-key : deviceAfter step opening-call .calls 0 .terms .key ≡ desABCD
+  word-key = ap (λ (c : Call). c .terms .key) is-open
 
 -- ---- and a packet
 

@@ -1,6 +1,7 @@
 pub mod MarkedVoice
 pub mod MarkedData
 pub mod MarkedHold
+pub mod Layouts
 pub mod AirLaws
 pub mod Standing
 pub mod ReceiverMeets
@@ -15,6 +16,7 @@ pub mod SenderKeeps
 pub mod SenderLeaves
 pub mod Instance
 pub mod Meets2
+pub mod Ends
 pub mod DeviceLaws
 pub mod RefusalOrder
 pub mod TimeLaws

@@ -44,9 +44,9 @@ ready-told os c i k q = rw (keys-are os) (ready-only-if-told (keysIn os) c i k (
 
 -- ---- one operation more
 
-module _ (opens : ℕ → ℕ → Operation → Type 0) (renews : Operation → Bool) (h : History) (o : Operation) (a : Answer) {c : ℕ} {k : List ℕ} where
+module _ (opens : ℕ → ℕ → ℕ → Operation → Type 0) (renews : Operation → Bool) (h : History) (o : Operation) (a : Answer) {f c : ℕ} {k : List ℕ} where
   -- unless it is done and renews, what was loaded is
-  still-loaded : (isDone a && renews o) ≡ false → Loaded opens renews h c k → Loaded opens renews ((o, a) ∷ h) c k
+  pub still-loaded : (isDone a && renews o) ≡ false → Loaded opens renews h f c k → Loaded opens renews ((o, a) ∷ h) f c k
   still-loaded u l =
       record {
         id = l .id;
@@ -59,7 +59,7 @@ module _ (opens : ℕ → ℕ → Operation → Type 0) (renews : Operation → 
         told = l .told;
       }
 
-  just-loaded : (i : ℕ) → a ≡ Done → opens c i o → book.Told (keyOperations h) c i k → Loaded opens renews ((o, a) ∷ h) c k
+  just-loaded : (i : ℕ) → a ≡ Done → opens f c i o → book.Told (keyOperations h) c i k → Loaded opens renews ((o, a) ∷ h) f c k
   just-loaded i d p t =
       record {
         id = i;
@@ -78,32 +78,36 @@ pub record Holder : Type 1 where
   pub State : Type 0
   -- that of number n
   pub of : Device → ℕ → State
-  pub opens : ℕ → ℕ → ℕ → Operation → Type 0
+  pub opens : ℕ → ℕ → ℕ → ℕ → Operation → Type 0
   pub renews : ℕ → Operation → Bool
-  -- in use, and then under this cipher and key
+  -- in use, and then at this rate or of this kind, under this cipher and key
   pub stands : State → Type 0
+  pub fixed : State → ℕ
   pub cipher : State → ℕ
   pub key : State → List ℕ
 
 module _ (H : Holder) where
+  abbrev pub SameKey : H .State → H .State → Type 0
+  SameKey x y = H .stands x × (H .fixed x ≡ H .fixed y) × (H .cipher x ≡ H .cipher y) × (H .key x ≡ H .key y)
+
   -- y stands only where x does, with the same key
   abbrev pub KeepsKey : H .State → H .State → Type 0
-  KeepsKey x y = H .stands y → H .stands x × (H .cipher x ≡ H .cipher y) × (H .key x ≡ H .key y)
+  KeepsKey x y = H .stands y → SameKey x y
 
   module _ (n : ℕ) where
     -- how y came to hold its key, by an operation o on x, which is of number n, that was answered a, over the book b
     pub data Way (b : List ℕ) (o : Operation) (x : H .State) (a : Answer) (y : H .State) : Type 0 where
       -- it is the key that x held
-      stays : (isDone a && H .renews n o) ≡ false → H .stands x × (H .cipher x ≡ H .cipher y) × (H .key x ≡ H .key y) → Way b o x a y
+      stays : (isDone a && H .renews n o) ≡ false → SameKey x y → Way b o x a y
       -- it came out of the book
-      begins : (c i : ℕ) (k : List ℕ) → a ≡ Done → H .opens n c i o → readyKeyOf b c i ≡ (Done, k) → c ≡ H .cipher y → k ≡ H .key y → Way b o x a y
+      begins : (f c i : ℕ) (k : List ℕ) → a ≡ Done → H .opens n f c i o → readyKeyOf b c i ≡ (Done, k) → f ≡ H .fixed y → c ≡ H .cipher y → k ≡ H .key y → Way b o x a y
 
     -- if y stands
     abbrev pub Left : List ℕ → Operation → H .State → Answer → H .State → Type 0
     Left b o x a y = H .stands y → Way b o x a y
 
     abbrev pub Held : History → H .State → Type 0
-    Held h x = H .stands x → Loaded (H .opens n) (H .renews n) h (H .cipher x) (H .key x)
+    Held h x = H .stands x → Loaded (H .opens n) (H .renews n) h (H .fixed x) (H .cipher x) (H .key x)
 
     loaded-on : (os : List Operation) (o : Operation) (x y : H .State) → Held (history step os) x
         → Left (deviceAfter step os .book) o x (step (deviceAfter step os) o .0) y → Held (history step (o ∷ os)) y
@@ -113,9 +117,9 @@ module _ (H : Holder) where
         a : Answer
         a = step (deviceAfter step os) o .0
 
-        go : Way (deviceAfter step os .book) o x a y → Loaded (H .opens n) (H .renews n) ((o, a) ∷ history step os) (H .cipher y) (H .key y)
-        go (stays u (r, c, k)) = still-loaded (H .opens n) (H .renews n) (history step os) o a u (rw (c, k) at (held r))
-        go (begins c i k d p q e f) = rw (e, f) at (just-loaded (H .opens n) (H .renews n) (history step os) o a i d p (ready-told os c i k q))
+        go : Way (deviceAfter step os .book) o x a y → Loaded (H .opens n) (H .renews n) ((o, a) ∷ history step os) (H .fixed y) (H .cipher y) (H .key y)
+        go (stays u (r, f, c, k)) = still-loaded (H .opens n) (H .renews n) (history step os) o a u (rw (f, c, k) at (held r))
+        go (begins f c i k d p q g e l) = rw (g, e, l) at (just-loaded (H .opens n) (H .renews n) (history step os) o a i d p (ready-told os c i k q))
 
   -- so what stands holds a loaded key throughout, if nothing stands at first and every operation leaves a key in one of the ways
   pub always-loaded : ((n : ℕ) → H .stands (H .of atFirst n) → ⊥)
@@ -134,14 +138,14 @@ module _ (H : Holder) (n : ℕ) (b : List ℕ) (o : Operation) where
 
   -- where it does not renew and leaves x
   pub as-it-was : H .renews n o ≡ false → (x : H .State) (a : Answer) → Left H n b o x a x
-  as-it-was u x a s = stays (unrenewed u a) (s, refl, refl)
+  as-it-was u x a s = stays (unrenewed u a) (s, refl, refl, refl)
 
   -- where it may renew and x stays if it is refused
   pub renewing : (x after : H .State) (rs : Refusals) → neverDone rs ≡ true → (NoneHolds rs → Left H n b o x Done after)
       → Left H n b o x (outcome x rs after .0) (outcome x rs after .1)
   renewing x after rs never =
       by-refusals (λ r. Left H n b o x (r .0) (r .1)) x rs (Done, after)
-      (λ a m s. stays (ap (λ (t : Bool). t && H .renews n o) (among-not-done a rs never m)) (s, refl, refl))
+      (λ a m s. stays (ap (λ (t : Bool). t && H .renews n o) (among-not-done a rs never m)) (s, refl, refl, refl))
 
   -- where it does not renew and keeps the key of what it moves on
   pub keeping : {T : Type 0} (f : T → H .State) (before : T) (rs : Refusals) (last : Answer × T) → H .renews n o ≡ false

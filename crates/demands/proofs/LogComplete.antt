@@ -49,7 +49,7 @@ module _ (c : ℕ) where
 talk-brought : (t : Talk) (e : WayIn) → brought (noticesOf t e) ≡ arriving (slotsAfter t e)
 talk-brought t opening = opened (t .sessions)
   where
-    opened : (xs : List Session) → brought (noticesOf (record { cipher = t .cipher; key = t .key; sessions = xs }) opening) ≡ arriving (allSlots xs)
+    opened : (xs : List Session) → brought (noticesOf (record { cipher = t .cipher; rate = t .rate; key = t .key; sessions = xs }) opening) ≡ arriving (allSlots xs)
     opened [] = refl
     opened (x ∷ xs) = first-brought (t .cipher) true 0 (x ∷ xs)
 talk-brought t (joining n) = first-brought (t .cipher) false superframeSlots (drop n (t .sessions))
@@ -57,11 +57,11 @@ talk-brought t (joining n) = first-brought (t .cipher) false superframeSlots (dr
 -- ---- and what a receiver logs of them
 
 module _ (R : Receiver) (b : List ℕ) where
-  events-shown : (c i : ℕ) (s : R .State) (ns : List Notice) → shownIn (events R b c i s ns) ≡ brought ns
-  events-shown c i s [] = refl
-  events-shown c i s (n ∷ ns) = one n (events R b c i (event R b c i n s .1) ns) (events-shown c i (event R b c i n s .1) ns)
+  events-shown : (c i r : ℕ) (s : R .State) (ns : List Notice) → shownIn (events R b c i r s ns) ≡ brought ns
+  events-shown c i r s [] = refl
+  events-shown c i r s (n ∷ ns) = one n (events R b c i r (event R b c i r n s .1) ns) (events-shown c i r (event R b c i r n s .1) ns)
     where
-      one : (n : Notice) (es : List Event) → shownIn es ≡ brought ns → shownIn (event R b c i n s .0 ∷ es) ≡ brought (n ∷ ns)
+      one : (n : Notice) (es : List Event) → shownIn es ≡ brought ns → shownIn (event R b c i r n s .0 ∷ es) ≡ brought (n ∷ ns)
       one (hear v) es h = h
       one join es h = h
       one (announce v) es h = h
@@ -69,4 +69,4 @@ module _ (R : Receiver) (b : List ℕ) where
       one (voice reached x) es h = ap (λ (r : List Shown). (x .mask, (x .spoken, x .sent)) ∷ r) h
 
   pub log-complete : (i : ℕ) (t : Talk) (e : WayIn) → shownIn (talkLog R b i t e) ≡ arriving (slotsAfter t e)
-  log-complete i t e = events-shown (t .cipher) i (R .idle) (noticesOf t e) ∙ talk-brought t e
+  log-complete i t e = events-shown (t .cipher) i (t .rate) (R .idle) (noticesOf t e) ∙ talk-brought t e

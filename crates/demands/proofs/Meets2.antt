@@ -8,6 +8,7 @@ use Rattle.octets.specs.Bits.{bit, Octets}
 use Rattle.answers.specs.Numbers.{numberOf}
 use Rattle.generator.specs.Generator.{aesVector}
 use Rattle.ciphers.specs.Keystream.{usedBlock, feedback, stream}
+use Rattle.voice.specs.Call.{widthOf}
 use Rattle.voice.specs.Slot.{streamOf, voiceOf}
 use Rattle.voice.proofs.SlotLaws.{undone-stays}
 use Rattle.voice.proofs.VoiceBits.{speech-turned, rest-stays, whole-frame}
@@ -16,7 +17,9 @@ use Rattle.data.specs.Kinds.{protectedBits}
 use Rattle.data.specs.Message.{messageOf}
 use Rattle.data.proofs.PacketLaws.{open-kind}
 use Rattle.data.proofs.MessageBits as bits
-use Rattle.demands.specs.Demand2.{Keystreams, Demand2}
+use Rattle.demands.specs.Demand2.{Keystreams, VoiceBits, Demand2}
+use Rattle.demands.proofs.Layouts.{layout-is}
+use Rattle.demands.proofs.AirLaws.{frame-at}
 
 keystreams : Keystreams
 unfolding stream feedback usedBlock aesVector
@@ -37,12 +40,13 @@ ours-meets-2 =
     record {
       keystreams = keystreams;
       voice = λ call mask frame.
-          record {
+          subst (VoiceBits voiceOf call mask frame) (sym (layout-is (call .terms .rate)))
+          (record {
             turned = speech-turned call mask frame;
             stays = rest-stays call mask frame;
-            whole = whole-frame call mask frame;
+            whole = λ z. frame-at (widthOf (call .terms)) (whole-frame call mask frame z);
             as-it-came = λ n. undone-stays streamOf call mask frame (λ z. omega arith);
-          };
+          });
       messages = λ packet message.
           record {
             turned = bits.message-turned packet message;

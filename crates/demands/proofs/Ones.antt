@@ -1,10 +1,11 @@
--- Under the sample keys no session of any vector has zeros for the keystream of its first slot, or of its last: a block of zeros is followed
+-- Under the sample keys no session of any vector, at either rate, has zeros for the keystream of its first slot, or of its last: a block of zeros is followed
 -- by the encipherment of zeros, which has a 1.
 use mathlib.Core.Path.{_≡_, refl, sym, ap, _∙_}
 use mathlib.Core.Bool.{true}
 use mathlib.Core.Logic.{inl, inr}
 use mathlib.Core.List.{List}
 use Prim.Native.Nat.{ℕ, zero, suc, _+_, _-_, _*_, _/_, _%_, _≤_, _<_}
+use native.Mathlib.Nat.{div-add-mod, mod-lt, lt-of-mul-lt-mul-left}
 use native.Mathlib.Omega.{arith}
 use lib.ListN.{length, replicate, length-replicate}
 use Rattle.octets.specs.Tests.{allBelow}
@@ -26,11 +27,13 @@ use Rattle.ciphers.specs.Keystream.{usedBlock, feedback, stream}
 use Rattle.ciphers.proofs.Chained.{Wide, wide-bounds}
 use Rattle.sizes.proofs.Cases.{by-range}
 use Rattle.voice.specs.Frame.{inMask}
+use Rattle.demands.specs.Rates.{Layout, layout}
 use Rattle.demands.specs.Marked.{key0001}
 use Rattle.octets.proofs.Zeros.{zeros-octets, zeros-bit}
+use Rattle.demands.proofs.Layouts.{by-layout, layout-slot, layout-some, layout-least}
 use Rattle.demands.proofs.SampleKeys.{keyABCD, key1F, keyOf, key1F-octets}
 
--- ---- a slot that is left as it came has zeros for its keystream
+-- ---- a slot that is left as it came has zeros for its keystream: 196 bits of it, half rate's, are enough
 
 pub all-words : (w : ℕ) → w < 4 → inMask 15 w ≡ true
 unfolding allBelow
@@ -39,13 +42,15 @@ all-words w l = all-at (inMask 15) 4 w l refl
 unturned-bit : (a k : ℕ) → k < 2 → flip a k ≡ a → k ≡ 0
 unturned-bit a k l e = omega arith
 
-pub unturned : (ks : ℕ → ℕ) → Bits ks → (p : ℕ) (f : List ℕ)
-    → ((w j : ℕ) → w < 4 → j < 49 → flip (bit f (56 * w + j)) (ks (196 * p + 49 * w + j)) ≡ bit f (56 * w + j)) → (k : ℕ) → k < 196 → ks (196 * p + k) ≡ 0
-unturned ks b p f h k l =
-    let lw : k / 49 < 4 = omega arith in
-    let lj : k % 49 < 49 = omega arith in
-    let e : 196 * p + 49 * (k / 49) + k % 49 ≡ 196 * p + k = omega arith in
-    rw e at (unturned-bit (bit f (56 * (k / 49) + k % 49)) (ks (196 * p + 49 * (k / 49) + k % 49)) (b (196 * p + 49 * (k / 49) + k % 49)) (h (k / 49) (k % 49) lw lj))
+pub unturned : (r : ℕ) (ks : ℕ → ℕ) → Bits ks → (from : ℕ) (f : List ℕ)
+    → ((w j : ℕ) → w < 4 → j < layout r .speech → flip (bit f (layout r .bits * w + j)) (ks (from + layout r .speech * w + j)) ≡ bit f (layout r .bits * w + j))
+    → (k : ℕ) → k < 196 → ks (from + k) ≡ 0
+unturned r ks b from f h k l =
+    let s = layout r .speech in
+    let split = div-add-mod k s in
+    let lw : k / s < 4 = lt-of-mul-lt-mul-left s (omega (arith, layout-slot r, layout-least r)) in
+    let e : from + s * (k / s) + k % s ≡ from + k = omega arith in
+    rw e at (unturned-bit (bit f (layout r .bits * (k / s) + k % s)) (ks (from + s * (k / s) + k % s)) (b (from + s * (k / s) + k % s)) (h (k / s) (k % s) lw (mod-lt k (layout-some r))))
 
 -- ---- zeros enciphered: bit 1 is 1
 
@@ -101,10 +106,14 @@ module _ (E : List ℕ → List ℕ) (n : ℕ) (wide : Wide n) (x : List ℕ) wh
 
 -- ---- the first slot of a session, and the last
 
--- P0 and P589 are 1
-scramble-some : (v : List ℕ) → (stream 1 key0001 v 0 ≡ 0 → ⊥) × (stream 1 key0001 v 589 ≡ 0 → ⊥)
+-- P0, P589 and P865 are 1
+scramble-some : (v : List ℕ) → (stream 1 key0001 v 0 ≡ 0 → ⊥) × (stream 1 key0001 v 589 ≡ 0 → ⊥) × (stream 1 key0001 v 865 ≡ 0 → ⊥)
 unfolding stream P iterate stepped keyNumber
-scramble-some v = (λ e. let z : _≡_ {A = ℕ} 1 0 = e in omega arith, λ e. let z : _≡_ {A = ℕ} 1 0 = e in omega arith)
+scramble-some v = (
+  λ e. let z : _≡_ {A = ℕ} 1 0 = e in omega arith,
+  λ e. let z : _≡_ {A = ℕ} 1 0 = e in omega arith,
+  λ e. let z : _≡_ {A = ℕ} 1 0 = e in omega arith,
+)
 
 module _ (v : List ℕ) (o : Octets v) where
   abbrev pub Zeros : ℕ → ℕ → Type 0
@@ -127,7 +136,13 @@ module _ (v : List ℕ) (o : Octets v) where
   first-some =
       by-range (λ c. Zeros 0 c → ⊥) (λ z. scramble-some v .0 (z 0 (omega arith))) (des-some 0 0 (omega arith) (omega arith)) (aes-some 0 0 (omega arith) (omega arith))
 
-  pub last-some : (c : ℕ) → (1 ≤ c) × (c ≤ 3) → Zeros (196 * (sessionSlots c - 1)) c → ⊥
+  abbrev LastSome : Layout → Type 0
+  LastSome l = (c : ℕ) → (1 ≤ c) × (c ≤ 3) → Zeros (l .slot * (sessionSlots c - 1)) c → ⊥
+
+  pub last-some : (r : ℕ) → LastSome (layout r)
   last-some =
-      by-range (λ c. Zeros (196 * (sessionSlots c - 1)) c → ⊥) (λ z. scramble-some v .1 (z 1 (omega arith))) (des-some 1372 22 (omega arith) (omega arith))
-      (aes-some 1372 11 (omega arith) (omega arith))
+      by-layout LastSome
+      (by-range (λ c. Zeros (196 * (sessionSlots c - 1)) c → ⊥) (λ z. scramble-some v .1 (z 1 (omega arith)))
+      (des-some 1372 22 (omega arith) (omega arith)) (aes-some 1372 11 (omega arith) (omega arith)))
+      (by-range (λ c. Zeros (288 * (sessionSlots c - 1)) c → ⊥) (λ z. scramble-some v .2 (z 1 (omega arith)))
+      (des-some 2016 32 (omega arith) (omega arith)) (aes-some 2016 16 (omega arith) (omega arith)))

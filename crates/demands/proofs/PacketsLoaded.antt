@@ -30,6 +30,7 @@ thePackets =
       opens = OpensPacket;
       renews = renewsPacket;
       stands = λ p. p .kind ≡ 0 → ⊥;
+      fixed = λ p. p .kind;
       cipher = λ p. p .cipher;
       key = λ p. p .key;
     }
@@ -40,14 +41,14 @@ packet-left n b p (OpenPacket end kind c i w) =
     renewing thePackets n b (OfPacket n (OpenPacket end kind c i w)) p (opening.newPacket kind c w (keyFor b c i)) (opening.openRefusals p end kind c i w b)
     (vector-never (opening.isEnd end && isKind kind) (not (packet.goodPacket p)) (not (packet.isClosed p)) c i b w (eqb end opening.toSend))
     (λ h s.
-    begins c i (keyFor b c i) refl (by-opening end kind w)
-    (none-ready-vector (eqb end opening.toSend) (opening.isEnd end && isKind kind) (not (packet.goodPacket p)) (not (packet.isClosed p)) c i b w h) refl refl)
+    begins kind c i (keyFor b c i) refl (by-opening end w)
+    (none-ready-vector (eqb end opening.toSend) (opening.isEnd end && isKind kind) (not (packet.goodPacket p)) (not (packet.isClosed p)) c i b w h) refl refl refl)
 packet-left n b p (Message octets) =
     keeping thePackets n b (OfPacket n (Message octets)) (λ (r : Packet × List ℕ). r .0) (p, octets) (message.messageRefusals p octets)
-    (Done, (message.counted p, message.messageTurned p octets)) (and-false-r (eqb n n)) (λ s. (s, refl, refl))
+    (Done, (message.counted p, message.messageTurned p octets)) (and-false-r (eqb n n)) (λ s. (s, refl, refl, refl))
 packet-left n b p LostMessage =
     keeping thePackets n b (OfPacket n LostMessage) (λ (q : Packet). q) p (message.lostRefusals p) (Done, message.counted p) (and-false-r (eqb n n))
-    (λ s. (s, refl, refl))
+    (λ s. (s, refl, refl, refl))
 packet-left n b p EndPacket = renewing thePackets n b (OfPacket n EndPacket) p packet.noPacket (packet.endRefusals p) refl (λ h s. absurd (s refl))
 
 -- ---- the packets of a device

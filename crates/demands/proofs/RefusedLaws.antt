@@ -22,6 +22,8 @@ use Rattle.keybook.specs.Book.{bookOctets, goodBook, bookRefusals}
 use Rattle.keybook.specs.Operations.{beginRefusals, addRefusals, finishRefusals, eraseRefusals}
 use Rattle.keybook.specs.History as book
 use Rattle.sizes.specs.Ciphers.{vectorOctets}
+use Rattle.sizes.specs.Frame.{isRate}
+use Rattle.sizes.proofs.SizeLaws.{by-rate}
 use Rattle.openings.specs.Ladder as ladder
 use Rattle.voice.specs.declared.call.Call.{Call}
 use Rattle.voice.specs.Call.{sendingEnd, receivingEnd, unknownVector, goodCall, standing, knows, endRefusals}
@@ -29,7 +31,7 @@ use Rattle.voice.specs.Opening.{joinRefusals, begunRefusals}
 use Rattle.voice.specs.Slot.{lostRefusals, voiceRefusals, streamOf, voiceOf}
 use Rattle.voice.specs.Vector.{announceRefusals, following, nextRefusals, nextVectorOf}
 use Rattle.voice.proofs.CallLaws.{good-by, is-sender, or-receiver, knows-no}
-use Rattle.voice.proofs.SlotLaws.{undone-stays}
+use Rattle.voice.proofs.SlotLaws.{none-long, undone-stays}
 use Rattle.voice.proofs.Exactly.{done-exactly, held-exactly}
 use Rattle.data.specs.declared.packet.Packet.{Packet}
 use Rattle.data.specs.Kinds.{isKind, messageOctets}
@@ -40,6 +42,8 @@ use Rattle.data.specs.Message as message
 use Rattle.demands.specs.Device.{Device, CallOperation, Open, Start, Join, Voice, Lost, End, Announce, NextVector, callStep, lentCall, PacketOperation, OpenPacket, Message, LostMessage, EndPacket, packetStep, lentPacket, Operation, OfBook, OfCall, OfPacket, step, lent}
 use Rattle.demands.specs.Refusals.{keyRefusals, callRefusals, packetRefusals, refusalsOf}
 use Rattle.demands.specs.Demand1.{Keyed, RightBook, NotZeros, RightCall, RightPacket, RightInput, InTime, Unknown, slot}
+use Rattle.demands.specs.Rates.{Layout}
+use Rattle.demands.proofs.Layouts.{layout-is}
 use Rattle.demands.proofs.TimeLaws.{unrefused-in-time}
 use Rattle.demands.proofs.DeviceLaws.{book-settles, call-settles, packet-settles, unrefused-only}
 
@@ -77,12 +81,17 @@ sender-not-zeros : (c : ℕ) (w : List ℕ) → NoneHolds (ladder.zeroRefusals t
 unfolding ladder.zeroRefusals ladder.zeroFor
 sender-not-zeros c w n s = not-zeros w (sym (ap (λ (t : Bool). not t && allZero w) (ne-eqb c 1 s)) ∙ n .0)
 
+-- a rate that is asked for
+rate-range : (c i r : ℕ) → not (isRate r && inRange c i) ≡ false → r ≤ 1
+rate-range c i r n = by-rate (λ r. r ≤ 1) (omega arith) (omega arith) r (and-left (isRate r) (inRange c i) (not-false (isRate r && inRange c i) n))
+
 -- open and start
-begun-right : (end : ℕ) (b : List ℕ) (c : Call) (m i : ℕ) (w : List ℕ) → NoneHolds (begunRefusals end (standing c) m i w b)
-    → Keyed b m i × (length w ≡ 8) × (goodCall c ≡ true) × NoneHolds (ladder.zeroRefusals (eqb end sendingEnd) m w)
+begun-right : (end : ℕ) (b : List ℕ) (c : Call) (m i r : ℕ) (w : List ℕ) → NoneHolds (begunRefusals end (standing c) m i r w b)
+    → Keyed b m i × (r ≤ 1) × (length w ≡ 8) × (goodCall c ≡ true) × NoneHolds (ladder.zeroRefusals (eqb end sendingEnd) m w)
 unfolding begunRefusals ladder.vectorRefusals ladder.keyRefusals
-begun-right end b c m i w n = (
-  keyed b m i true (n .1 .0) (n .1 .1 .0) (n .1 .1 .1 .1 .1 .0),
+begun-right end b c m i r w n = (
+  keyed b m i (isRate r) (n .1 .0) (n .1 .1 .0) (n .1 .1 .1 .1 .1 .0),
+  rate-range m i r (n .1 .1 .0),
   sized (length w) vectorOctets (n .0),
   good-by c (n .1 .1 .1 .0),
   n .1 .1 .1 .1 .1 .1 .1 .1,
@@ -90,10 +99,14 @@ begun-right end b c m i w n = (
 
 call-right : (b : List ℕ) (c : Call) (o : CallOperation) → NoneHolds (callRefusals b c o) → RightCall b c o
 unfolding joinRefusals ladder.keyRefusals voiceRefusals lostRefusals endRefusals announceRefusals nextRefusals
-call-right b c (Open m i w) n = let r = begun-right receivingEnd b c m i w n in (r .0, r .1, r .2)
-call-right b c (Start m i w) n = let r = begun-right sendingEnd b c m i w n in (r .0, r .1, sender-not-zeros m w (r .3), r .2)
-call-right b c (Join m i) n = (keyed b m i true (n .0) (n .1 .0) (n .1 .1 .1 .1 .0), good-by c (n .1 .1 .0))
-call-right b c (Voice mask frame) n = (sized (length frame) 28 (n .0), ltb-false 15 mask (n .1 .0), good-by c (n .1 .1 .0))
+call-right b c (Open m i r w) n = let q = begun-right receivingEnd b c m i r w n in (q .0, q .1, q .2, q .3)
+call-right b c (Start m i r w) n = let q = begun-right sendingEnd b c m i r w n in (q .0, q .1, q .2, sender-not-zeros m w (q .4), q .3)
+call-right b c (Join m i r) n = (keyed b m i (isRate r) (n .0) (n .1 .0) (n .1 .1 .1 .1 .0), rate-range m i r (n .1 .0), good-by c (n .1 .1 .0))
+call-right b c (Voice mask frame) n = (
+  ltb-false 15 mask (n .0),
+  good-by c (n .1 .0),
+  none-long c mask frame n ∙ ap (λ (l : Layout). l .frame) (sym (layout-is (c .terms .rate))),
+)
 call-right b c Lost n = good-by c (n .0)
 call-right b c End n = good-by c (n .0)
 call-right b c (Announce w) n = (sized (length w) vectorOctets (n .0), good-by c (n .1 .0))
@@ -147,9 +160,9 @@ undone before after rs n = refusal-keeps before rs (Done, after) (λ e. n (ap nu
 
 call-untouched : (b : List ℕ) (c : Call) (o : CallOperation) → (numberOf (callStep b c o .0) ≡ 0 → ⊥) → callStep b c o .1 .1 ≡ lentCall o
 unfolding callStep nextVectorOf
-call-untouched b c (Open m i w) n = refl
-call-untouched b c (Start m i w) n = refl
-call-untouched b c (Join m i) n = refl
+call-untouched b c (Open m i r w) n = refl
+call-untouched b c (Start m i r w) n = refl
+call-untouched b c (Join m i r) n = refl
 call-untouched b c (Voice mask frame) n = undone-stays streamOf c mask frame n
 call-untouched b c Lost n = refl
 call-untouched b c End n = refl
@@ -182,9 +195,9 @@ slot-held c mask frame z =
 
 call-held : (d : Device) (n : ℕ) (o : CallOperation) → numberOf (callStep (d .book) (d .calls n) o .0) ≡ 1 → Unknown d (OfCall n o)
 unfolding callStep
-call-held d n (Open c i w) z = absurd (not-held (call-settles (d .book) (d .calls n) (Open c i w)) z)
-call-held d n (Start c i w) z = absurd (not-held (call-settles (d .book) (d .calls n) (Start c i w)) z)
-call-held d n (Join c i) z = absurd (not-held (call-settles (d .book) (d .calls n) (Join c i)) z)
+call-held d n (Open c i r w) z = absurd (not-held (call-settles (d .book) (d .calls n) (Open c i r w)) z)
+call-held d n (Start c i r w) z = absurd (not-held (call-settles (d .book) (d .calls n) (Start c i r w)) z)
+call-held d n (Join c i r) z = absurd (not-held (call-settles (d .book) (d .calls n) (Join c i r)) z)
 call-held d n (Voice mask frame) z = let h = slot-held (d .calls n) mask frame z in slot n mask frame (h .0) (h .1)
 call-held d n Lost z = absurd (not-held (call-settles (d .book) (d .calls n) Lost) z)
 call-held d n End z = absurd (not-held (call-settles (d .book) (d .calls n) End) z)

@@ -22,38 +22,40 @@ use Rattle.demands.proofs.SampleKeys.{keyOf, bookOfThree, has-key, key-
 abbrev noneArrive : List Bool
 noneArrive = false ∷ false ∷ false ∷ false ∷ false ∷ false ∷ false ∷ false ∷ []
 
--- with DES or AES
-module _ (c : ℕ) (r : (1 ≤ c) × (c ≤ 3)) (n : scrambles c ≡ false) where
+-- with DES or AES, at either rate
+module _ (c : ℕ) (r : (1 ≤ c) × (c ≤ 3)) (n : scrambles c ≡ false) (rt : ℕ) (lt : rt ≤ 1) where
   -- a session of which every slot is lost, and the announced start of the next, both of one vector
   abbrev fading : List ℕ → Talk
   fading v =
       record {
         cipher = c;
+        rate = rt;
         key = keyOf c;
         sessions =
-            record { vector = v; announced = true; slots = quiet (stream c (keyOf c) v) 0 noneArrive }
+            record { vector = v; announced = true; slots = quiet rt (stream c (keyOf c) v) 0 noneArrive }
             ∷ record { vector = v; announced = true; slots = [] } ∷ [];
       }
 
   fading-kept : (v : List ℕ) → length v ≡ 8 → Kept (fading v)
   fading-kept v l =
       record {
+        rate = lt;
         key = key-long c r;
-        each = (record { vector = l; slots = quiet-kept (stream c (keyOf c) v) 0 noneArrive }, (record { vector = l; slots = tt }, tt));
+        each = (record { vector = l; slots = quiet-kept rt (stream c (keyOf c) v) 0 noneArrive }, (record { vector = l; slots = tt }, tt));
         full = (sym (eight-slots c r n), omega arith);
       }
 
-  module _ (R : Receiver) (m : MeetsIn c R) where
+  module _ (R : Receiver) (m : MeetsIn c rt R) where
     right : (v : List ℕ) → length v ≡ 8 → (e : WayIn) → Each Right (talkLog R bookOfThree 0 (fading v) e)
-    right v l = m (fading v) refl (fading-kept v l) bookOfThree 0 (has-key c r)
+    right v l = m (fading v) refl refl (fading-kept v l) bookOfThree 0 (has-key c r)
 
     abbrev joined : R .State
-    joined = R .join c 0 bookOfThree (R .idle) .1
+    joined = R .join c 0 rt bookOfThree (R .idle) .1
 
     abbrev halfOn : R .State
     halfOn = R .lost (R .lost (R .lost (R .lost joined .1) .1) .1) .1
 
-    pub never-joined-fails : ((i : ℕ) (b : List ℕ) (s : R .State) → 1 ≤ numberOf (R .join c i b s .0)) → ⊥
+    pub never-joined-fails : ((i : ℕ) (b : List ℕ) (s : R .State) → 1 ≤ numberOf (R .join c i rt b s .0)) → ⊥
     never-joined-fails f = omega (arith, right seed refl (joining 0) .0, f 0 bookOfThree (R .idle))
 
     pub never-lost-fails : ((s : R .State) → 1 ≤ numberOf (R .lost s .0)) → ⊥
@@ -61,7 +63,7 @@ module _ (c : ℕ) (r : (1 ≤ c) × (c ≤ 3)) (n : scrambles c ≡ false) wher
 
     -- any one vector, zeros too
     module _ (v : List ℕ) (l : length v ≡ 8) where
-      pub never-heard-fails : ((i : ℕ) (b : List ℕ) (s : R .State) → 1 ≤ numberOf (R .hear c i v b s .0)) → ⊥
+      pub never-heard-fails : ((i : ℕ) (b : List ℕ) (s : R .State) → 1 ≤ numberOf (R .hear c i rt v b s .0)) → ⊥
       never-heard-fails f = omega (arith, right v l opening .0, f 0 bookOfThree (R .idle))
 
       pub never-announced-fails : ((s : R .State) → 1 ≤ numberOf (R .announce v s .0)) → ⊥

@@ -1,67 +1,90 @@
 -- Slots of silence and the seed of example 4, for the calls that show what is thrown out and what can be met.
-use mathlib.Core.Path.{_≡_, refl, ap}
+use mathlib.Core.Path.{_≡_, refl, ap, _∙_}
 use mathlib.Core.Bool.{Bool}
 use mathlib.Core.List.{List, [], _∷_}
-use Prim.Native.Nat.{ℕ, suc, _+_, _*_}
+use Prim.Native.Nat.{ℕ, suc, _+_, _*_, _<_}
 use native.Mathlib.Omega.{arith}
-use lib.ListN.{length, replicate}
-use Rattle.octets.proofs.Zeros.{octets-by, zeros-octets}
+use lib.ListN.{length, replicate, length-replicate}
+use Rattle.octets.specs.Bits.{bit}
+use Rattle.octets.proofs.TestLaws.{agree}
+use Rattle.octets.proofs.Zeros.{octets-by, zeros-octets, zeros-bit}
 use Rattle.octets.specs.Tests.{allBelow}
 use Rattle.octets.specs.Lists.{allZero}
 use Rattle.generator.specs.Generator.{IsVector}
-use Rattle.voice.specs.Frame.{IsFrame}
+use Rattle.sizes.specs.Frame.{width, frameOctets}
+use Rattle.voice.specs.Frame.{ofSlot}
 use Rattle.voice.proofs.FrameLaws.{protect-frame}
 use Rattle.openings.specs.Samples.{seed}
+use Rattle.demands.specs.Rates.{Layout, layout, FrameAt}
 use Rattle.demands.specs.Talk.{Slot, SlotKept, SlotsKept}
 use Rattle.demands.specs.OurSender.{StartVector}
 use Rattle.demands.specs.Others.{Sending, turning}
-use Rattle.demands.proofs.AirLaws.{protected-air}
+use Rattle.demands.proofs.Layouts.{layoutBy, layout-is, by-layout}
+use Rattle.demands.proofs.AirLaws.{frame-at, protected-air}
 
-abbrev pub silence : List ℕ
-silence = replicate 28 0
+-- frames of a rate: of zeros, and one in which every bit is 1
+abbrev pub silence : ℕ → List ℕ
+silence r = replicate (layout r .frame) 0
 
-pub silence-frame : IsFrame silence
-silence-frame = record { long = refl; octets = zeros-octets 28 }
+pub silence-frame : (r : ℕ) → FrameAt (layout r) (silence r)
+silence-frame r = record { long = length-replicate (layout r .frame) 0; octets = zeros-octets (layout r .frame) }
 
--- every bit is 1
-abbrev pub loud : List ℕ
-loud = replicate 28 255
+pub silent-long : (r : ℕ) → length (silence r) ≡ frameOctets (width r)
+silent-long r = silence-frame r .long ∙ ap (λ (l : Layout). l .frame) (layout-is r)
 
-pub loud-frame : IsFrame loud
+abbrev pub loud : ℕ → List ℕ
+loud r = replicate (layout r .frame) 255
+
+pub loud-frame : (r : ℕ) → FrameAt (layout r) (loud r)
 unfolding allBelow
-loud-frame = record { long = refl; octets = octets-by loud refl }
+loud-frame =
+    by-layout (λ l. FrameAt l (replicate (l .frame) 255)) (record { long = refl; octets = octets-by (replicate 28 255) refl })
+    (record { long = refl; octets = octets-by (replicate 36 255) refl })
+
+-- the first bit of each word
+pub first-bits : (r w : ℕ) → w < 4 → (bit (silence r) (layout r .bits * w + 0) ≡ 0) × (bit (loud r) (layout r .bits * w + 0) ≡ 1)
+unfolding allBelow
+first-bits r w l = (
+  zeros-bit (layout r .frame) (layout r .bits * w + 0),
+  by-layout (λ l. bit (replicate (l .frame) 255) (l .bits * w + 0) ≡ 1)
+      (agree (λ w. bit (replicate 28 255) (56 * w + 0)) (λ w. 1) 4 refl w l) (agree (λ w. bit (replicate 36 255) (72 * w + 0)) (λ w. 1) 4 refl w l) r,
+)
 
 -- slot p, of which every word is voice, as a sender sends it
-abbrev pub saying : Sending → List ℕ → (ℕ → ℕ) → ℕ → Bool → Slot
-saying send frame ks p arrived = record { mask = 15; spoken = frame; sent = send ks p 15 frame; arrived = arrived }
-
-pub saying-kept : (frame : List ℕ) → IsFrame frame → (ks : ℕ → ℕ) (p : ℕ) (arrived : Bool) → SlotKept ks p (saying turning frame ks p arrived)
-saying-kept frame f ks p arrived =
-    record {
-      mask = omega arith;
-      spoken = f;
-      sent = protect-frame (λ n. ks (196 * p + n)) 15 frame (f .long);
-      air = protected-air ks p (saying turning frame ks p arrived) (f .long) refl;
-    }
+abbrev pub saying : Sending → ℕ → List ℕ → (ℕ → ℕ) → ℕ → Bool → Slot
+saying send r frame ks p arrived = record { mask = 15; spoken = frame; sent = send r ks p 15 frame; arrived = arrived }
 
 -- a run of such slots that all say one frame, from slot p on: which of them arrive
-abbrev pub repeating : List ℕ → (ℕ → ℕ) → ℕ → List Bool → List Slot
-repeating frame ks p [] = []
-repeating frame ks p (a ∷ rest) = saying turning frame ks p a ∷ repeating frame ks (suc p) rest
+abbrev pub repeating : ℕ → List ℕ → (ℕ → ℕ) → ℕ → List Bool → List Slot
+repeating r frame ks p [] = []
+repeating r frame ks p (a ∷ rest) = saying turning r frame ks p a ∷ repeating r frame ks (suc p) rest
 
-pub repeating-kept : (frame : List ℕ) → IsFrame frame → (ks : ℕ → ℕ) (p : ℕ) (arriving : List Bool) → SlotsKept ks p (repeating frame ks p arriving)
-repeating-kept frame f ks p [] = tt
-repeating-kept frame f ks p (a ∷ rest) = (saying-kept frame f ks p a, repeating-kept frame f ks (suc p) rest)
+module _ (r : ℕ) (frame : List ℕ) (f : FrameAt (layout r) frame) (ks : ℕ → ℕ) where
+  pub saying-kept : (p : ℕ) (arrived : Bool) → SlotKept (layout r) ks p (saying turning r frame ks p arrived)
+  saying-kept p arrived =
+      let g : FrameAt (layoutBy (width r)) frame = rw (layout-is r) at f in
+      rw (layout-is r)
+      (record {
+        mask = omega arith;
+        spoken = g;
+        sent = frame-at (width r) (protect-frame (width r) (ofSlot (width r) ks p) 15 frame (g .long));
+        air = protected-air (width r) ks p (saying turning r frame ks p arrived) (g .long) refl;
+      })
 
-abbrev pub quiet : (ℕ → ℕ) → ℕ → List Bool → List Slot
-quiet = repeating silence
+  pub repeating-kept : (p : ℕ) (arriving : List Bool) → SlotsKept (layout r) ks p (repeating r frame ks p arriving)
+  repeating-kept p [] = tt
+  repeating-kept p (a ∷ rest) = (saying-kept p a, repeating-kept (suc p) rest)
 
-pub quiet-kept : (ks : ℕ → ℕ) (p : ℕ) (arriving : List Bool) → SlotsKept ks p (quiet ks p arriving)
-quiet-kept = repeating-kept silence silence-frame
+module _ (r : ℕ) (ks : ℕ → ℕ) where
+  abbrev pub quiet : ℕ → List Bool → List Slot
+  quiet = repeating r (silence r) ks
 
-pub quiet-long : (ks : ℕ → ℕ) (p : ℕ) (arriving : List Bool) → length (quiet ks p arriving) ≡ length arriving
-quiet-long ks p [] = refl
-quiet-long ks p (a ∷ rest) = ap suc (quiet-long ks (suc p) rest)
+  pub quiet-kept : (p : ℕ) (arriving : List Bool) → SlotsKept (layout r) ks p (quiet p arriving)
+  quiet-kept = repeating-kept r (silence r) (silence-frame r) ks
+
+  pub quiet-long : (p : ℕ) (arriving : List Bool) → length (quiet p arriving) ≡ length arriving
+  quiet-long p [] = refl
+  quiet-long p (a ∷ rest) = ap suc (quiet-long (suc p) rest)
 
 pub seed-vector : IsVector seed
 unfolding allBelow

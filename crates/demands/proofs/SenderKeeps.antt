@@ -15,6 +15,7 @@ use Rattle.generator.proofs.OwnNext.{own-next-zero}
 use Rattle.octets.specs.Tests.{pick}
 use Rattle.octets.specs.Lists.{allZero, Each}
 use Rattle.generator.specs.Generator.{IsVector, nextVector}
+use Rattle.sizes.specs.Frame.{isRate, width, frameOctets, slotBits}
 use Rattle.sizes.specs.Ciphers.{keyOctets, sessionSlots, noVector, scrambles}
 use Rattle.ciphers.specs.Keystream.{stream}
 use Rattle.answers.specs.declared.Answer.{Answer}
@@ -37,11 +38,13 @@ use Rattle.voice.proofs.OpeningGood.{sent-right}
 use Rattle.voice.proofs.Exactly.{next-given}
 use Rattle.voice.proofs.NeverZero.{Sends, zeros-vector, going-vector, voice-sends}
 use Rattle.voice.proofs.SlotSteps.{voice-at}
+use Rattle.demands.specs.Rates.{Layout, layout}
 use Rattle.demands.specs.Talk.{Slot, Session, SlotKept, SlotsKept, SessionKept, Full, slotCounts, Kept, HasKey, WayIn}
 use Rattle.demands.specs.Log.{talkLog}
 use Rattle.demands.specs.Demand3.{Right, ours}
 use Rattle.demands.specs.OurSender.{Said, Saying, slotsMade, afterwards, sessionsMade, talkMade, StartVector, SaidKept, AllSaid, Follows}
-use Rattle.demands.proofs.AirLaws.{protected-air}
+use Rattle.demands.proofs.Layouts.{layoutBy, layout-is, rate-is}
+use Rattle.demands.proofs.AirLaws.{frame-at, protected-air}
 use Rattle.demands.proofs.Standing.{pair-in-range, key-ranged, has-key-right, slots-some, closed-read, same-stream}
 use Rattle.demands.proofs.ReceiverMeets.{ours-meets-3}
 
@@ -69,12 +72,18 @@ going-next c v = go (scrambles c)
     go true = refl
     go false = refl
 
-module _ (b : List ℕ) (c i : ℕ) (key : List ℕ) (h : HasKey b c i key) (long : length key ≡ keyOctets c) where
+module _ (b : List ℕ) (c i : ℕ) (key : List ℕ) (h : HasKey b c i key) (long : length key ≡ keyOctets c) (rt : ℕ) (low : rt ≤ 1) where
   abbrev k : List ℕ
   k = keyFor b c i
 
   abbrev t : Terms
-  t = termsOf c k
+  t = termsOf c k rt
+
+  abbrev its : Layout
+  its = layoutBy (width rt)
+
+  rate : isRate rt ≡ true
+  rate = rate-is rt low
 
   -- after p slots of a session; after the last it is in the next one, with the next vector
   abbrev spot : List ℕ → ℕ → Call
@@ -93,38 +102,38 @@ module _ (b : List ℕ) (c i : ℕ) (key : List ℕ) (h : HasKey b c i key) (lon
   spot-read v kept p l =
       ap standing (spot-in v p l)
       ∙ read-written (sending t p v) refl
-      (good-sender t p (has-key-right b c i key h) l v (kept .right))
+      (good-sender t p (has-key-right b c i key h) rate l v (kept .right))
 
   -- ---- the slots of a session
 
   module _ (v : List ℕ) (sound : Sound c v) where
     abbrev out : ℕ → Said → List ℕ
-    out p x = protect (ofSlot (stream c k v) p) (x .mask) (x .spoken)
+    out p x = protect (width rt) (ofSlot (width rt) (stream c k v) p) (x .mask) (x .spoken)
 
-    spot-voice : (p : ℕ) → p < sessionSlots c → (x : Said) → SaidKept x → voiceOf (spot v p) (x .mask) (x .spoken) ≡ (Done, (spot v (p + 1), out p x))
+    spot-voice : (p : ℕ) → p < sessionSlots c → (x : Said) → SaidKept its x → voiceOf (spot v p) (x .mask) (x .spoken) ≡ (Done, (spot v (p + 1), out p x))
     unfolding slotOn
     spot-voice p l x s =
-        voice-at (spot v p) (x .mask) (x .spoken) (s .mask) (s .frame .long) (sending t p v) (spot-read v sound p l) refl
+        voice-at (spot v p) (x .mask) (x .spoken) (s .mask) (sending t p v) (s .frame .long) (spot-read v sound p l) refl
 
     abbrev made : ℕ → Said → List ℕ → Slot
     made p x f = record { mask = x .mask; spoken = x .spoken; sent = f; arrived = x .arrives }
 
-    slot-kept : (p : ℕ) (x : Said) → SaidKept x → SlotKept (stream c key v) p (made p x (out p x))
+    slot-kept : (p : ℕ) (x : Said) → SaidKept its x → SlotKept its (stream c key v) p (made p x (out p x))
     slot-kept p x s =
         record {
           mask = s .mask;
           spoken = s .frame;
-          sent = protect-frame (ofSlot (stream c k v) p) (x .mask) (x .spoken) (s .frame .long);
+          sent = frame-at (width rt) (protect-frame (width rt) (ofSlot (width rt) (stream c k v) p) (x .mask) (x .spoken) (s .frame .long));
           air =
-              protected-air (stream c key v) p (made p x (out p x)) (s .frame .long)
-              (protect-same (ofSlot (stream c k v) p) (ofSlot (stream c key v) p) (x .mask) (λ n r. same-stream b c i key h long v (196 * p + n)) (x .spoken));
+              protected-air (width rt) (stream c key v) p (made p x (out p x)) (s .frame .long)
+              (protect-same (width rt) (ofSlot (width rt) (stream c k v) p) (ofSlot (width rt) (stream c key v) p) (x .mask) (λ n r. same-stream b c i key h long v (slotBits (width rt) * p + n)) (x .spoken));
         }
 
-    slots-made : (p : ℕ) (xs : List Said) → p + length xs ≤ sessionSlots c → Each SaidKept xs → SlotsKept (stream c key v) p (slotsMade (spot v p) xs)
+    slots-made : (p : ℕ) (xs : List Said) → p + length xs ≤ sessionSlots c → Each (SaidKept its) xs → SlotsKept its (stream c key v) p (slotsMade (spot v p) xs)
     slots-made p [] l s = tt
     slots-made p (x ∷ xs) l s = rw (spot-voice p (omega arith) x (s .0), add-one) (slot-kept p x (s .0), slots-made (suc p) xs (omega arith) (s .1))
 
-    slots-after : (p : ℕ) (xs : List Said) → p + length xs ≤ sessionSlots c → Each SaidKept xs → afterwards (spot v p) xs ≡ spot v (p + length xs)
+    slots-after : (p : ℕ) (xs : List Said) → p + length xs ≤ sessionSlots c → Each (SaidKept its) xs → afterwards (spot v p) xs ≡ spot v (p + length xs)
     slots-after p [] l s = ap (spot v) (sym (add-zero p))
     slots-after p (x ∷ xs) l s =
         rw (spot-voice p (omega arith) x (s .0), add-one) (slots-after (suc p) xs (omega arith) (s .1) ∙ ap (spot v) (omega arith))
@@ -142,17 +151,17 @@ module _ (b : List ℕ) (c i : ℕ) (key : List ℕ) (h : HasKey b c i key) (lon
   abbrev from : List ℕ → Call
   from v = written (sending t 0 v)
 
-  session-made : (v : List ℕ) → Sound c v → (x : Saying) → length (x .slots) ≤ sessionSlots c → Each SaidKept (x .slots)
-      → SlotsKept (stream c key v) 0 (slotsMade (from v) (x .slots))
+  session-made : (v : List ℕ) → Sound c v → (x : Saying) → length (x .slots) ≤ sessionSlots c → Each (SaidKept its) (x .slots)
+      → SlotsKept its (stream c key v) 0 (slotsMade (from v) (x .slots))
   session-made v a x l s = rw (sym (spot-in v 0 some)) (slots-made v a 0 (x .slots) (omega arith) s)
 
-  session-after : (v : List ℕ) → Sound c v → (x : Saying) → length (x .slots) ≡ sessionSlots c → Each SaidKept (x .slots)
+  session-after : (v : List ℕ) → Sound c v → (x : Saying) → length (x .slots) ≡ sessionSlots c → Each (SaidKept its) (x .slots)
       → afterwards (from v) (x .slots) ≡ from (goingOn c v)
   session-after v a x l s =
       rw (sym (spot-in v 0 some)) (slots-after v a 0 (x .slots) (omega arith) s ∙ spot-end v (0 + length (x .slots)) (omega arith))
 
-  sessions-made : (v : List ℕ) → Sound c v → (xs : List Saying) → Each (λ x. Each SaidKept (x .slots)) xs → Full c (map (λ x. length (x .slots)) xs)
-      → Each (SessionKept c key) (sessionsMade (from v) xs)
+  sessions-made : (v : List ℕ) → Sound c v → (xs : List Saying) → Each (λ x. Each (SaidKept its) (x .slots)) xs → Full c (map (λ x. length (x .slots)) xs)
+      → Each (SessionKept its c key) (sessionsMade (from v) xs)
   sessions-made v a [] s f = tt
   sessions-made v a (x ∷ []) s f = (record { vector = a .vector .long; slots = session-made v a x f (s .0) }, tt)
   sessions-made v a (x ∷ y ∷ ys) s f =
@@ -161,7 +170,7 @@ module _ (b : List ℕ) (c i : ℕ) (key : List ℕ) (h : HasKey b c i key) (lon
         rw e (sessions-made (goingOn c v) (going-sound c v a) (y ∷ ys) (s .1) (f .1)),
       )
 
-  sessions-follow : (v : List ℕ) → Sound c (sessionVector c v) → (xs : List Saying) → Each (λ x. Each SaidKept (x .slots)) xs
+  sessions-follow : (v : List ℕ) → Sound c (sessionVector c v) → (xs : List Saying) → Each (λ x. Each (SaidKept its) (x .slots)) xs
       → Full c (map (λ x. length (x .slots)) xs) → Follows c v (sessionsMade (from (sessionVector c v)) xs)
   sessions-follow v a [] s f = tt
   sessions-follow v a (x ∷ []) s f = (refl, tt)
@@ -171,40 +180,44 @@ module _ (b : List ℕ) (c i : ℕ) (key : List ℕ) (h : HasKey b c i key) (lon
 
   -- what next vector writes at any slot of a session is the vector of the next one
   pub next-announced : (v : List ℕ) → Sound c v → scrambles c ≡ false → (p : ℕ) → p < sessionSlots c → (lent : List ℕ) → length lent ≡ 8
-      → (x : Saying) → length (x .slots) ≡ sessionSlots c → Each SaidKept (x .slots)
+      → (x : Saying) → length (x .slots) ≡ sessionSlots c → Each (SaidKept its) (x .slots)
       → nextVectorOf (written (sending t p v)) lent ≡ (Done, afterwards (from v) (x .slots) .vector)
   unfolding goingOn
   next-announced v a e p l lent h8 x f s =
       let g : goingOn c v ≡ nextVector v = rw e in
       next-given (written (sending t p v)) lent
-      (record { long = h8; good = good-sender t p (has-key-right b c i key h) l v (a .right); sends = refl; vectored = e })
+      (record { long = h8; good = good-sender t p (has-key-right b c i key h) rate l v (a .right); sends = refl; vectored = e })
       ∙ ap (λ (w : List ℕ). (Done, w)) (sym g)
       ∙ ap (λ (d : Call). (Done, d .vector)) (sym (session-after v a x f s))
 
   -- ---- from the start
 
-  started-at : (v : List ℕ) → StartVector c v → startOf noCall c i v b ≡ (Done, from (sessionVector c v))
+  started-at : (v : List ℕ) → StartVector c v → startOf noCall c i rt v b ≡ (Done, from (sessionVector c v))
   unfolding startOf begunRefusals vectorRefusals keyRefusals zeroRefusals
   started-at v s =
-      rw (closed-read, eq-eqb _ _ (s .vector .long), eq-eqb _ _ (good-sized b (h .good)), pair-in-range b c i key h, h .good, h .there, h .ready, not-zero-for c v (s .some))
+      rw (closed-read, eq-eqb _ _ (s .vector .long), eq-eqb _ _ (good-sized b (h .good)), rate, pair-in-range b c i key h, h .good, h .there, h .ready, not-zero-for c v (s .some))
 
-  pub ours-keeps : (v : List ℕ) → StartVector c v → (said : List Saying) → AllSaid c said → Kept (talkMade c key i v b said)
+  said-by : (said : List Saying) → Each (λ x. Each (SaidKept (layout rt)) (x .slots)) said → Each (λ x. Each (SaidKept its) (x .slots)) said
+  said-by said a = rw (layout-is rt) at a
+
+  pub ours-keeps : (v : List ℕ) → StartVector c v → (said : List Saying) → AllSaid c rt said → Kept (talkMade c key i rt v b said)
   ours-keeps v s said a =
       let e = ap (λ (r : Answer × Call). r .1) (started-at v s) in
       record {
+        rate = low;
         key = long;
-        each = rw e (sessions-made (sessionVector c v) (starts-sound c v s) said (a .each) (a .full));
-        full = rw (counts-made (startOf noCall c i v b .1) said) (a .full);
+        each = rw (e, layout-is rt) (sessions-made (sessionVector c v) (starts-sound c v s) said (said-by said (a .each)) (a .full));
+        full = rw (counts-made (startOf noCall c i rt v b .1) said) (a .full);
       }
 
-  pub ours-follows : (v : List ℕ) → StartVector c v → (said : List Saying) → AllSaid c said → Follows c v (talkMade c key i v b said .sessions)
+  pub ours-follows : (v : List ℕ) → StartVector c v → (said : List Saying) → AllSaid c rt said → Follows c v (talkMade c key i rt v b said .sessions)
   ours-follows v s said a =
       let e = ap (λ (r : Answer × Call). r .1) (started-at v s) in
-      rw e (sessions-follow v (starts-sound c v s) said (a .each) (a .full))
+      rw e (sessions-follow v (starts-sound c v s) said (said-by said (a .each)) (a .full))
 
   -- with DES or AES no vector is its own next, so a sender that uses one vector for every session is not ours
-  pub one-vector-not-ours : (v : List ℕ) → StartVector c v → scrambles c ≡ false → (said : List Saying) → AllSaid c said
-      → (x y : Session) (zs : List Session) → talkMade c key i v b said .sessions ≡ x ∷ y ∷ zs → x .vector ≡ y .vector → ⊥
+  pub one-vector-not-ours : (v : List ℕ) → StartVector c v → scrambles c ≡ false → (said : List Saying) → AllSaid c rt said
+      → (x y : Session) (zs : List Session) → talkMade c key i rt v b said .sessions ≡ x ∷ y ∷ zs → x .vector ≡ y .vector → ⊥
   one-vector-not-ours v s e said a x y zs made same =
       let f : Follows c v (x ∷ y ∷ zs) = rw made at (ours-follows v s said a) in
       let at : (u : List ℕ) → sessionVector c u ≡ u = λ u. ap (λ (t : Bool). pick t noVector u) e in
@@ -212,9 +225,9 @@ module _ (b : List ℕ) (c i : ℕ) (key : List ℕ) (h : HasKey b c i key) (lon
       true≢false (sym no-vector-zero ∙ sym (ap allZero zeros) ∙ s .some e)
 
   -- our sender to our receiver, whose book has the key under an ID of its own
-  pub ours-to-ours : (v : List ℕ) → StartVector c v → (said : List Saying) → AllSaid c said
-      → (b′ : List ℕ) (i′ : ℕ) → HasKey b′ c i′ key → (e : WayIn) → Each Right (talkLog ours b′ i′ (talkMade c key i v b said) e)
-  ours-to-ours v s said a = ours-meets-3 (talkMade c key i v b said) (ours-keeps v s said a)
+  pub ours-to-ours : (v : List ℕ) → StartVector c v → (said : List Saying) → AllSaid c rt said
+      → (b′ : List ℕ) (i′ : ℕ) → HasKey b′ c i′ key → (e : WayIn) → Each Right (talkLog ours b′ i′ (talkMade c key i rt v b said) e)
+  ours-to-ours v s said a = ours-meets-3 (talkMade c key i rt v b said) (ours-keeps v s said a)
 
   -- ---- whatever slots it was given, done or refused
 
@@ -224,24 +237,25 @@ module _ (b : List ℕ) (c i : ℕ) (key : List ℕ) (h : HasKey b c i key) (lon
 
   module _ (v : List ℕ) (s : StartVector c v) (said : List Said) where
     abbrev pub sender : Call
-    sender = afterwards (startOf noCall c i v b .1) said
+    sender = afterwards (startOf noCall c i rt v b .1) said
 
     still : Sends t sender
     still =
         let sound = starts-sound c v s in
         let first : Sends t (from (sessionVector c v)) =
         record {
-          good = good-sender t 0 (has-key-right b c i key h) some (sessionVector c v) (sound .right);
+          good = good-sender t 0 (has-key-right b c i key h) rate some (sessionVector c v) (sound .right);
           sends = refl;
           terms = refl;
           vector = λ e d. sound .vector;
         } in
         rw (started-at v s) (sends-after (from (sessionVector c v)) first said)
 
-    -- it never stops: a slot of 28 octets, its mask at most 15, is done
-    pub ours-never-refused : (mask : ℕ) (frame : List ℕ) → mask ≤ 15 → length frame ≡ 28 → voiceOf sender mask frame .0 ≡ Done
+    -- it never stops: a slot of 28 octets, or at full rate 36, its mask at most 15, is done
+    pub ours-never-refused : (mask : ℕ) (frame : List ℕ) → mask ≤ 15 → length frame ≡ layout rt .frame → voiceOf sender mask frame .0 ≡ Done
     ours-never-refused mask frame m l =
-        ap (λ (r : Answer × (Call × List ℕ)). r .0) (voice-at sender mask frame m l (sending (sender .terms) (sender .position) (sender .vector)) (is-sender sender (still .good) (still .sends)) refl)
+        let long-enough : length frame ≡ frameOctets (width (sender .terms .rate)) = rw (still .terms) (l ∙ ap (λ (x : Layout). x .frame) (layout-is rt)) in
+        ap (λ (r : Answer × (Call × List ℕ)). r .0) (voice-at sender mask frame m (sending (sender .terms) (sender .position) (sender .vector)) long-enough (is-sender sender (still .good) (still .sends)) refl)
 
     module _ (e : scrambles c ≡ false) where
       vectored : scrambles (sender .terms .cipher) ≡ false

@@ -32,18 +32,18 @@ right-slot r h = go (r .reached) refl
     go true e = h .handed e
     go false e = h .held e .0
 
-module _ (R : Receiver) (b : List ℕ) (c i : ℕ) where
-  right-event : (n : Notice) (s : R .State) → Right (event R b c i n s .0) → number (event R b c i n s .0) ≡ due n
+module _ (R : Receiver) (b : List ℕ) (c i r : ℕ) where
+  right-event : (n : Notice) (s : R .State) → Right (event R b c i r n s .0) → number (event R b c i r n s .0) ≡ due n
   right-event (hear v) s h = h
   right-event join s h = h
   right-event (announce v) s h = h
   right-event lost s h = h
   right-event (voice reached x) s h = right-slot _ h
 
-  right-events : (s : R .State) (ns : List Notice) → Each Right (events R b c i s ns) → answers (events R b c i s ns) ≡ map due ns
+  right-events : (s : R .State) (ns : List Notice) → Each Right (events R b c i r s ns) → answers (events R b c i r s ns) ≡ map due ns
   right-events s [] h = refl
-  right-events s (n ∷ ns) h = ap₂ _∷_ (right-event n s (h .0)) (right-events (event R b c i n s .1) ns (h .1))
+  right-events s (n ∷ ns) h = ap₂ _∷_ (right-event n s (h .0)) (right-events (event R b c i r n s .1) ns (h .1))
 
 pub answers-settled : (R : Receiver) → Meets3 R → (t : Talk) → Kept t → (b : List ℕ) (i : ℕ) → HasKey b (t .cipher) i (t .key) → (e : WayIn)
     → answers (talkLog R b i t e) ≡ map due (noticesOf t e)
-answers-settled R m t k b i h e = right-events R b (t .cipher) i (R .idle) (noticesOf t e) (m t k b i h e)
+answers-settled R m t k b i h e = right-events R b (t .cipher) i (t .rate) (R .idle) (noticesOf t e) (m t k b i h e)

@@ -17,13 +17,13 @@ use Rattle.sizes.specs.Ciphers.{keyOctets, sessionSlots, vectorOctets, noVector
 use Rattle.ciphers.specs.Keystream.{stream}
 use Rattle.keyentry.specs.Entry.{inRange}
 use Rattle.keybook.proofs.GoodLaws.{good-sized}
-use Rattle.sizes.specs.Frame.{frameOctets}
+use Rattle.sizes.specs.Frame.{isRate, width, frameOctets, slotBits}
 use Rattle.voice.specs.declared.call.Terms.{Terms}
 use Rattle.voice.specs.declared.call.Call.{Call}
 use Rattle.voice.specs.Frame.{ofSlot, protect}
 use Rattle.openings.specs.Ladder.{sessionVector, keyFor, keyRefusals, zeroRefusals, vectorRefusals}
 use Rattle.ciphers.specs.Keys.{keyRight}
-use Rattle.voice.specs.Call.{goodCall, Known, unknown, told, isKnown, untold, Standing, closed, receiving, standing, termsOf, noCall, written, isBad}
+use Rattle.voice.specs.Call.{goodCall, Known, unknown, told, isKnown, untold, Standing, closed, receiving, standing, termsOf, widthOf, noCall, written, isBad}
 use Rattle.voice.specs.Opening.{superframeSlots, joinRefusals, begunRefusals, openOf, joined, joinOf}
 use Rattle.voice.specs.Slot.{slotOn, lostOf, topMask, streamOf, inSlot, voiceOf}
 use Rattle.voice.specs.Vector.{announceRefusals, announceOf}
@@ -47,6 +47,10 @@ module _ (b : List ℕ) (c i : ℕ) (key : List ℕ) (h : HasKey b c i key) wher
 
   pub key-ranged : (1 ≤ c) × (c ≤ 3)
   key-ranged = keys.key-ranged c (keyFor b c i) has-key-right
+
+  -- and gives the keystream
+  pub same-stream : length key ≡ keyOctets c → (v : List ℕ) (n : ℕ) → stream c (keyFor b c i) v n ≡ stream c key v n
+  same-stream long v n = ap (λ (l : List ℕ). stream c l v n) (h .same) ∙ stream-rest c key-ranged key v long n
 
 -- ---- the sessions of a cipher
 
@@ -79,8 +83,8 @@ abbrev pub place : Terms → Known → ℕ → Standing
 place t k p = pick (ltb p (sessionSlots (t .cipher))) (receiving t p k) (fresh t)
 
 -- joining stands where a receiver is after a superframe: scramble's session is over
-joined-at : (k v : List ℕ) (c : ℕ) → (1 ≤ c) × (c ≤ 3) → joined (termsOf c k) ≡ place (termsOf c k) (knowing c (isReached c false) v) superframeSlots
-joined-at k v = by-range (λ c. joined (termsOf c k) ≡ place (termsOf c k) (knowing c (isReached c false) v) superframeSlots) refl refl refl
+joined-at : (k v : List ℕ) (r c : ℕ) → (1 ≤ c) × (c ≤ 3) → joined (termsOf c k r) ≡ place (termsOf c k r) (knowing c (isReached c false) v) superframeSlots
+joined-at k v r = by-range (λ c. joined (termsOf c k r) ≡ place (termsOf c k r) (knowing c (isReached c false) v) superframeSlots) refl refl refl
 
 module _ (t : Terms) (k : Known) where
   pub place-in : (p : ℕ) → p < sessionSlots (t .cipher) → place t k p ≡ receiving t p k
@@ -96,30 +100,27 @@ module _ (t : Terms) (k : Known) where
     unfolding slotOn
     place-lost = lost-at s (e ∙ place-in p l)
 
-    pub place-voice : (mask : ℕ) (frame : List ℕ) → mask ≤ topMask → length frame ≡ frameOctets
+    pub place-voice : (mask : ℕ) (frame : List ℕ) → mask ≤ topMask → length frame ≡ frameOctets (widthOf t)
         → voiceOf s mask frame
         ≡ (pick (isKnown k) Done Held, (written (place t k (p + 1)), pick (isKnown k) (inSlot streamOf mask frame (written (receiving t p k))) frame))
     unfolding slotOn
-    place-voice mask frame m f = voice-at s mask frame m f (receiving t p k) (e ∙ place-in p l) refl
+    place-voice mask frame m f = voice-at s mask frame m (receiving t p k) f (e ∙ place-in p l) refl
 
     pub place-on : standing (written (place t k (p + 1))) ≡ place t k (p + 1)
     unfolding slotOn
     place-on = slot-stands s (e ∙ place-in p l)
 
-module _ (b : List ℕ) (c i : ℕ) (key : List ℕ) (h : HasKey b c i key) where
+module _ (b : List ℕ) (c i : ℕ) (key : List ℕ) (h : HasKey b c i key) (r : ℕ) (rate : isRate r ≡ true) where
   abbrev t : Terms
-  t = termsOf c (keyFor b c i)
+  t = termsOf c (keyFor b c i) r
 
+  -- a slot is turned by the sender's key and vector
   module _ (long : length key ≡ keyOctets c) where
-    pub same-stream : (v : List ℕ) (n : ℕ) → stream c (keyFor b c i) v n ≡ stream c key v n
-    same-stream v n = ap (λ (l : List ℕ). stream c l v n) (h .same) ∙ stream-rest c (key-ranged b c i key h) key v long n
-
-    -- a slot is turned by the sender's key and vector
     pub same-slot : (v : List ℕ) (p mask : ℕ) (frame : List ℕ)
-        → inSlot streamOf mask frame (written (receiving t p (told (sessionVector c v)))) ≡ protect (ofSlot (stream c key v) p) mask frame
+        → inSlot streamOf mask frame (written (receiving t p (told (sessionVector c v)))) ≡ protect (width r) (ofSlot (width r) (stream c key v) p) mask frame
     same-slot v p mask frame =
-        protect-same (ofSlot (stream c (keyFor b c i) (sessionVector c v)) p) (ofSlot (stream c key v) p) mask
-        (λ n r. session-stream (keyFor b c i) v (196 * p + n) c (key-ranged b c i key h) ∙ same-stream v (196 * p + n)) frame
+        protect-same (width r) (ofSlot (width r) (stream c (keyFor b c i) (sessionVector c v)) p) (ofSlot (width r) (stream c key v) p) mask
+        (λ n l. session-stream (keyFor b c i) v (slotBits (width r) * p + n) c (key-ranged b c i key h) ∙ same-stream b c i key h long v (slotBits (width r) * p + n)) frame
 
   -- ---- how it comes in, and what it is told
 
@@ -130,21 +131,21 @@ module _ (b : List ℕ) (c i : ℕ) (key : List ℕ) (h : HasKey b c i key) wher
   stood : {o : Answer × Call} {s u : Standing} → o ≡ (Done, written s) → goodCall (o .1) ≡ true → isBad s ≡ false → s ≡ u → standing (written s) ≡ u
   stood e g n q = read-written _ n (sym (ap (λ (o : Answer × Call). goodCall (o .1)) e) ∙ g) ∙ q
 
-  pub place-opened : (v : List ℕ) → length v ≡ vectorOctets → openOf noCall c i v b ≡ (Done, written (receiving t 0 (told (sessionVector c v))))
+  pub place-opened : (v : List ℕ) → length v ≡ vectorOctets → openOf noCall c i r v b ≡ (Done, written (receiving t 0 (told (sessionVector c v))))
   unfolding openOf begunRefusals vectorRefusals keyRefusals zeroRefusals
   place-opened v l =
-      rw (closed-read, eq-eqb _ _ l, eq-eqb _ _ (good-sized b (h .good)), pair-in-range b c i key h, h .good, h .there, h .ready)
+      rw (closed-read, eq-eqb _ _ l, eq-eqb _ _ (good-sized b (h .good)), rate, pair-in-range b c i key h, h .good, h .there, h .ready)
 
   pub opened-stands : (v : List ℕ) → length v ≡ vectorOctets → standing (written (receiving t 0 (told (sessionVector c v)))) ≡ place t (knowing c true v) 0
   opened-stands v l =
-      stood (place-opened v l) (open-good noCall closed-good c i b v) refl (sym (place-in t (knowing c true v) 0 some))
+      stood (place-opened v l) (open-good noCall closed-good c i r b v) refl (sym (place-in t (knowing c true v) 0 some))
 
-  pub place-joined : joinOf noCall c i b ≡ (Done, written (joined t))
+  pub place-joined : joinOf noCall c i r b ≡ (Done, written (joined t))
   unfolding joinOf joinRefusals keyRefusals
-  place-joined = rw (closed-read, eq-eqb _ _ (good-sized b (h .good)), pair-in-range b c i key h, h .good, h .there, h .ready)
+  place-joined = rw (closed-read, eq-eqb _ _ (good-sized b (h .good)), rate, pair-in-range b c i key h, h .good, h .there, h .ready)
 
   pub joined-stands : (v : List ℕ) → standing (written (joined t)) ≡ place t (knowing c (isReached c false) v) superframeSlots
-  joined-stands v = stood place-joined (join-good noCall closed-good c i b) refl (joined-at (keyFor b c i) v c (key-ranged b c i key h))
+  joined-stands v = stood place-joined (join-good noCall closed-good c i r b) refl (joined-at (keyFor b c i) v r c (key-ranged b c i key h))
 
   module _ (s : Call) (e : standing s ≡ fresh t) (v : List ℕ) where
     -- as a session starts: told of its vector

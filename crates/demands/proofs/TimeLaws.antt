@@ -67,10 +67,10 @@ module _ (c : Call) (good : isBad (standing c) ≡ false) where
 
 call-time : (b : List ℕ) (c : Call) (o : CallOperation) → NoneHolds (callRefusals b c o) → TimeOfCall c o
 unfolding begunRefusals joinRefusals ladder.vectorRefusals ladder.keyRefusals voiceRefusals lostRefusals endRefusals announceRefusals nextRefusals
-call-time b c (Open m i w) n = closed-time c (n .1 .1 .1 .0) (n .1 .1 .1 .1 .0)
-call-time b c (Start m i w) n = closed-time c (n .1 .1 .1 .0) (n .1 .1 .1 .1 .0)
-call-time b c (Join m i) n = closed-time c (n .1 .1 .0) (n .1 .1 .1 .0)
-call-time b c (Voice mask frame) n = standing-time c (n .1 .1 .0) (n .1 .1 .1 .0)
+call-time b c (Open m i r w) n = closed-time c (n .1 .1 .1 .0) (n .1 .1 .1 .1 .0)
+call-time b c (Start m i r w) n = closed-time c (n .1 .1 .1 .0) (n .1 .1 .1 .1 .0)
+call-time b c (Join m i r) n = closed-time c (n .1 .1 .0) (n .1 .1 .1 .0)
+call-time b c (Voice mask frame) n = standing-time c (n .1 .0) (n .1 .1 .0)
 call-time b c Lost n = receiving-time c (n .0) (n .1 .0)
 call-time b c End n = standing-time c (n .0) (n .1 .0)
 call-time b c (Announce w) n = announce-time c (n .1 .0) (n .1 .1 .0)

@@ -9,17 +9,17 @@ use lib.Dec.{eqb}
 use lib.ListN.{length, replicate}
 use Rattle.answers.specs.declared.Answer.the-variants.{Done}
 use Rattle.answers.specs.Numbers.{numberOf, isDone, isOneOf, operationNumbers}
-use Rattle.ciphers.specs.Keystream.{stream}
 use Rattle.keybook.specs.Book.{goodBook}
 use Rattle.keybook.specs.History as book
 use Rattle.keybook.specs.History.{Told}
-use Rattle.voice.specs.Frame.{ofSlot, protect}
 use Rattle.voice.specs.declared.call.Call.{Call}
+use Rattle.voice.specs.Slot.{streamOf, inSlot}
 use Rattle.voice.specs.Call.{closedEnd, sendingEnd, receivingEnd, unknownVector, goodCall}
 use Rattle.data.specs.declared.packet.Packet.{Packet}
 use Rattle.data.specs.Kinds.{messageOctets}
 use Rattle.data.specs.Packet.{goodPacket}
 use Rattle.data.specs.Message.{messageTurned}
+use Rattle.demands.specs.Rates.{layout}
 use Rattle.demands.specs.Device.{Device, CallOperation, Open, Start, Join, Voice, Lost, End, Announce, NextVector, PacketOperation, OpenPacket, Message, LostMessage, EndPacket, Operation, OfBook, OfCall, OfPacket, Step, lent, History, deviceAfter, history, keyOperations}
 
 -- ---- what an operation has to be given, or it is refused: lengths, numbers, the book where it reads it, and what it is for
@@ -42,12 +42,12 @@ RightBook b (book.Erase c i) = Keyed b c i
 abbrev pub NotZeros : ℕ → List ℕ → Type 0
 NotZeros c w = (c ≡ 1 → ⊥) → w ≡ replicate 8 0 → ⊥
 
--- a vector has 8 octets, a frame 28, and a mask is at most 15
+-- a rate is 0 or 1, a vector has 8 octets, a mask is at most 15, and a frame has 28 octets, or at full rate 36
 abbrev pub RightCall : List ℕ → Call → CallOperation → Type 0
-RightCall b c (Open cipher i w) = Keyed b cipher i × (length w ≡ 8) × (goodCall c ≡ true)
-RightCall b c (Start cipher i w) = Keyed b cipher i × (length w ≡ 8) × NotZeros cipher w × (goodCall c ≡ true)
-RightCall b c (Join cipher i) = Keyed b cipher i × (goodCall c ≡ true)
-RightCall b c (Voice mask frame) = (length frame ≡ 28) × (mask ≤ 15) × (goodCall c ≡ true)
+RightCall b c (Open cipher i rate w) = Keyed b cipher i × (rate ≤ 1) × (length w ≡ 8) × (goodCall c ≡ true)
+RightCall b c (Start cipher i rate w) = Keyed b cipher i × (rate ≤ 1) × (length w ≡ 8) × NotZeros cipher w × (goodCall c ≡ true)
+RightCall b c (Join cipher i rate) = Keyed b cipher i × (rate ≤ 1) × (goodCall c ≡ true)
+RightCall b c (Voice mask frame) = (mask ≤ 15) × (goodCall c ≡ true) × (length frame ≡ layout (c .terms .rate) .frame)
 RightCall b c Lost = goodCall c ≡ true
 RightCall b c End = goodCall c ≡ true
 RightCall b c (Announce w) = (length w ≡ 8) × (goodCall c ≡ true)
@@ -71,9 +71,9 @@ RightInput d (OfPacket n o) = RightPacket (d .book) (d .packets n) o
 -- open, join and start while no call stands, the others while one does; a lost slot and announce are a receiver's, and announce is right only for DES or
 -- AES at position 0 with the vector unknown; next vector is a sender's, for DES or AES
 abbrev pub TimeOfCall : Call → CallOperation → Type 0
-TimeOfCall c (Open cipher i w) = c .end ≡ closedEnd
-TimeOfCall c (Start cipher i w) = c .end ≡ closedEnd
-TimeOfCall c (Join cipher i) = c .end ≡ closedEnd
+TimeOfCall c (Open cipher i rate w) = c .end ≡ closedEnd
+TimeOfCall c (Start cipher i rate w) = c .end ≡ closedEnd
+TimeOfCall c (Join cipher i rate) = c .end ≡ closedEnd
 TimeOfCall c (Voice mask frame) = c .end ≡ closedEnd → ⊥
 TimeOfCall c Lost = c .end ≡ receivingEnd
 TimeOfCall c End = c .end ≡ closedEnd → ⊥
@@ -115,20 +115,20 @@ pub data Unknown (d : Device) : Operation → Type 0 where
 
 -- ---- which key it is
 
--- the operation opens call n, or packet n, with cipher c and key ID i
-pub data OpensCall (n c i : ℕ) : Operation → Type 0 where
-  by-open : (w : List ℕ) → OpensCall n c i (OfCall n (Open c i w))
-  by-start : (w : List ℕ) → OpensCall n c i (OfCall n (Start c i w))
-  by-join : OpensCall n c i (OfCall n (Join c i))
+-- the operation opens call n at rate r, or packet n for a kind, with cipher c and key ID i
+pub data OpensCall (n r c i : ℕ) : Operation → Type 0 where
+  by-open : (w : List ℕ) → OpensCall n r c i (OfCall n (Open c i r w))
+  by-start : (w : List ℕ) → OpensCall n r c i (OfCall n (Start c i r w))
+  by-join : OpensCall n r c i (OfCall n (Join c i r))
 
-pub data OpensPacket (n c i : ℕ) : Operation → Type 0 where
-  by-opening : (end kind : ℕ) (w : List ℕ) → OpensPacket n c i (OfPacket n (OpenPacket end kind c i w))
+pub data OpensPacket (n kind c i : ℕ) : Operation → Type 0 where
+  by-opening : (end : ℕ) (w : List ℕ) → OpensPacket n kind c i (OfPacket n (OpenPacket end kind c i w))
 
 -- it opens or ends call n, or packet n
 abbrev pub opensOrEnds : CallOperation → Bool
-opensOrEnds (Open c i w) = true
-opensOrEnds (Start c i w) = true
-opensOrEnds (Join c i) = true
+opensOrEnds (Open c i r w) = true
+opensOrEnds (Start c i r w) = true
+opensOrEnds (Join c i r) = true
 opensOrEnds (Voice mask frame) = false
 opensOrEnds Lost = false
 opensOrEnds End = true
@@ -156,28 +156,28 @@ abbrev pub NoneDone : (Operation → Bool) → History → Type 0
 NoneDone renews [] = Unit {0}
 NoneDone renews (h ∷ hs) = ((isDone (h .1) && renews (h .0)) ≡ false) × NoneDone renews hs
 
--- the history has an opening that was done, by cipher c and some key ID, and that still stands; when it was done, the key operations told of key k: exactly
+-- the history has an opening that was done, for a call's rate or a packet's kind f, by cipher c and some key ID, and that still stands; when it was done, the key operations told of key k: exactly
 -- the octets that were added to that cipher and key ID since the begin that took its entry, in order, as many as the cipher's key length, allowed, and
 -- a finish was done. What key operations came since does not matter
-pub record Loaded (opens : ℕ → ℕ → Operation → Type 0) (renews : Operation → Bool) (h : History) (c : ℕ) (k : List ℕ) : Type 0 where
+pub record Loaded (opens : ℕ → ℕ → ℕ → Operation → Type 0) (renews : Operation → Bool) (h : History) (f c : ℕ) (k : List ℕ) : Type 0 where
   pub id : ℕ
   pub opening : Operation
   pub since : History
   pub before : History
   pub is-history : h ≡ since ++ ((opening, Done) ∷ before)
-  pub opens-it : opens c id opening
+  pub opens-it : opens f c id opening
   pub still-stands : NoneDone renews since
   pub told : Told (keyOperations before) c id k
 
--- a word: the frame after a slot that was done is turned by the keystream of the call as it stood, and its key was loaded
+-- a word: the frame after a slot that was done is turned by the keystream of the call as it stood, and its key was loaded, for its rate
 pub record WordsTurned (h : History) (n : ℕ) (c : Call) (mask : ℕ) (frame after : List ℕ) : Type 0 where
-  pub turned : after ≡ protect (ofSlot (stream (c .terms .cipher) (c .terms .key) (c .vector)) (c .position)) mask frame
-  pub loaded : Loaded (OpensCall n) (renewsCall n) h (c .terms .cipher) (c .terms .key)
+  pub turned : after ≡ inSlot streamOf mask frame c
+  pub loaded : Loaded (OpensCall n) (renewsCall n) h (c .terms .rate) (c .terms .cipher) (c .terms .key)
 
--- a message
+-- a message, and its packet's kind
 pub record MessageTurned (h : History) (n : ℕ) (p : Packet) (message after : List ℕ) : Type 0 where
   pub turned : after ≡ messageTurned p message
-  pub loaded : Loaded (OpensPacket n) (renewsPacket n) h (p .cipher) (p .key)
+  pub loaded : Loaded (OpensPacket n) (renewsPacket n) h (p .kind) (p .cipher) (p .key)
 
 -- ---- the demand
 

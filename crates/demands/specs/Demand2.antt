@@ -16,9 +16,10 @@ use Rattle.ciphers.specs.Keystream.{stream}
 use Rattle.answers.specs.declared.Answer.{Answer}
 use Rattle.answers.specs.Numbers.{numberOf}
 use Rattle.voice.specs.declared.call.Call.{Call}
-use Rattle.voice.specs.Frame.{IsFrame, inMask}
+use Rattle.voice.specs.Frame.{inMask}
 use Rattle.data.specs.declared.packet.Packet.{Packet}
 use Rattle.data.specs.Kinds.{protectedBits}
+use Rattle.demands.specs.Rates.{Layout, layout, FrameAt}
 
 -- bit n of a session: the sequence P for scramble; output feedback for DES over the vector and for AES over the vector and L of it, where each block is the
 -- encipherment of the one before, the first is not used, and bits are taken most significant first
@@ -39,15 +40,17 @@ module _ (voice : OnSlot) (call : Call) (mask : ℕ) (frame : List ℕ) where
   abbrev frameAfter : List ℕ
   frameAfter = voice call mask frame .1 .1
 
-  pub record VoiceBits : Type 0 where
-    -- done: a speech bit of a word in the mask is turned by keystream bit 196 p + 49 w + j
-    pub turned : numberOf (voice call mask frame .0) ≡ 0 → (w j : ℕ) → w < 4 → j < 49 → inMask mask w ≡ true
-        → bit frameAfter (56 * w + j) ≡ flip (bit frame (56 * w + j)) (stream (call .terms .cipher) (call .terms .key) (call .vector) (196 * call .position + 49 * w + j))
-    -- the last seven bits of a word, and words not in the mask, stay as they came
-    pub stays : numberOf (voice call mask frame .0) ≡ 0 → (w j : ℕ) → w < 4 → j < 56 → ((49 ≤ j) ⊎ (inMask mask w ≡ false))
-        → bit frameAfter (56 * w + j) ≡ bit frame (56 * w + j)
-    -- it is 28 octets, so that its bits are all of it
-    pub whole : numberOf (voice call mask frame .0) ≡ 0 → IsFrame frameAfter
+  -- by the numbers of the call's rate
+  pub record VoiceBits (l : Layout) : Type 0 where
+    -- done: a speech bit of a word in the mask is turned by keystream bit 196 p + 49 w + j, or at full rate 288 p + 72 w + j
+    pub turned : numberOf (voice call mask frame .0) ≡ 0 → (w j : ℕ) → w < 4 → j < l .speech → inMask mask w ≡ true
+        → bit frameAfter (l .bits * w + j)
+        ≡ flip (bit frame (l .bits * w + j)) (stream (call .terms .cipher) (call .terms .key) (call .vector) (l .slot * call .position + l .speech * w + j))
+    -- the spare bits of a word, and words not in the mask, stay as they came
+    pub stays : numberOf (voice call mask frame .0) ≡ 0 → (w j : ℕ) → w < 4 → j < l .bits → ((l .speech ≤ j) ⊎ (inMask mask w ≡ false))
+        → bit frameAfter (l .bits * w + j) ≡ bit frame (l .bits * w + j)
+    -- it is 28 octets, or 36, so that its bits are all of it
+    pub whole : numberOf (voice call mask frame .0) ≡ 0 → FrameAt l frameAfter
     -- not done, held or refused: the whole frame
     pub as-it-came : 1 ≤ numberOf (voice call mask frame .0) → frameAfter ≡ frame
 
@@ -70,5 +73,5 @@ module _ (send : OnMessage) (packet : Packet) (message : List ℕ) where
 
 pub record Demand2 (onSlot : OnSlot) (onMessage : OnMessage) : Type 0 where
   pub keystreams : Keystreams
-  pub voice : (call : Call) (mask : ℕ) (frame : List ℕ) → VoiceBits onSlot call mask frame
+  pub voice : (call : Call) (mask : ℕ) (frame : List ℕ) → VoiceBits onSlot call mask frame (layout (call .terms .rate))
   pub messages : (packet : Packet) (message : List ℕ) → DataBits onMessage packet message

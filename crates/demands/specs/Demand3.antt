@@ -5,18 +5,20 @@ use mathlib.Core.Bool.{true, false}
 use Prim.Native.Nat.{ℕ, _<_}
 use Rattle.answers.specs.Numbers.{numberOf}
 use Rattle.voice.specs.declared.call.Call.{Call}
-use Rattle.voice.specs.Frame.{word, inMask}
+use Rattle.voice.specs.Frame.{inMask}
 use Rattle.voice.specs.Call.{noCall}
 use Rattle.voice.specs.Opening.{openOf, joinOf}
 use Rattle.voice.specs.Slot.{lostOf, voiceOf}
 use Rattle.voice.specs.Vector.{announceOf}
 use Rattle.octets.specs.Lists.{Each}
+use Rattle.demands.specs.Rates.{layout, wordAt}
 use Rattle.demands.specs.Talk.{Talk, WayIn, Kept, HasKey}
 use Rattle.demands.specs.Log.{Receiver, Report, Event, answered, arrived, talkLog}
 
 pub record RightSlot (r : Report) : Type 0 where
   -- every word handed out as opened is the word the sender spoke, whole
-  pub opened : numberOf (r .answer) ≡ 0 → (w : ℕ) → w < 4 → inMask (r .mask) w ≡ true → word w (r .frame) ≡ word w (r .spoken)
+  pub opened : numberOf (r .answer) ≡ 0 → (w : ℕ) → w < 4 → inMask (r .mask) w ≡ true
+      → wordAt (layout (r .rate)) w (r .frame) ≡ wordAt (layout (r .rate)) w (r .spoken)
   -- each word that arrives in a session whose vector reached the receiver is handed out
   pub handed : r .reached ≡ true → numberOf (r .answer) ≡ 0
   -- each word that arrives in another session is held as it came
@@ -27,7 +29,7 @@ abbrev pub Right : Event → Type 0
 Right (answered a) = numberOf a ≡ 0
 Right (arrived r) = RightSlot r
 
--- one call of a sender that keeps the rules, a receiver with the same key, and either way in
+-- one call of a sender that keeps the rules, a receiver with the same key and at the same rate, and either way in
 abbrev pub MeetsTalk : Receiver → Talk → Type 0
 MeetsTalk R t = Kept t → (b : List ℕ) (i : ℕ) → HasKey b (t .cipher) i (t .key) → (e : WayIn) → Each Right (talkLog R b i t e)
 
@@ -39,8 +41,8 @@ ours =
     record {
       State = Call;
       idle = noCall;
-      hear = λ c i v b s. openOf s c i v b;
-      join = λ c i b s. joinOf s c i b;
+      hear = λ c i rate v b s. openOf s c i rate v b;
+      join = λ c i rate b s. joinOf s c i rate b;
       voice = λ mask frame s. voiceOf s mask frame;
       lost = lostOf;
       announce = λ v s. announceOf s v;

@@ -1,4 +1,5 @@
 pub mod Marked
+pub mod Rates
 pub mod Talk
 pub mod Notices
 pub mod Log
@@ -11,3 +12,4 @@ pub mod Refusals
 pub mod Demand1
 pub mod OtherDevices
 pub mod Demand2
+pub mod SessionEnds

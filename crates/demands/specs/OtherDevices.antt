@@ -9,13 +9,12 @@ use Rattle.answers.specs.declared.Answer.{Answer}
 use Rattle.answers.specs.declared.Answer.the-variants.{Done, Held, NotReady, NotNow}
 use Rattle.answers.specs.Numbers.{numberOf}
 use Rattle.answers.specs.Outcomes.{Refusals, outcome}
-use Rattle.ciphers.specs.Keystream.{stream}
 use Rattle.keybook.specs.Book.{bookOctets, goodBook}
 use Rattle.openings.specs.Ladder.{sessionVector, keyFor}
 use Rattle.voice.specs.declared.call.Call.{Call}
 use Rattle.voice.specs.Call.{sendingEnd, receivingEnd, standing, termsOf, noCall, written}
-use Rattle.voice.specs.Frame.{ofSlot, protect}
 use Rattle.voice.specs.Opening.{begun, joined}
+use Rattle.voice.specs.Slot.{streamOf, inSlot}
 use Rattle.voice.specs.Vector.{withVector}
 use Rattle.demands.specs.Device.{withNone, Device, CallOperation, Open, Start, Join, Voice, Lost, End, Announce, NextVector, callStep, Operation, OfBook, OfCall, OfPacket, withCall, Step, step, lent}
 use Rattle.demands.specs.Refusals.{callRefusals}
@@ -30,10 +29,10 @@ noisy d o = let r = step d o in (r .0, (r .1 .0, pick (eqb (numberOf (r .0)) 1) 
 
 -- ours, but a slot whose vector is unknown is answered 0 and turned all the same, by the zeros that stand in the vector's place
 abbrev turnedAt : Call → CallOperation → List ℕ
-turnedAt c (Open cipher i w) = []
-turnedAt c (Start cipher i w) = []
-turnedAt c (Join cipher i) = []
-turnedAt c (Voice mask frame) = protect (ofSlot (stream (c .terms .cipher) (c .terms .key) (c .vector)) (c .position)) mask frame
+turnedAt c (Open cipher i rate w) = []
+turnedAt c (Start cipher i rate w) = []
+turnedAt c (Join cipher i rate) = []
+turnedAt c (Voice mask frame) = inSlot streamOf mask frame c
 turnedAt c Lost = []
 turnedAt c End = []
 turnedAt c (Announce w) = []
@@ -94,9 +93,9 @@ module _ (isHasty : CallOperation → Bool) where
   hastily b c o after = withNone (outcome c (pick (isHasty o) (unasked (numberOf NotReady) (callRefusals b c o)) (callRefusals b c o)) after)
 
   abbrev pub hastyCall : List ℕ → Call → CallOperation → Answer × (Call × List ℕ)
-  hastyCall b c (Open cipher i w) = hastily b c (Open cipher i w) (written (begun receivingEnd (termsOf cipher (keyFor b cipher i)) (sessionVector cipher w)))
-  hastyCall b c (Start cipher i w) = hastily b c (Start cipher i w) (written (begun sendingEnd (termsOf cipher (keyFor b cipher i)) (sessionVector cipher w)))
-  hastyCall b c (Join cipher i) = hastily b c (Join cipher i) (written (joined (termsOf cipher (keyFor b cipher i))))
+  hastyCall b c (Open cipher i rate w) = hastily b c (Open cipher i rate w) (written (begun receivingEnd (termsOf cipher (keyFor b cipher i) rate) (sessionVector cipher w)))
+  hastyCall b c (Start cipher i rate w) = hastily b c (Start cipher i rate w) (written (begun sendingEnd (termsOf cipher (keyFor b cipher i) rate) (sessionVector cipher w)))
+  hastyCall b c (Join cipher i rate) = hastily b c (Join cipher i rate) (written (joined (termsOf cipher (keyFor b cipher i) rate)))
   hastyCall b c (Voice mask frame) = callStep b c (Voice mask frame)
   hastyCall b c Lost = callStep b c Lost
   hastyCall b c End = callStep b c End
@@ -108,9 +107,9 @@ module _ (isHasty : CallOperation → Bool) where
 
 -- version three applied an announced vector at once: it does not ask whether it is the time for one
 abbrev eagerCall : List ℕ → Call → CallOperation → Answer × (Call × List ℕ)
-eagerCall b c (Open cipher i w) = callStep b c (Open cipher i w)
-eagerCall b c (Start cipher i w) = callStep b c (Start cipher i w)
-eagerCall b c (Join cipher i) = callStep b c (Join cipher i)
+eagerCall b c (Open cipher i rate w) = callStep b c (Open cipher i rate w)
+eagerCall b c (Start cipher i rate w) = callStep b c (Start cipher i rate w)
+eagerCall b c (Join cipher i rate) = callStep b c (Join cipher i rate)
 eagerCall b c (Voice mask frame) = callStep b c (Voice mask frame)
 eagerCall b c Lost = callStep b c Lost
 eagerCall b c End = callStep b c End

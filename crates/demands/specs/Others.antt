@@ -11,26 +11,27 @@ use Rattle.answers.specs.declared.Answer.{Answer}
 use Rattle.answers.specs.Numbers.{numberOf}
 use Rattle.sizes.specs.Ciphers.{sessionSlots}
 use Rattle.voice.specs.declared.call.Call.{Call}
-use Rattle.sizes.specs.Frame.{speechBits}
+use Rattle.sizes.specs.Frame.{width}
 use Rattle.voice.specs.Frame.{inMask, ofSlot, protect}
 use Rattle.voice.specs.Call.{noCall}
 use Rattle.voice.specs.Opening.{openOf}
 use Rattle.voice.specs.Slot.{lostOf, voiceOf}
 use Rattle.voice.specs.Vector.{announceOf}
 use Rattle.demands.specs.Demand2.{OnSlot}
+use Rattle.demands.specs.Rates.{Layout, layout}
 use Rattle.demands.specs.Talk.{Talk}
 use Rattle.demands.specs.Log.{Receiver}
 use Rattle.demands.specs.Demand3.{MeetsTalk}
 
 -- two frames have the same speech, spare bits and other words aside
-abbrev pub SameSpeech : ℕ → List ℕ → List ℕ → Type 0
-SameSpeech mask f g = (w j : ℕ) → w < 4 → j < 49 → inMask mask w ≡ true → bit f (56 * w + j) ≡ bit g (56 * w + j)
+abbrev pub SameSpeech : Layout → ℕ → List ℕ → List ℕ → Type 0
+SameSpeech l mask f g = (w j : ℕ) → w < 4 → j < l .speech → inMask mask w ≡ true → bit f (l .bits * w + j) ≡ bit g (l .bits * w + j)
 
 -- ---- a slot operation that, at a call and a mask, answers 0 wherever ours does, and whose speech is that of `out` of what came
 
 abbrev pub Leaving : OnSlot → Call → ℕ → (List ℕ → List ℕ) → Type 0
 Leaving voice call mask out = (frame : List ℕ) → numberOf (voiceOf call mask frame .0) ≡ 0
-    → (numberOf (voice call mask frame .0) ≡ 0) × SameSpeech mask (voice call mask frame .1 .1) (out frame)
+    → (numberOf (voice call mask frame .0) ≡ 0) × SameSpeech (layout (call .terms .rate)) mask (voice call mask frame .1 .1) (out frame)
 
 -- whatever came, one frame
 abbrev pub Fixed : OnSlot → Call → ℕ → List ℕ → Type 0
@@ -52,15 +53,15 @@ onlyMoves n call mask frame =
     let o = voiceOf call mask frame in
     pick (ltb (call .position) n) o (o .0, (o .1 .0, frame))
 
--- ---- demand 3, of the calls of one cipher
+-- ---- demand 3, of the calls of one cipher at one rate
 
-abbrev pub MeetsIn : ℕ → Receiver → Type 0
-MeetsIn c R = (t : Talk) → t .cipher ≡ c → MeetsTalk R t
+abbrev pub MeetsIn : ℕ → ℕ → Receiver → Type 0
+MeetsIn c r R = (t : Talk) → t .cipher ≡ c → t .rate ≡ r → MeetsTalk R t
 
--- a receiver whose answer 0 comes with the speech of `out` of what came
-abbrev pub Handing : Receiver → (List ℕ → List ℕ) → Type 0
-Handing R out = (mask : ℕ) (frame : List ℕ) (s : R .State) → numberOf (R .voice mask frame s .0) ≡ 0
-    → SameSpeech mask (R .voice mask frame s .1 .1) (out frame)
+-- a receiver whose answer 0 comes with the speech of `out` of what came, at rate r
+abbrev pub Handing : ℕ → Receiver → (List ℕ → List ℕ) → Type 0
+Handing r R out = (mask : ℕ) (frame : List ℕ) (s : R .State) → numberOf (R .voice mask frame s .0) ≡ 0
+    → SameSpeech (layout r) mask (R .voice mask frame s .1 .1) (out frame)
 
 -- ---- a receiver that is any other for its first slots, and then only moves its position
 
@@ -71,8 +72,8 @@ upTo R first answer =
       -- slots passed, slots to pass, and R's own
       State = ℕ × ℕ × R .State;
       idle = (0, 0, R .idle);
-      hear = λ c i v b s. (R .hear c i v b (s .2) .0, (0, first c, R .hear c i v b (s .2) .1));
-      join = λ c i b s. (R .join c i b (s .2) .0, (0, first c, R .join c i b (s .2) .1));
+      hear = λ c i r v b s. (R .hear c i r v b (s .2) .0, (0, first c, R .hear c i r v b (s .2) .1));
+      join = λ c i r b s. (R .join c i r b (s .2) .0, (0, first c, R .join c i r b (s .2) .1));
       voice =
           λ mask frame s.
           let r = R .voice mask frame (s .2) in
@@ -99,28 +100,28 @@ atOnce w =
     record {
       State = Call;
       idle = noCall;
-      hear = λ c i v b s. openOf s c i v b;
-      join = λ c i b s. (openOf s c i w b .0, fourOn (openOf s c i w b .1));
+      hear = λ c i r v b s. openOf s c i r v b;
+      join = λ c i r b s. (openOf s c i r w b .0, fourOn (openOf s c i r w b .1));
       voice = λ mask frame s. voiceOf s mask frame;
       lost = lostOf;
       announce = λ v s. announceOf s v;
     }
 
--- ---- senders: what goes on the air, of a session's keystream, the slot, the mask and the spoken frame
+-- ---- senders: what goes on the air, of the rate, a session's keystream, the slot, the mask and the spoken frame
 
 abbrev pub Sending : Type 0
-Sending = (ℕ → ℕ) → ℕ → ℕ → List ℕ → List ℕ
+Sending = ℕ → (ℕ → ℕ) → ℕ → ℕ → List ℕ → List ℕ
 
 -- the standard's
 abbrev pub turning : Sending
-turning ks p mask frame = protect (ofSlot ks p) mask frame
+turning r ks p mask frame = protect (width r) (ofSlot (width r) ks p) mask frame
 
 abbrev pub identity : Sending
-identity ks p mask frame = frame
+identity r ks p mask frame = frame
 
 -- the keystream begins anew in each slot
 abbrev pub restarting : Sending
-restarting ks p mask frame = protect (ofSlot ks 0) mask frame
+restarting r ks p mask frame = protect (width r) (ofSlot (width r) ks 0) mask frame
 
 -- version two: keystream is spent only on the words that are sent. How many words before word w are
 abbrev pub spent : ℕ → ℕ → ℕ
@@ -128,4 +129,4 @@ spent mask zero = 0
 spent mask (suc w) = pick (inMask mask w) 1 0 + spent mask w
 
 abbrev pub saving : Sending
-saving ks p mask frame = protect (λ n. ofSlot ks p (speechBits * spent mask (n / speechBits) + n % speechBits)) mask frame
+saving r ks p mask frame = protect (width r) (λ n. ofSlot (width r) ks p (width r * spent mask (n / width r) + n % width r)) mask frame

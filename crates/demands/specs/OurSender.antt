@@ -9,10 +9,11 @@ use Rattle.generator.specs.Generator.{IsVector, nextVector}
 use Rattle.sizes.specs.Ciphers.{scrambles}
 use Rattle.openings.specs.Ladder.{sessionVector}
 use Rattle.voice.specs.declared.call.Call.{Call}
-use Rattle.voice.specs.Frame.{IsFrame, word, inMask}
+use Rattle.voice.specs.Frame.{inMask}
 use Rattle.voice.specs.Call.{noCall}
 use Rattle.voice.specs.Opening.{startOf}
 use Rattle.voice.specs.Slot.{voiceOf}
+use Rattle.demands.specs.Rates.{Layout, layout, FrameAt, wordAt}
 use Rattle.demands.specs.Talk.{Slot, Session, Talk, Full}
 
 -- what is said in a slot, and whether the slot will arrive
@@ -42,9 +43,9 @@ sessionsMade s [] = []
 sessionsMade s (x ∷ xs) =
     record { vector = s .vector; announced = x .announced; slots = slotsMade s (x .slots) } ∷ sessionsMade (afterwards s (x .slots)) xs
 
--- a call from its start on: cipher, key, key ID, vector, book
-abbrev pub talkMade : ℕ → List ℕ → ℕ → List ℕ → List ℕ → List Saying → Talk
-talkMade c key i v b said = record { cipher = c; key = key; sessions = sessionsMade (startOf noCall c i v b .1) said }
+-- a call from its start on: cipher, key, key ID, rate, vector, book
+abbrev pub talkMade : ℕ → List ℕ → ℕ → ℕ → List ℕ → List ℕ → List Saying → Talk
+talkMade c key i r v b said = record { cipher = c; rate = r; key = key; sessions = sessionsMade (startOf noCall c i r v b .1) said }
 
 -- ---- what is asked of those who speak
 
@@ -53,13 +54,13 @@ pub record StartVector (c : ℕ) (v : List ℕ) : Type 0 where
   pub vector : IsVector v
   pub some : scrambles c ≡ false → allZero v ≡ false
 
-pub record SaidKept (x : Said) : Type 0 where
+pub record SaidKept (l : Layout) (x : Said) : Type 0 where
   pub mask : x .mask ≤ 15
-  pub frame : IsFrame (x .spoken)
+  pub frame : FrameAt l (x .spoken)
 
--- what is said in a call: masks and frames, and full sessions but for the last
-pub record AllSaid (c : ℕ) (said : List Saying) : Type 0 where
-  pub each : Each (λ x. Each SaidKept (x .slots)) said
+-- what is said in a call of cipher c at rate r: masks and frames, and full sessions but for the last
+pub record AllSaid (c r : ℕ) (said : List Saying) : Type 0 where
+  pub each : Each (λ x. Each (SaidKept (layout r)) (x .slots)) said
   pub full : Full c (map (λ x. length (x .slots)) said)
 
 -- ---- what our sender does besides keeping the rules
@@ -70,5 +71,5 @@ Follows c v [] = Unit {0}
 Follows c v (x ∷ xs) = (x .vector ≡ sessionVector c v) × Follows c (nextVector v) xs
 
 -- a word that the mask doesn't have goes out as it was spoken
-abbrev pub OthersAsSpoken : Slot → Type 0
-OthersAsSpoken x = (w : ℕ) → w < 4 → inMask (x .mask) w ≡ false → word w (x .sent) ≡ word w (x .spoken)
+abbrev pub OthersAsSpoken : Layout → Slot → Type 0
+OthersAsSpoken l x = (w : ℕ) → w < 4 → inMask (x .mask) w ≡ false → wordAt l w (x .sent) ≡ wordAt l w (x .spoken)

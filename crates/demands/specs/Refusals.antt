@@ -27,9 +27,9 @@ keyRefusals b (book.Finish c i) = finishRefusals b c i
 keyRefusals b (book.Erase c i) = eraseRefusals b c i
 
 abbrev pub callRefusals : List ℕ → Call → CallOperation → Refusals
-callRefusals b c (Open cipher i w) = begunRefusals receivingEnd (standing c) cipher i w b
-callRefusals b c (Start cipher i w) = begunRefusals sendingEnd (standing c) cipher i w b
-callRefusals b c (Join cipher i) = joinRefusals (standing c) cipher i b
+callRefusals b c (Open cipher i rate w) = begunRefusals receivingEnd (standing c) cipher i rate w b
+callRefusals b c (Start cipher i rate w) = begunRefusals sendingEnd (standing c) cipher i rate w b
+callRefusals b c (Join cipher i rate) = joinRefusals (standing c) cipher i rate b
 callRefusals b c (Voice mask frame) = voiceRefusals (standing c) mask frame
 callRefusals b c Lost = lostRefusals (standing c)
 callRefusals b c End = endRefusals (standing c)
@@ -50,9 +50,9 @@ refusalsOf d (OfPacket n o) = packetRefusals (d .book) (d .packets n) o
 -- what is answered where none of these holds: the operation is done, but a slot in a receiving call whose vector is unknown is held (a closed or a bad call
 -- was refused before)
 abbrev pub callUnrefused : Call → CallOperation → Answer
-callUnrefused c (Open cipher i w) = Done
-callUnrefused c (Start cipher i w) = Done
-callUnrefused c (Join cipher i) = Done
+callUnrefused c (Open cipher i rate w) = Done
+callUnrefused c (Start cipher i rate w) = Done
+callUnrefused c (Join cipher i rate) = Done
 callUnrefused c (Voice mask frame) = pick (knows (standing c)) Done Held
 callUnrefused c Lost = Done
 callUnrefused c End = Done
@@ -71,20 +71,27 @@ withoutCall = ofGiven ++ ofBook
 abbrev pub withoutBook : List ℕ
 withoutBook = ofGiven ++ ofCall
 
+-- the paper's two exceptions: a frame's length depends on its call (document 02, W-205), so there 10, 4 and 9 come before 2; and a data message's
+-- on its packet, so there 4 and 9 do
+abbrev pub voiceOrder : List ℕ
+voiceOrder = 10 ∷ 4 ∷ 9 ∷ 2 ∷ []
+
+abbrev pub messageOrder : List ℕ
+messageOrder = 4 ∷ 9 ∷ 2 ∷ []
+
 abbrev callOrder : CallOperation → List ℕ
-callOrder (Open cipher i w) = withoutZeros
-callOrder (Start cipher i w) = refusalOrder
-callOrder (Join cipher i) = withoutZeros
-callOrder (Voice mask frame) = withoutBook
+callOrder (Open cipher i rate w) = withoutZeros
+callOrder (Start cipher i rate w) = refusalOrder
+callOrder (Join cipher i rate) = withoutZeros
+callOrder (Voice mask frame) = voiceOrder
 callOrder Lost = withoutBook
 callOrder End = withoutBook
 callOrder (Announce w) = withoutBook
 callOrder (NextVector out) = withoutBook
 
--- the paper's exception: a data message's length depends on its packet, so there 4 and 9 come before 2
 abbrev packetOrder : PacketOperation → List ℕ
 packetOrder (OpenPacket end kind c i w) = pick (eqb end opening.toSend) refusalOrder withoutZeros
-packetOrder (Message octets) = 4 ∷ 9 ∷ 2 ∷ []
+packetOrder (Message octets) = messageOrder
 packetOrder LostMessage = withoutBook
 packetOrder EndPacket = withoutBook
 

@@ -11,8 +11,9 @@ use Rattle.ciphers.specs.Keystream.{stream}
 use Rattle.keyentry.specs.Entry.{isReady}
 use Rattle.keybook.specs.Book.{goodBook}
 use Rattle.keybook.specs.Operations as book
-use Rattle.voice.specs.Frame.{IsFrame, inMask}
+use Rattle.voice.specs.Frame.{inMask}
 use Rattle.openings.specs.Ladder.{keyFor}
+use Rattle.demands.specs.Rates.{Layout, layout, FrameAt}
 
 -- a slot: its mask, the frame of four words that the sender spoke, the frame that it put on the air, and whether that arrived
 pub record Slot : Type 0 where
@@ -27,9 +28,10 @@ pub record Session : Type 0 where
   pub announced : Bool
   pub slots : List Slot
 
--- one call of a sender: cipher type, the key's octets, and the sessions
+-- one call of a sender: cipher type, rate, the key's octets, and the sessions
 pub record Talk : Type 0 where
   pub cipher : ℕ
+  pub rate : ℕ
   pub key : List ℕ
   pub sessions : List Session
 
@@ -41,28 +43,29 @@ pub data WayIn : Type 0 where
 -- ---- the sender keeps the rules
 
 -- what goes on the air in slot p of a session with keystream ks. Nothing is asked of a word that the mask doesn't have: it gave way to signalling
-pub record OnAir (ks : ℕ → ℕ) (p : ℕ) (x : Slot) : Type 0 where
-  -- bit j of word w, where it is speech: the spoken bit xor stream bit 196 p + 49 w + j
-  pub speech : (w j : ℕ) → w < 4 → j < 49 → inMask (x .mask) w ≡ true
-      → bit (x .sent) (56 * w + j) ≡ flip (bit (x .spoken) (56 * w + j)) (ks (196 * p + 49 * w + j))
-  -- the last seven bits of the word, as spoken
-  pub spare : (w j : ℕ) → w < 4 → 49 ≤ j → j < 56 → inMask (x .mask) w ≡ true → bit (x .sent) (56 * w + j) ≡ bit (x .spoken) (56 * w + j)
+pub record OnAir (l : Layout) (ks : ℕ → ℕ) (p : ℕ) (x : Slot) : Type 0 where
+  -- bit j of word w, where it is speech: the spoken bit xor stream bit 196 p + 49 w + j, or at full rate 288 p + 72 w + j
+  pub speech : (w j : ℕ) → w < 4 → j < l .speech → inMask (x .mask) w ≡ true
+      → bit (x .sent) (l .bits * w + j) ≡ flip (bit (x .spoken) (l .bits * w + j)) (ks (l .slot * p + l .speech * w + j))
+  -- the spare bits of the word, as spoken: at half rate its last seven, at full rate there are none
+  pub spare : (w j : ℕ) → w < 4 → l .speech ≤ j → j < l .bits → inMask (x .mask) w ≡ true
+      → bit (x .sent) (l .bits * w + j) ≡ bit (x .spoken) (l .bits * w + j)
 
-pub record SlotKept (ks : ℕ → ℕ) (p : ℕ) (x : Slot) : Type 0 where
+pub record SlotKept (l : Layout) (ks : ℕ → ℕ) (p : ℕ) (x : Slot) : Type 0 where
   pub mask : x .mask ≤ 15
-  pub spoken : IsFrame (x .spoken)
-  pub sent : IsFrame (x .sent)
-  pub air : OnAir ks p x
+  pub spoken : FrameAt l (x .spoken)
+  pub sent : FrameAt l (x .sent)
+  pub air : OnAir l ks p x
 
 -- the slots of a session from slot p on
-abbrev pub SlotsKept : (ℕ → ℕ) → ℕ → List Slot → Type 0
-SlotsKept ks p [] = Unit {0}
-SlotsKept ks p (x ∷ xs) = SlotKept ks p x × SlotsKept ks (suc p) xs
+abbrev pub SlotsKept : Layout → (ℕ → ℕ) → ℕ → List Slot → Type 0
+SlotsKept l ks p [] = Unit {0}
+SlotsKept l ks p (x ∷ xs) = SlotKept l ks p x × SlotsKept l ks (suc p) xs
 
 -- a vector has eight octets. It may be zeros (document 02, W-204), and scramble ignores it
-pub record SessionKept (c : ℕ) (key : List ℕ) (x : Session) : Type 0 where
+pub record SessionKept (l : Layout) (c : ℕ) (key : List ℕ) (x : Session) : Type 0 where
   pub vector : length (x .vector) ≡ vectorOctets
-  pub slots : SlotsKept (stream c key (x .vector)) 0 (x .slots)
+  pub slots : SlotsKept l (stream c key (x .vector)) 0 (x .slots)
 
 -- of sessions with so many slots each, every one has all of its cipher's; the last may have fewer
 abbrev pub Full : ℕ → List ℕ → Type 0
@@ -74,8 +77,9 @@ abbrev pub slotCounts : List Session → List ℕ
 slotCounts = map (λ x. length (x .slots))
 
 pub record Kept (t : Talk) : Type 0 where
+  pub rate : t .rate ≤ 1
   pub key : length (t .key) ≡ keyOctets (t .cipher)
-  pub each : Each (SessionKept (t .cipher) (t .key)) (t .sessions)
+  pub each : Each (SessionKept (layout (t .rate)) (t .cipher) (t .key)) (t .sessions)
   pub full : Full (t .cipher) (slotCounts (t .sessions))
 
 -- ---- a receiver with the same key

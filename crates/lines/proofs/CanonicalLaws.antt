@@ -18,8 +18,7 @@ use Rattle.text.proofs.PartedLaws.{rejoined, rejoined-parted}
 use Rattle.text.proofs.DecimalLaws.{decimal-back, decimal-most}
 use Rattle.text.proofs.HexLaws.{hex-size, hex-back, octets-hexOctets, length-hexOctets}
 use Rattle.sizes.specs.Ciphers.{keyRoom, vectorOctets}
-use Rattle.sizes.specs.Frame.{frameOctets}
-use Rattle.lines.specs.Record.{Record, Load, Open, Join, Voice, Announce, Lost, End, Malformed, mostNumber, lineOctets, isPair, isNumber, isKey, loadRecord, openRecord, joinRecord, voiceRecord, announceRecord, alone, byLetter, ofParts, lineOf, printed, Fine}
+use Rattle.lines.specs.Record.{Record, Load, Open, Join, Voice, Announce, Lost, End, Malformed, recordFrame, mostNumber, lineOctets, isPair, isNumber, isKey, loadRecord, openRecord, joinRecord, voiceRecord, announceRecord, alone, byLetter, ofParts, lineOf, printed, Fine}
 
 -- r is fine, and its line is l
 record Of (r : Record) (l : List ℕ) : Type 0 where
@@ -120,12 +119,12 @@ unfolding printed fieldAt
 voice-of [] n = absurd (n refl)
 voice-of (m ∷ []) n = absurd (n refl)
 voice-of (m ∷ v ∷ []) n =
-    let t = passed (isNumber m && isHex frameOctets v) (Voice (decimalValue m) (octetsIn v)) n in
-    let is = both (isNumber m) (isHex frameOctets v) t in
+    let t = passed (isNumber m && isHex recordFrame v) (Voice (decimalValue m) (octetsIn v)) n in
+    let is = both (isNumber m) (isHex recordFrame v) t in
     rw t
     (record {
-      fine = (small-is m (is .0), size-is v frameOctets (is .1), octets-are v frameOctets (is .1));
-      line = rw (number-is m (is .0), back-is v frameOctets (is .1));
+      fine = (small-is m (is .0), size-is v recordFrame (is .1), octets-are v recordFrame (is .1));
+      line = rw (number-is m (is .0), back-is v recordFrame (is .1));
     })
 voice-of (m ∷ v ∷ f ∷ fs) n = absurd (n (rw (ne-eqb (length (m ∷ v ∷ f ∷ fs)) 2 (λ e. omega arith))))
 

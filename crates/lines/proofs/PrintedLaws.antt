@@ -16,8 +16,7 @@ use Rattle.text.proofs.PartedLaws.{Lacks, AllLack, rejoined, parted-rejoined}
 use Rattle.text.proofs.DecimalLaws.{decimal-is, decimal-round, decimal-size, decimal-lacks}
 use Rattle.text.proofs.HexLaws.{length-hexText, hexText-hex, hex-round, hex-lacks}
 use Rattle.sizes.specs.Ciphers.{keyRoom, vectorOctets}
-use Rattle.sizes.specs.Frame.{frameOctets}
-use Rattle.lines.specs.Record.{Record, Load, Open, Join, Voice, Announce, Lost, End, Malformed, mostNumber, lineOctets, isPair, isKey, ofParts, lineOf, printed, Fine}
+use Rattle.lines.specs.Record.{Record, Load, Open, Join, Voice, Announce, Lost, End, Malformed, recordFrame, mostNumber, lineOctets, isPair, isKey, ofParts, lineOf, printed, Fine}
 
 -- ---- the parts of a printed line lack a tab
 
@@ -82,7 +81,7 @@ printed-parses (Join c i) f =
 printed-parses (Voice m v) f =
     by-parts (0x56 ∷ []) (decimal m ∷ hexText v ∷ []) (letter-lacks 0x56 refl, (number-lacks m (f .0), (octets-lack v, tt)))
     (omega (arith, two-size 0x56 (decimal m) (hexText v), decimal-size 2 m (omega arith), length-hexText v, f .1))
-    ∙ rw (decimal-is mostNumber m (f .0), hex-is v frameOctets (f .1), decimal-round m, octets-back v (f .2))
+    ∙ rw (decimal-is mostNumber m (f .0), hex-is v recordFrame (f .1), decimal-round m, octets-back v (f .2))
 printed-parses (Announce v) f =
     by-parts (0x49 ∷ []) (hexText v ∷ []) (letter-lacks 0x49 refl, (octets-lack v, tt))
     (omega (arith, one-size 0x49 (hexText v), length-hexText v, f .0))

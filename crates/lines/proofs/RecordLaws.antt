@@ -17,13 +17,12 @@ use Rattle.text.specs.Walked.{left}
 use Rattle.text.proofs.DecimalLaws.{number-of, number-not}
 use Rattle.text.proofs.FieldLaws.{Last, last-fields, last-hex, last-kept, last-not, left-none, left-some, lone-rest}
 use Rattle.sizes.specs.Ciphers.{keyRoom, vectorOctets}
-use Rattle.sizes.specs.Frame.{frameOctets}
 use Rattle.text.specs.declared.field.Cursor.{Cursor}
 use Rattle.lines.specs.declared.pair.Pair.{Pair}
 use Rattle.lines.specs.declared.pair.Pair.the-variants as pair
 use Rattle.lines.specs.declared.record.Parsed.{Parsed}
 use Rattle.lines.specs.declared.record.Parsed.the-variants as code
-use Rattle.lines.specs.Record.{Load, Open, Voice, Announce, Malformed, mostNumber, isPair, isNumber, isKey, loadRecord, openRecord, joinRecord, voiceRecord, announceRecord, alone, recordRoom, recordIn, keyCount}
+use Rattle.lines.specs.Record.{Load, Open, Voice, Announce, Malformed, recordFrame, mostNumber, isPair, isNumber, isKey, loadRecord, openRecord, joinRecord, voiceRecord, announceRecord, alone, recordRoom, recordIn, keyCount}
 use Rattle.lines.specs.Pairs.{IsPair}
 
 and-mid-false : (a b c : Bool) → (a && c) ≡ false → (a && (b && c)) ≡ false
@@ -51,18 +50,18 @@ module _ (line : List ℕ) (cursor : Cursor) where
   pub voice-no-mask : numberIn mostNumber (fieldAt (left line cursor) 0) ≡ Number.Not → Malformed ≡ voiceRecord (left line cursor)
   voice-no-mask e = rw (number-not mostNumber (fieldAt (left line cursor) 0) e, and-false-r)
 
-  module _ (next : Cursor) (rest : left line next ≡ drop 1 (left line cursor)) (b : Bool) (m : List ℕ) (last : Last line next frameOctets b m) where
+  module _ (next : Cursor) (rest : left line next ≡ drop 1 (left line cursor)) (b : Bool) (m : List ℕ) (last : Last line next recordFrame b m) where
     pub voice-done : (mask : ℕ) → numberIn mostNumber (fieldAt (left line cursor) 0) ≡ Number.Of mask → b ≡ true → (tail : List ℕ)
-        → Voice mask (take frameOctets (m ++ tail)) ≡ voiceRecord (left line cursor)
+        → Voice mask (take recordFrame (m ++ tail)) ≡ voiceRecord (left line cursor)
     voice-done mask n e tail =
         let is = number-of mostNumber (fieldAt (left line cursor) 0) mask n in
-        rw (last-fields line (left line cursor) next 1 rest frameOctets b m last e, is .0, last-hex line (left line cursor) next 1 rest frameOctets b m last e, is .1)
-        (ap (Voice (decimalValue (fieldAt (left line cursor) 0))) (last-kept line (left line cursor) next 1 rest frameOctets b m last e tail))
+        rw (last-fields line (left line cursor) next 1 rest recordFrame b m last e, is .0, last-hex line (left line cursor) next 1 rest recordFrame b m last e, is .1)
+        (ap (Voice (decimalValue (fieldAt (left line cursor) 0))) (last-kept line (left line cursor) next 1 rest recordFrame b m last e tail))
 
     pub voice-not : b ≡ false → Malformed ≡ voiceRecord (left line cursor)
     voice-not e =
-        rw (and-mid-false (areFields 2 (left line cursor)) (isNumber (fieldAt (left line cursor) 0)) (isHex frameOctets (fieldAt (left line cursor) 1))
-        (last-not line (left line cursor) next 1 rest frameOctets b m last e))
+        rw (and-mid-false (areFields 2 (left line cursor)) (isNumber (fieldAt (left line cursor) 0)) (isHex recordFrame (fieldAt (left line cursor) 1))
+        (last-not line (left line cursor) next 1 rest recordFrame b m last e))
 
 -- ---- a cipher and a key ID, and what comes after them
 

@@ -12,13 +12,17 @@ use Rattle.text.specs.Decimal.{isDecimal, decimalValue, decimal}
 use Rattle.text.specs.Hex.{isHex, octetsIn, hexText}
 use Rattle.text.specs.Fields.{fieldAt, areFields}
 use Rattle.sizes.specs.Ciphers.{keyRoom, vectorOctets}
-use Rattle.sizes.specs.Frame.{frameOctets}
+use Rattle.sizes.specs.Frame.{halfRate, width, frameOctets}
 use Rattle.lines.specs.declared.record.Parsed.{Parsed}
 use Rattle.lines.specs.declared.record.Parsed.the-variants as code
 
 -- the most octets of a line, without its line end
 abbrev pub lineOctets : ℕ
 lineOctets = 96
+
+-- the octets of a V record's frame: the receiver program is at half rate
+abbrev pub recordFrame : ℕ
+recordFrame = frameOctets (width halfRate)
 
 pub data Record : Type 0 where
   -- K: cipher, key ID and key
@@ -66,7 +70,7 @@ joinRecord fields = pick (areFields 2 fields && isPair fields) (Join (decimalVal
 
 abbrev pub voiceRecord : List (List ℕ) → Record
 voiceRecord fields =
-    pick (areFields 2 fields && (isNumber (fieldAt fields 0) && isHex frameOctets (fieldAt fields 1)))
+    pick (areFields 2 fields && (isNumber (fieldAt fields 0) && isHex recordFrame (fieldAt fields 1)))
     (Voice (decimalValue (fieldAt fields 0)) (octetsIn (fieldAt fields 1))) Malformed
 
 abbrev pub announceRecord : List (List ℕ) → Record
@@ -115,7 +119,7 @@ abbrev pub Fine : Record → Type 0
 Fine (Load c i k) = (c ≤ mostNumber) × (i ≤ mostNumber) × (1 ≤ length k) × (length k ≤ keyRoom) × Octets k
 Fine (Open c i v) = (c ≤ mostNumber) × (i ≤ mostNumber) × (length v ≡ vectorOctets) × Octets v
 Fine (Join c i) = (c ≤ mostNumber) × (i ≤ mostNumber)
-Fine (Voice m f) = (m ≤ mostNumber) × (length f ≡ frameOctets) × Octets f
+Fine (Voice m f) = (m ≤ mostNumber) × (length f ≡ recordFrame) × Octets f
 Fine (Announce v) = (length v ≡ vectorOctets) × Octets v
 Fine Lost = Unit {0}
 Fine End = Unit {0}
@@ -125,13 +129,13 @@ Fine Malformed = ⊥
 
 -- the room for a record's octets: the larger of a key's and a frame's
 abbrev pub recordRoom : ℕ
-recordRoom = max keyRoom frameOctets
+recordRoom = max keyRoom recordFrame
 
 abbrev pub recordIn : Parsed → List ℕ → Record
 recordIn (code.Load c i n) xs = Load c i (take n xs)
 recordIn (code.Open c i) xs = Open c i (take vectorOctets xs)
 recordIn (code.Join c i) xs = Join c i
-recordIn (code.Voice m) xs = Voice m (take frameOctets xs)
+recordIn (code.Voice m) xs = Voice m (take recordFrame xs)
 recordIn code.Announce xs = Announce (take vectorOctets xs)
 recordIn code.Lost xs = Lost
 recordIn code.End xs = End

@@ -11,7 +11,7 @@ use crate::pair::Pair;
 use crate::pair::next_pair;
 use sizes::cipher::KEY_ROOM;
 use sizes::cipher::VECTOR_OCTETS;
-use sizes::frame::FRAME_OCTETS;
+use sizes::frame::HALF_FRAME_OCTETS;
 use text::decimal::Number;
 use text::field::Cursor;
 use text::field::last_hex;
@@ -21,8 +21,8 @@ use text::field::next_number;
 pub const LINE_OCTETS: usize = 96;
 
 // The most octets of a record: the larger of a key's and a frame's.
-pub const RECORD_ROOM: usize = if KEY_ROOM < FRAME_OCTETS {
-    FRAME_OCTETS
+pub const RECORD_ROOM: usize = if KEY_ROOM < HALF_FRAME_OCTETS {
+    HALF_FRAME_OCTETS
 } else {
     KEY_ROOM
 };
@@ -112,7 +112,7 @@ fn voice_record(line: &[u8], cursor: Cursor, octets: &mut [u8]) -> Parsed
     let Number::Of(mask) = mask_field else {
         return Parsed::Malformed;
     };
-    if last_hex(line, next, &mut octets[..FRAME_OCTETS]) {
+    if last_hex(line, next, &mut octets[..HALF_FRAME_OCTETS]) {
         return Parsed::Voice { mask: mask as u8 };
     }
     Parsed::Malformed

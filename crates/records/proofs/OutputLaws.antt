@@ -14,12 +14,12 @@ use Rattle.answers.specs.Numbers.{numberOf}
 use Rattle.voice.specs.declared.call.Call.{Call}
 use borrow.Author.Tests.{eq-eqb, ne-eqb}
 use Rattle.voice.specs.Call.{closedEnd}
-use Rattle.sizes.specs.Frame.{frameOctets}
 use Rattle.text.specs.Parted.{tabOctet, lineEnd}
 use Rattle.text.specs.Decimal.{decimal}
 use Rattle.text.specs.Hex.{hexText}
 use Rattle.text.proofs.DecimalLaws.{decimal-size}
 use Rattle.text.proofs.HexLaws.{length-hexText}
+use Rattle.lines.specs.Record.{recordFrame}
 use Rattle.records.specs.Answered.{dash, place, shown, answerLine, numberRoom, answerRoom}
 use Rattle.records.specs.Lent.{Laid}
 
@@ -72,8 +72,8 @@ module _ (d : List ℕ) (at : ℕ) (p : List ℕ) where
         octets = rw (e, none, rest, zero-add (length (decimal n)), drop-drop (length (decimal n)) at d, append-nil);
       }
 
-  pub laid-octets : (octets : List ℕ) → length octets ≤ frameOctets → p ≡ hexText octets
-      → Laid (2 * frameOctets) d at (hexText octets) (putMid at (at + 2 * length octets - at) d p) (at + 2 * length octets)
+  pub laid-octets : (octets : List ℕ) → length octets ≤ recordFrame → p ≡ hexText octets
+      → Laid (2 * recordFrame) d at (hexText octets) (putMid at (at + 2 * length octets - at) d p) (at + 2 * length octets)
   laid-octets octets h e =
       let l = length-hexText octets in
       record { within = rw l (omega arith); ends = omega (arith, l); octets = put-replaced d p at (2 * length octets) ∙ rw (e, l) }
@@ -97,7 +97,7 @@ line-is n p f t e = simp append-assoc
 
 pub answer-laid : (answer : Answer) (call : Call) (f d : List ℕ) → answerRoom ≤ length d → {n a b p s w r : ℕ} {d₁ d₂ d₃ d₄ d₅ d₆ : List ℕ} → n ≡ numberOf answer
     → Laid numberRoom d 0 (decimal n) d₁ a → Laid 1 d₁ a (tabOctet ∷ []) d₂ b → Laid numberRoom d₂ b (place call) d₃ p
-    → Laid 1 d₃ p (tabOctet ∷ []) d₄ s → Laid (2 * frameOctets) d₄ s (shown f) d₅ w → Laid 1 d₅ w (lineEnd ∷ []) d₆ r
+    → Laid 1 d₃ p (tabOctet ∷ []) d₄ s → Laid (2 * recordFrame) d₄ s (shown f) d₅ w → Laid 1 d₅ w (lineEnd ∷ []) d₆ r
     → Laid answerRoom d 0 (answerLine answer call f) d₆ r
 unfolding answerLine
 answer-laid answer call f d h q l₁ l₂ l₃ l₄ l₅ l₆ =

@@ -1,4 +1,4 @@
--- The answers that a record can get where book and call are good, no key is half loaded and no call is a sender's.
+-- The answers that a record can get where book and call are good, no key is half loaded and no call is a sender's or at full rate.
 use mathlib.Core.Path.{_≡_, refl, sym, ap, _∙_}
 use mathlib.Core.Bool.{Bool, true, false, not, true≢false}
 use mathlib.Core.List.{List}
@@ -20,14 +20,14 @@ use Rattle.keybook.specs.Operations.{hasEntry, entryFor, beginRefusals, beginAf
 use Rattle.keybook.proofs.GoodLaws.{good-sized, found-for}
 use Rattle.openings.specs.Ladder.{keyRefusals, zeroRefusals, vectorRefusals}
 use Rattle.voice.specs.declared.call.Call.{Call}
-use Rattle.voice.specs.Call.{receivingEnd, standing, isBad, stands, knows, endRefusals, endOf}
+use Rattle.voice.specs.Call.{receivingEnd, standing, isBad, widthIn, stands, knows, endRefusals, endOf}
 use Rattle.voice.specs.Opening.{joinRefusals, begunRefusals, openOf, joinOf}
-use Rattle.sizes.specs.Frame.{frameOctets}
+use Rattle.sizes.specs.Frame.{halfRate, isRate, width, frameOctets}
 use Rattle.voice.specs.Slot.{lostRefusals, lostOf, voiceRefusals, streamOf, voiceAfter, voiceBy, voiceOf}
 use Rattle.voice.specs.Vector.{announceRefusals, announceOf}
-use Rattle.voice.proofs.CallLaws.{not-bad}
+use Rattle.voice.proofs.CallLaws.{not-bad, stands-none, width-in}
 use Rattle.voice.proofs.SlotLaws.{taken-under-two}
-use Rattle.lines.specs.Record.{Record, Load, Open, Join, Voice, Announce, Lost, End, Malformed, lineOf}
+use Rattle.lines.specs.Record.{Record, Load, Open, Join, Voice, Announce, Lost, End, Malformed, recordFrame, lineOf}
 use Rattle.lines.proofs.CanonicalLaws.{read-fine}
 use Rattle.records.specs.Step.{stepOf}
 use Rattle.records.specs.Reach.{answersTo}
@@ -98,8 +98,8 @@ module _ (book : List ℕ) (call : Call) (s : Sound book call) where
 
   -- what the opening asks of the key, of a record that can get 0, 3, 5 and 9
   key-can : (r : Record) → isOneOf 3 (answersTo r) ≡ true → isOneOf 5 (answersTo r) ≡ true → isOneOf 9 (answersTo r) ≡ true → (c i : ℕ)
-      → Gives (Can r) (keyRefusals true (isBad (standing call)) (stands (standing call)) c i book)
-  unfolding keyRefusals
+      → Gives (Can r) (keyRefusals (isRate halfRate) (isBad (standing call)) (stands (standing call)) c i book)
+  unfolding keyRefusals isRate
   key-can r three five nine c i = (
     book-sized book (s .book-good),
     λ _. (
@@ -108,30 +108,26 @@ module _ (book : List ℕ) (call : Call) (s : Sound book call) where
     ),
   )
 
-  open-can : (c i : ℕ) (w : List ℕ) → length w ≡ vectorOctets → Can (Open c i w) (openOf call c i w book .0)
+  open-can : (c i : ℕ) (w : List ℕ) → length w ≡ vectorOctets → Can (Open c i w) (openOf call c i halfRate w book .0)
   unfolding openOf begunRefusals vectorRefusals zeroRefusals
   open-can c i w l =
       let r = Open c i w in
-      gives (Can r) call (begunRefusals receivingEnd (standing call) c i w book) _
-      (never-not (eq-eqb (length w) vectorOctets l), λ _. gives-more (Can r) (keyRefusals true (isBad (standing call)) (stands (standing call)) c i book) _ (key-can r refl refl refl c i) tt) refl
+      gives (Can r) call (begunRefusals receivingEnd (standing call) c i halfRate w book) _
+      (never-not (eq-eqb (length w) vectorOctets l), λ _. gives-more (Can r) (keyRefusals (isRate halfRate) (isBad (standing call)) (stands (standing call)) c i book) _ (key-can r refl refl refl c i) tt) refl
 
-  join-can : (c i : ℕ) → Can (Join c i) (joinOf call c i book .0)
+  join-can : (c i : ℕ) → Can (Join c i) (joinOf call c i halfRate book .0)
   unfolding joinOf joinRefusals
-  join-can c i = gives (Can (Join c i)) call (joinRefusals (standing call) c i book) _ (key-can (Join c i) refl refl refl c i) refl
+  join-can c i = gives (Can (Join c i)) call (joinRefusals (standing call) c i halfRate book) _ (key-can (Join c i) refl refl refl c i) refl
 
-  voice-can : (mask : ℕ) (frame : List ℕ) → length frame ≡ frameOctets → Can (Voice mask frame) (voiceOf call mask frame .0)
+  -- a V record's frame is as long as a call that stands asks
+  as-long : (frame : List ℕ) → length frame ≡ recordFrame → not (stands (standing call)) ≡ false → length frame ≡ frameOctets (widthIn (standing call))
+  as-long frame l n = l ∙ ap frameOctets (sym (width-in call (s .call-good) (λ z. true≢false (sym (stands-none call (s .call-good) z) ∙ n)) ∙ ap width (s .half-rate)))
+
+  voice-can : (mask : ℕ) (frame : List ℕ) → length frame ≡ recordFrame → Can (Voice mask frame) (voiceOf call mask frame .0)
   unfolding voiceBy voiceRefusals
   voice-can mask frame l =
-      gives (Can (Voice mask frame)) (call, frame) (voiceRefusals (standing call) mask frame) (voiceAfter streamOf mask frame (standing call)) (
-        never-not (eq-eqb (length frame) frameOctets l),
-        λ _. (
-          λ h. refl,
-          λ _. (
-            good-stays,
-            λ _. (λ h. refl, λ _. tt),
-          ),
-        ),
-      )
+      gives (Can (Voice mask frame)) (call, frame) (voiceRefusals (standing call) mask frame) (voiceAfter streamOf mask frame (standing call))
+      (λ h. refl, λ _. (good-stays, λ _. (λ h. refl, λ n. (never-not (eq-eqb _ _ (as-long frame l n)), λ _. tt))))
       (taken (numberOf (voiceAfter streamOf mask frame (standing call) .0)) (taken-under-two (knows (standing call))))
     where
       taken : (n : ℕ) → n < 2 → isOneOf n (answersTo (Voice mask frame)) ≡ true

@@ -1,5 +1,5 @@
--- From an all-zero book and no call, book and call stay good through any lines: no half key is left in the book, and there is no sender.
-use mathlib.Core.Path.{_≡_, _∙_}
+-- From an all-zero book and no call, book and call stay good through any lines: no half key is left in the book, there is no sender, and the rate is half.
+use mathlib.Core.Path.{_≡_, refl, _∙_}
 use mathlib.Core.Bool.{Bool, true, false}
 use mathlib.Core.List.{List, [], _∷_}
 use Prim.Native.Nat.{ℕ, _+_, _*_, _<_}
@@ -14,6 +14,7 @@ use Rattle.answers.specs.declared.Answer.the-variants.{Done}
 use Rattle.answers.specs.Outcomes.{Refusals, settled}
 use Rattle.answers.proofs.OutcomeLaws.{by-refusals}
 use Rattle.sizes.specs.Ciphers.{sessionSlots}
+use Rattle.sizes.specs.Frame.{halfRate}
 use Rattle.keyentry.specs.Entry.{entryOctets, cipherIn, isReady}
 use Rattle.keybook.specs.Book.{entries, bookOctets, entryOf, goodBook}
 use Rattle.keybook.specs.History.{bookAfter}
@@ -44,12 +45,13 @@ use Rattle.keybook.proofs.LoadLaws.{load-ways, load-stays-good}
 abbrev pub AllReady : List ℕ → Type 0
 AllReady b = (k : ℕ) → k < entries → (cipherIn (entryOf b k) ≡ 0 → ⊥) → isReady (entryOf b k) ≡ true
 
--- a good book without half a key, and a good call that is not a sender's
+-- a good book without half a key, and a good call that is not a sender's, at half rate
 pub record Sound (book : List ℕ) (call : Call) : Type 0 where
   pub book-good : goodBook book ≡ true
   pub all-ready : AllReady book
   pub call-good : goodCall call ≡ true
   pub no-sender : call .end ≡ sendingEnd → ⊥
+  pub half-rate : call .terms .rate ≡ halfRate
 
 -- before any line
 pub first-sound : Sound (replicate bookOctets 0) noCall
@@ -60,6 +62,7 @@ first-sound =
       all-ready = λ k l n. absurd (n (entry-octet (replicate bookOctets 0) k 0 (omega arith) ∙ padded-at [] bookOctets (k * entryOctets + 0)));
       call-good = closed-good;
       no-sender = λ e. absurd (omega arith);
+      half-rate = refl;
     }
 
 -- ---- a K
@@ -75,64 +78,70 @@ module _ (b : List ℕ) (c i : ℕ) (key : List ℕ) where
   load-ready : AllReady b → AllReady (loadOf b c i key .1)
   load-ready all = load-ways b c i key (λ o. AllReady (o .1)) (λ y. all) (λ k e begun m z. all) (λ k e added m w. all) (λ k e after m r. begun-ready all m r)
 
--- ---- no operation of a record makes a sender
+-- ---- no operation of a record makes a sender, or a call at full rate
 
-abbrev NoSender : Call → Type 0
-NoSender c = c .end ≡ sendingEnd → ⊥
+-- a receiver's at half rate, or none
+abbrev HalfHeard : Call → Type 0
+HalfHeard c = (c .end ≡ sendingEnd → ⊥) × (c .terms .rate ≡ halfRate)
 
-one-of-two : (t : Bool) (x y : Standing) → NoSender (written x) → NoSender (written y) → NoSender (written (pick t x y))
+one-of-two : (t : Bool) (x y : Standing) → HalfHeard (written x) → HalfHeard (written y) → HalfHeard (written (pick t x y))
 one-of-two true x y p q = p
 one-of-two false x y p q = q
 
-module _ (c : Call) (good : goodCall c ≡ true) (no : NoSender c) where
+module _ (c : Call) (good : goodCall c ≡ true) (h : HalfHeard c) where
   -- by what it stands for, closed or receiving
-  by-receiver : (f : Standing → Standing) → NoSender (written (f closed))
-      → ((t : Terms) (p : ℕ) (k : Known) → NoSender (written (f (receiving t p k)))) → NoSender (written (f (standing c)))
-  by-receiver f p q = by-stands c good (λ o e s. rw s p) (λ o e s. absurd (no e)) (λ o e s. rw s (q (c .terms) (c .position) (knownBy (c .known) (c .vector))))
+  by-receiver : (f : Standing → Standing) → HalfHeard (written (f closed))
+      → ((t : Terms) → t .rate ≡ halfRate → (p : ℕ) (k : Known) → HalfHeard (written (f (receiving t p k)))) → HalfHeard (written (f (standing c)))
+  by-receiver f p q = by-stands c good (λ o e s. rw s p) (λ o e s. absurd (h .0 e)) (λ o e s. rw s (q (c .terms) (h .1) (c .position) (knownBy (c .known) (c .vector))))
 
-  slot-ends : NoSender (written (slotOn (standing c)))
+  slot-ends : HalfHeard (written (slotOn (standing c)))
   unfolding slotOn
   slot-ends =
-      by-receiver slotOn (λ e. omega arith)
-      (λ t p k. one-of-two (ltb (p + 1) (sessionSlots (t .cipher))) (receiving t (p + 1) k) (receiving t 0 (untold (t .cipher))) (λ e. omega arith) (λ e. omega arith))
+      by-receiver slotOn (λ e. omega arith, refl)
+      (λ t half p k. one-of-two (ltb (p + 1) (sessionSlots (t .cipher))) (receiving t (p + 1) k) (receiving t 0 (untold (t .cipher))) (λ e. omega arith, half) (λ e. omega arith, half))
 
-  unless : {S : Type 0} (f : S → Call) (before : S) (rs : Refusals) (last : Answer × S) → NoSender (f before) → NoSender (f (last .1)) → NoSender (f (settled before rs last .1))
-  unless f before rs last p q = by-refusals (λ o. NoSender (f (o .1))) before rs last (λ a m. p) (λ n. q)
+  unless : {S : Type 0} (f : S → Call) (before : S) (rs : Refusals) (last : Answer × S) → HalfHeard (f before) → HalfHeard (f (last .1)) → HalfHeard (f (settled before rs last .1))
+  unless f before rs last p q = by-refusals (λ o. HalfHeard (f (o .1))) before rs last (λ a m. p) (λ n. q)
 
-  end-ends : NoSender (endOf c .1)
+  end-ends : HalfHeard (endOf c .1)
   unfolding endOf
-  end-ends = unless (λ d. d) c (endRefusals (standing c)) (Done, written closed) no (λ e. omega arith)
+  end-ends = unless (λ d. d) c (endRefusals (standing c)) (Done, written closed) h (λ e. omega arith, refl)
 
-  lost-ends : NoSender (lostOf c .1)
+  lost-ends : HalfHeard (lostOf c .1)
   unfolding lostOf
-  lost-ends = unless (λ d. d) c (lostRefusals (standing c)) (Done, written (slotOn (standing c))) no slot-ends
+  lost-ends = unless (λ d. d) c (lostRefusals (standing c)) (Done, written (slotOn (standing c))) h slot-ends
 
-  voice-ends : (mask : ℕ) (frame : List ℕ) → NoSender (voiceOf c mask frame .1 .0)
+  voice-ends : (mask : ℕ) (frame : List ℕ) → HalfHeard (voiceOf c mask frame .1 .0)
   unfolding voiceBy
   voice-ends mask frame =
-      unless (λ (d : Call × List ℕ). d .0) (c, frame) (voiceRefusals (standing c) mask frame) (voiceAfter streamOf mask frame (standing c)) no slot-ends
+      unless (λ (d : Call × List ℕ). d .0) (c, frame) (voiceRefusals (standing c) mask frame) (voiceAfter streamOf mask frame (standing c)) h slot-ends
 
-  announce-ends : (w : List ℕ) → NoSender (announceOf c w .1)
+  announce-ends : (w : List ℕ) → HalfHeard (announceOf c w .1)
   unfolding announceOf
   announce-ends w =
-      unless (λ d. d) c (announceRefusals (standing c) w) (Done, written (withVector w (standing c))) no
-      (by-receiver (withVector w) (λ e. omega arith) (λ t p k e. omega arith))
+      unless (λ d. d) c (announceRefusals (standing c) w) (Done, written (withVector w (standing c))) h
+      (by-receiver (withVector w) (λ e. omega arith, refl) (λ t half p k. (λ e. omega arith, half)))
 
   module _ (n i : ℕ) (b : List ℕ) where
-    open-ends : (w : List ℕ) → NoSender (openOf c n i w b .1)
-    unfolding openOf
-    open-ends w = unless (λ d. d) c (begunRefusals receivingEnd (standing c) n i w b) (Done, written (begun receivingEnd (termsOf n (keyFor b n i)) (sessionVector n w))) no (λ e. omega arith)
+    abbrev terms : Terms
+    terms = termsOf n (keyFor b n i) halfRate
 
-    join-ends : NoSender (joinOf c n i b .1)
+    open-ends : (w : List ℕ) → HalfHeard (openOf c n i halfRate w b .1)
+    unfolding openOf
+    open-ends w = unless (λ d. d) c (begunRefusals receivingEnd (standing c) n i halfRate w b) (Done, written (begun receivingEnd terms (sessionVector n w))) h (λ e. omega arith, refl)
+
+    join-ends : HalfHeard (joinOf c n i halfRate b .1)
     unfolding joinOf
-    join-ends =
-        unless (λ d. d) c (joinRefusals (standing c) n i b) (Done, written (joined (termsOf n (keyFor b n i)))) no (λ e. omega arith)
+    join-ends = unless (λ d. d) c (joinRefusals (standing c) n i halfRate b) (Done, written (joined terms)) h (λ e. omega arith, refl)
 
 -- ---- so each record keeps them
 
 -- the book stays
-with-call : {book : List ℕ} {call after : Call} → Sound book call → goodCall after ≡ true → NoSender after → Sound book after
-with-call s g n = record { book-good = s .book-good; all-ready = s .all-ready; call-good = g; no-sender = n }
+with-call : {book : List ℕ} {call after : Call} → Sound book call → goodCall after ≡ true → HalfHeard after → Sound book after
+with-call s g h = record { book-good = s .book-good; all-ready = s .all-ready; call-good = g; no-sender = h .0; half-rate = h .1 }
+
+heard : {book : List ℕ} {call : Call} → Sound book call → HalfHeard call
+heard s = (s .no-sender, s .half-rate)
 
 pub step-sound : (r : Record) {book : List ℕ} {call : Call} → Sound book call → Sound (stepOf r book call .book) (stepOf r book call .call)
 unfolding stepOf
@@ -142,14 +151,15 @@ step-sound (Load c i key) {book} {call} s =
       all-ready = load-ready book c i key (s .all-ready);
       call-good = s .call-good;
       no-sender = s .no-sender;
+      half-rate = s .half-rate;
     }
-step-sound (Open c i w) {book} {call} s = with-call s (open-good call (s .call-good) c i book w) (open-ends call (s .call-good) (s .no-sender) c i book w)
-step-sound (Join c i) {book} {call} s = with-call s (join-good call (s .call-good) c i book) (join-ends call (s .call-good) (s .no-sender) c i book)
+step-sound (Open c i w) {book} {call} s = with-call s (open-good call (s .call-good) c i halfRate book w) (open-ends call (s .call-good) (heard s) c i book w)
+step-sound (Join c i) {book} {call} s = with-call s (join-good call (s .call-good) c i halfRate book) (join-ends call (s .call-good) (heard s) c i book)
 step-sound (Voice mask frame) {book} {call} s =
-    with-call s (voice-good call (s .call-good) (λ e d. absurd (s .no-sender e)) mask frame) (voice-ends call (s .call-good) (s .no-sender) mask frame)
-step-sound (Announce w) {book} {call} s = with-call s (announce-good call (s .call-good) w) (announce-ends call (s .call-good) (s .no-sender) w)
-step-sound Lost {book} {call} s = with-call s (lost-good call (s .call-good)) (lost-ends call (s .call-good) (s .no-sender))
-step-sound End {book} {call} s = with-call s (end-good call (s .call-good)) (end-ends call (s .call-good) (s .no-sender))
+    with-call s (voice-good call (s .call-good) (λ e d. absurd (s .no-sender e)) mask frame) (voice-ends call (s .call-good) (heard s) mask frame)
+step-sound (Announce w) {book} {call} s = with-call s (announce-good call (s .call-good) w) (announce-ends call (s .call-good) (heard s) w)
+step-sound Lost {book} {call} s = with-call s (lost-good call (s .call-good)) (lost-ends call (s .call-good) (heard s))
+step-sound End {book} {call} s = with-call s (end-good call (s .call-good)) (end-ends call (s .call-good) (heard s))
 step-sound Malformed s = s
 
 -- and so do any lines

@@ -8,11 +8,10 @@ use Rattle.answers.specs.declared.Answer.{Answer}
 use Rattle.answers.specs.Numbers.{numberOf}
 use Rattle.voice.specs.declared.call.Call.{Call}
 use Rattle.voice.specs.Call.{closedEnd}
-use Rattle.sizes.specs.Frame.{frameOctets}
 use Rattle.text.specs.Parted.{tabOctet, lineEnd}
 use Rattle.text.specs.Decimal.{decimal}
 use Rattle.text.specs.Hex.{hexText}
-use Rattle.lines.specs.Record.{lineOf}
+use Rattle.lines.specs.Record.{recordFrame, lineOf}
 use Rattle.records.specs.Step.{Effect, stepOf}
 
 -- what stands for nothing
@@ -36,7 +35,7 @@ abbrev pub numberRoom : ℕ
 numberRoom = 3
 
 abbrev pub answerRoom : ℕ
-answerRoom = numberRoom + 1 + numberRoom + 1 + 2 * frameOctets + 1
+answerRoom = numberRoom + 1 + numberRoom + 1 + 2 * recordFrame + 1
 
 -- the book and the call
 pub record Recorder : Type 0 where

@@ -3,7 +3,7 @@ ghost use Prim.Native.Nat.{_+_, _*_, _≤_};
 ghost use lib.ListN.{length};
 ghost use Rattle.text.specs.Decimal.{decimal};
 ghost use Rattle.text.specs.Hex.{hexText};
-ghost use Rattle.sizes.specs.Frame.{frameOctets};
+ghost use Rattle.lines.specs.Record.{recordFrame};
 ghost use Rattle.records.specs.Answered.{place, shown, answerLine, numberRoom, answerRoom};
 ghost use Rattle.records.specs.Lent.{Laid};
 use answers::Answer;
@@ -32,8 +32,8 @@ fn put_number(out: &mut [u8], at: usize, n: u8) -> usize
 }
 
 fn put_octets(out: &mut [u8], at: usize, octets: &[u8]) -> usize
-    requires { ⌜ (at + 2 * length (now octets) ≤ length (now out)) × (length (now octets) ≤ frameOctets) ⌝ }
-    ensures { λ r. ⌜ Laid (2 * frameOctets) (now (out .entry)) at (hexText (now (octets .entry))) (now (out .exit)) r ⌝ }
+    requires { ⌜ (at + 2 * length (now octets) ≤ length (now out)) × (length (now octets) ≤ recordFrame) ⌝ }
+    ensures { λ r. ⌜ Laid (2 * recordFrame) (now (out .entry)) at (hexText (now (octets .entry))) (now (out .exit)) r ⌝ }
 {
     let end = at + 2 * octets.len();
     put_hex(&mut out[at..end], octets);
@@ -51,8 +51,8 @@ fn put_place(out: &mut [u8], at: usize, call: Call) -> usize
 }
 
 fn put_frame(out: &mut [u8], at: usize, frame: &[u8]) -> usize
-    requires { ⌜ (at + 2 * frameOctets ≤ length (now out)) × (length (now frame) ≤ frameOctets) ⌝ }
-    ensures { λ r. ⌜ Laid (2 * frameOctets) (now (out .entry)) at (shown (now (frame .entry))) (now (out .exit)) r ⌝ }
+    requires { ⌜ (at + 2 * recordFrame ≤ length (now out)) × (length (now frame) ≤ recordFrame) ⌝ }
+    ensures { λ r. ⌜ Laid (2 * recordFrame) (now (out .entry)) at (shown (now (frame .entry))) (now (out .exit)) r ⌝ }
 {
     if frame.len() == 0 {
         return put(out, at, b"-");
@@ -62,7 +62,7 @@ fn put_frame(out: &mut [u8], at: usize, frame: &[u8]) -> usize
 
 // The output line, at the start of lent octets; how many it has.
 pub fn put_answer(out: &mut [u8], answer: Answer, call: Call, frame: &[u8]) -> usize
-    requires { ⌜ (answerRoom ≤ length (now out)) × (length (now frame) ≤ frameOctets) ⌝ }
+    requires { ⌜ (answerRoom ≤ length (now out)) × (length (now frame) ≤ recordFrame) ⌝ }
     ensures { λ r. ⌜ Laid answerRoom (now (out .entry)) 0 (answerLine answer call (now (frame .entry))) (now (out .exit)) r ⌝ }
 {
     let number = put_number(out, 0, answer.number());

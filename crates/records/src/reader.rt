@@ -11,8 +11,8 @@ use crate::respond::Response;
 use crate::respond::respond;
 use lines::record::LINE_OCTETS;
 use octets::copy;
-use sizes::frame::FRAME_OCTETS;
-use sizes::frame::SESSION_OCTETS;
+use sizes::frame::HALF_FRAME_OCTETS;
+use sizes::frame::HALF_SESSION_OCTETS;
 use text::carry::keep;
 use text::carry::least;
 use text::part::LINE_END;
@@ -26,7 +26,7 @@ pub const KEPT_OCTETS: usize = LINE_OCTETS + 1;
 const NUMBER_ROOM: usize = 3;
 
 // Room for any output line.
-pub const ANSWER_ROOM: usize = NUMBER_ROOM + 1 + NUMBER_ROOM + 1 + 2 * FRAME_OCTETS + 1;
+pub const ANSWER_ROOM: usize = NUMBER_ROOM + 1 + NUMBER_ROOM + 1 + 2 * HALF_FRAME_OCTETS + 1;
 
 // The octets of the line that has not ended, zeros past them, and the call.
 pub struct Carry {
@@ -108,7 +108,7 @@ fn take_from(
     requires { ⌜ count ≤ keptOctets ⌝ }
     ensures { λ r. ⌜ (r .used, (r .wrote, (r .carry, (now (book .exit), now (out .exit))))) ≡ takeFrom (reading kept count call (now (book .entry))) (now (piece .entry)) (now (out .entry)) ⌝ }
 {
-    let mut session = [0; SESSION_OCTETS];
+    let mut session = [0; HALF_SESSION_OCTETS];
     let mut made = false;
     let mut used = 0;
     let mut wrote = 0;
@@ -175,7 +175,7 @@ fn finish_from(
         let carry = carry_on(line, 0, call);
         return Finished { wrote: 0, carry };
     }
-    let mut session = [0; SESSION_OCTETS];
+    let mut session = [0; HALF_SESSION_OCTETS];
     let done = respond(&line[..count], book, call, &mut session, false, out);
     let after = done.call;
     let carry = carry_on(line, 0, after);

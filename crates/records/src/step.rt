@@ -7,9 +7,9 @@ ghost use Rattle.octets.specs.Tests.{pick};
 ghost use Rattle.answers.specs.Numbers.{numberOf, isDone};
 ghost use Rattle.sizes.specs.Ciphers.{scrambles};
 ghost use Rattle.voice.specs.Call.{standing, knows};
-ghost use Rattle.sizes.specs.Frame.{frameOctets};
+ghost use Rattle.sizes.specs.Frame.{halfRate};
 ghost use Rattle.voice.specs.Slot.{lostOf, voiceOf};
-ghost use Rattle.lines.specs.Record.{recordRoom, recordIn, keyCount};
+ghost use Rattle.lines.specs.Record.{recordFrame, recordRoom, recordIn, keyCount};
 ghost use Rattle.records.specs.Step.{asEffect, stepOf};
 ghost use Rattle.records.specs.Lent.{Cached};
 use answers::Answer;
@@ -17,7 +17,8 @@ use keybook::load;
 use lines::record::Parsed;
 use sizes::cipher::Scramble;
 use sizes::cipher::VECTOR_OCTETS;
-use sizes::frame::FRAME_OCTETS;
+use sizes::frame::HALF_FRAME_OCTETS;
+use sizes::frame::Half;
 use voice::call::Call;
 use voice::call::UNKNOWN;
 use voice::call::end;
@@ -39,15 +40,18 @@ pub struct Outcome {
 
 // ---- the session's keystream, made once
 
-// Whether the call has a session whose vector is known. If so, the lent octets hold it afterwards.
+// Whether the call has a session whose vector is known, at half rate: the lent octets are too few for one at full rate. If so, they hold it afterwards.
 fn hold_session(call: Call, session: &mut [u8], made: bool) -> bool
     requires { ⌜ Cached made call (now session) ⌝ }
-    ensures { λ r. ⌜ (r ≡ knows (standing call)) × Cached r call (now (session .exit)) ⌝ }
+    ensures { λ r. ⌜ (call .terms .rate ≡ halfRate → r ≡ knows (standing call)) × Cached r call (now (session .exit)) ⌝ }
 {
     if made {
         return true;
     }
     if call.known == UNKNOWN {
+        return false;
+    }
+    if call.terms.rate != Half::RATE {
         return false;
     }
     session_stream(call, session);
@@ -92,9 +96,9 @@ fn anew(stepped: voice::call::Stepped, made: bool) -> Outcome
 }
 
 fn voice_slot(call: Call, mask: u8, frame: &mut [u8], session: &mut [u8], made: bool) -> Outcome
-    requires { ⌜ Cached made call (now session) ⌝ }
+    requires { ⌜ (length (now frame) ≡ recordFrame) × Cached made call (now session) ⌝ }
     ensures { λ r. ⌜ (r .answer, (r .call, now (frame .exit))) ≡ voiceOf call mask (now (frame .entry)) ⌝ }
-    ensures { λ r. ⌜ r .shown ≡ pick (isDone (r .answer)) frameOctets 0 ⌝ }
+    ensures { λ r. ⌜ r .shown ≡ pick (isDone (r .answer)) recordFrame 0 ⌝ }
     ensures { λ r. ⌜ Cached (r .made) (r .call) (now (session .exit)) ⌝ }
 {
     let held = hold_session(call, session, made);
@@ -107,7 +111,7 @@ fn voice_slot(call: Call, mask: u8, frame: &mut [u8], session: &mut [u8], made: 
     Outcome {
         answer,
         call: after,
-        shown: FRAME_OCTETS,
+        shown: HALF_FRAME_OCTETS,
         made: goes_on(call.terms.cipher, after.position),
     }
 }
@@ -147,7 +151,7 @@ pub fn step(
 ) -> Outcome
     requires { ⌜ (length (now octets) ≡ recordRoom) × (keyCount parsed ≤ recordRoom) × Cached made call (now session) ⌝ }
     ensures { λ r. ⌜ asEffect (r .answer) (now (book .exit)) (r .call) (take (r .shown) (now (octets .exit))) ≡ stepOf (recordIn parsed (now (octets .entry))) (now (book .entry)) call ⌝ }
-    ensures { λ r. ⌜ (r .shown ≤ frameOctets) × Cached (r .made) (r .call) (now (session .exit)) ⌝ }
+    ensures { λ r. ⌜ (r .shown ≤ recordFrame) × Cached (r .made) (r .call) (now (session .exit)) ⌝ }
 {
     match parsed {
         Parsed::Load { cipher, id, count } => no_frame(
@@ -156,14 +160,14 @@ pub fn step(
             made,
         ),
         Parsed::Open { cipher, id } => anew(
-            open(call, cipher, id, &octets[..VECTOR_OCTETS], book),
+            open(call, cipher, id, Half::RATE, &octets[..VECTOR_OCTETS], book),
             made,
         ),
-        Parsed::Join { cipher, id } => anew(join(call, cipher, id, book), made),
+        Parsed::Join { cipher, id } => anew(join(call, cipher, id, Half::RATE, book), made),
         Parsed::Voice { mask } => voice_slot(
             call,
             mask,
-            &mut octets[..FRAME_OCTETS],
+            &mut octets[..HALF_FRAME_OCTETS],
             session,
             made,
         ),

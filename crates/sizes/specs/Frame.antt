@@ -1,31 +1,55 @@
--- The sizes of a voice frame and of a session of them (001, 5.4.2 and 5.4.4.1).
-use Prim.Native.Nat.{ℕ, _*_, _/_}
+-- The rates of speech, and the sizes of a voice frame and of a session of them. Every size follows from one number, the width: the speech bits of a word
+-- (001, 5.4.2 and 5.4.4.1).
+use mathlib.Core.Bool.{Bool, _||_}
+use Prim.Native.Nat.{ℕ, _+_, _*_, _/_}
+use lib.Dec.{eqb}
+use Rattle.octets.specs.Tests.{pick}
 use Rattle.sizes.specs.Ciphers.{sessionSlots}
+
+-- ---- rates
+
+abbrev pub halfRate : ℕ
+halfRate = 0
+
+abbrev pub fullRate : ℕ
+fullRate = 1
+
+unfoldable pub isRate : ℕ → Bool
+isRate rate = eqb rate halfRate || eqb rate fullRate
+
+-- a number that is no rate has half rate's
+abbrev pub width : ℕ → ℕ
+width rate = pick (eqb rate fullRate) 72 49
+
+-- the widest
+abbrev pub mostWidth : ℕ
+mostWidth = width fullRate
+
+-- ---- sizes
 
 abbrev pub words : ℕ
 words = 4
 
-abbrev pub wordOctets : ℕ
-wordOctets = 7
+-- as many octets as its speech needs: at half rate some bits are spare
+abbrev pub wordOctets : ℕ → ℕ
+wordOctets width = (width + 7) / 8
 
--- the bits of a word, and those of them that are speech
-abbrev pub wordBits : ℕ
-wordBits = 8 * wordOctets
+abbrev pub wordBits : ℕ → ℕ
+wordBits width = 8 * wordOctets width
 
-abbrev pub speechBits : ℕ
-speechBits = 49
+abbrev pub frameOctets : ℕ → ℕ
+frameOctets width = wordOctets width * words
 
-abbrev pub frameOctets : ℕ
-frameOctets = words * wordOctets
+-- the keystream bits of a slot, used or not, and the octets that hold them
+abbrev pub slotBits : ℕ → ℕ
+slotBits width = width * words
 
--- the keystream bits of a slot, used or not
-abbrev pub slotBits : ℕ
-slotBits = words * speechBits
+abbrev pub slotOctets : ℕ → ℕ
+slotOctets width = (slotBits width + 7) / 8
 
--- the most that a session has: those of DES and AES are the longest
-abbrev pub sessionBits : ℕ
-sessionBits = sessionSlots 2 * slotBits
+-- the most that a session has: those of DES and AES are the longest; and the octets that hold them
+abbrev pub sessionBits : ℕ → ℕ
+sessionBits width = slotBits width * sessionSlots 2
 
--- the octets that hold them
-abbrev pub sessionOctets : ℕ
-sessionOctets = sessionBits / 8
+abbrev pub sessionOctets : ℕ → ℕ
+sessionOctets width = sessionBits width / 8

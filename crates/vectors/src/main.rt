@@ -21,7 +21,8 @@ enum Set {
     Aes,
     Feedback,
     Nxdn,
-    Slots,
+    SentSlots,
+    HeardSlots,
     Messages,
 }
 
@@ -37,7 +38,8 @@ fn holds(set: Set, row: &[u8]) -> bool {
         Set::Aes => blocks::aes_holds(row),
         Set::Feedback => feedback::holds(row),
         Set::Nxdn => nxdn::holds(row),
-        Set::Slots => slots::holds(row),
+        Set::SentSlots => slots::holds(row, false),
+        Set::HeardSlots => slots::holds(row, true),
         Set::Messages => messages::holds(row),
     }
 }
@@ -172,9 +174,15 @@ fn main() {
         b"nxdn-one-bit-wrong.tsv",
     );
     run_both(
-        Set::Slots,
+        Set::SentSlots,
         b"voice-slots.tsv",
-        b"Voice slots past the first, by an independent model and OpenSSL",
+        b"Voice slots at both rates, in a first session and past it, by an independent model and OpenSSL, sent",
+        b"voice-slots-one-bit-wrong.tsv",
+    );
+    run_both(
+        Set::HeardSlots,
+        b"voice-slots.tsv",
+        b"The same, heard",
         b"voice-slots-one-bit-wrong.tsv",
     );
     run_both(

@@ -12,13 +12,14 @@ use Rattle.octets.specs.Lists.{allZero}
 use Rattle.octets.proofs.ListLaws.{zeros-are}
 use Rattle.octets.proofs.TestLaws.{or-right, or-left, not-so, every-at}
 use Rattle.sizes.specs.Ciphers.{sessionSlots, vectorOctets, noVector, scrambles}
+use Rattle.sizes.specs.Frame.{isRate}
 use Rattle.answers.specs.declared.Answer.{Answer}
 use Rattle.answers.specs.declared.Answer.the-variants.{Done}
 use Rattle.answers.proofs.OutcomeLaws.{NoneHolds, none-settles, Refuses, answerAt, refused-at}
 use Rattle.voice.specs.declared.call.Terms.{Terms}
 use Rattle.voice.specs.declared.call.Call.{Call}
 use Rattle.ciphers.specs.Keys.{keyRight}
-use Rattle.voice.specs.Call.{closedEnd, sendingEnd, receivingEnd, unknownVector, toldVector, vectorRight, closedTests, openTests, isClosed, isOpen, goodCall, Known, isKnown, knownNumber, knownVector, knownBy, unknown, told, untold, Standing, closed, bad, sending, receiving, standing, callAt, written, isBad, stands, receives, knows, endRefusals, endOf}
+use Rattle.voice.specs.Call.{closedEnd, sendingEnd, receivingEnd, unknownVector, toldVector, vectorRight, closedTests, openTests, isClosed, isOpen, goodCall, Known, isKnown, knownNumber, knownVector, knownBy, unknown, told, untold, Standing, closed, bad, sending, receiving, standing, callAt, widthOf, written, isBad, widthIn, stands, receives, knows, endRefusals, endOf}
 
 -- ---- what is known of a vector
 
@@ -115,15 +116,19 @@ module _ (c : Call) where
   -- a position inside the session
   pub open-place : isOpen c ≡ true → c .position < sessionSlots (c .terms .cipher)
   unfolding isOpen openTests
-  open-place e = ltb-true (c .position) (sessionSlots (c .terms .cipher)) (every-at (openTests c) 3 e)
+  open-place e = ltb-true (c .position) (sessionSlots (c .terms .cipher)) (every-at (openTests c) 4 e)
 
   pub open-key : isOpen c ≡ true → keyRight (c .terms .cipher) (c .terms .key) ≡ true
   unfolding isOpen openTests
   open-key = every-at (openTests c) 2
 
+  pub open-rate : isOpen c ≡ true → isRate (c .terms .rate) ≡ true
+  unfolding isOpen openTests
+  open-rate = every-at (openTests c) 3
+
   pub open-vector : isOpen c ≡ true → vectorRight (c .end) (c .terms .cipher) (c .known) (allZero (c .vector)) ≡ true
   unfolding isOpen openTests
-  open-vector = every-at (openTests c) 4
+  open-vector = every-at (openTests c) 5
 
   not-closed : (c .end ≡ 0 → ⊥) → isClosed c ≡ false
   not-closed n = not-so (isClosed c) (λ e. n (closed-end e))
@@ -205,6 +210,13 @@ module _ (c : Call) where
     pub or-receiver : (c .end ≡ closedEnd → ⊥) → (c .end ≡ sendingEnd → ⊥) → c .end ≡ receivingEnd
     or-receiver n m = by-stands c good (λ o e s. absurd (n e)) (λ o e s. absurd (m e)) (λ o e s. e)
 
+    -- a word's speech bits are by the struct's rate
+    pub width-in : (c .end ≡ closedEnd → ⊥) → widthIn (standing c) ≡ widthOf (c .terms)
+    width-in n = by-stands c good (λ o e s. absurd (n e)) (λ o e s. ap widthIn s) (λ o e s. ap widthIn s)
+
+    pub rated : (c .end ≡ closedEnd → ⊥) → isRate (c .terms .rate) ≡ true
+    rated n = by-stands c good (λ o e s. absurd (n e)) (λ o e s. open-rate c o) (λ o e s. open-rate c o)
+
     pub inside : (c .end ≡ closedEnd → ⊥) → c .position < sessionSlots (c .terms .cipher)
     inside n = by-stands c good (λ o e s. absurd (n e)) (λ o e s. open-place c o) (λ o e s. open-place c o)
 
@@ -224,7 +236,7 @@ module _ (c : Call) where
 
   closed-unknown : isClosed c ≡ true → c .known ≡ unknownVector
   unfolding isClosed closedTests
-  closed-unknown o = eqb-true _ _ (every-at (closedTests c) 3 o)
+  closed-unknown o = eqb-true _ _ (every-at (closedTests c) 4 o)
 
   pub open-told : isOpen c ≡ true → c .end ≡ sendingEnd → c .known ≡ toldVector
   open-told o e = sender-told (c .terms .cipher) (c .known) (allZero (c .vector)) (rw e at (open-vector c o))
@@ -252,6 +264,9 @@ module _ (c : Call) where
 
   pub knows-inside : knows (standing c) ≡ true → c .position < sessionSlots (c .terms .cipher)
   knows-inside k = by-stands c (knows-good k) (λ o e s. absurd (true≢false (sym k ∙ ap knows s))) (λ o e s. open-place c o) (λ o e s. open-place c o)
+
+  pub known-width : knows (standing c) ≡ true → widthIn (standing c) ≡ widthOf (c .terms)
+  known-width k = by-stands c (knows-good k) (λ o e s. absurd (true≢false (sym k ∙ ap knows s))) (λ o e s. ap widthIn s) (λ o e s. ap widthIn s)
 
   -- one that knows its vector is the struct of what it stands for
   call-is : {e n : ℕ} → c .end ≡ e → c .known ≡ n → callAt e (c .terms) (c .position) n (c .vector) ≡ c

@@ -1,18 +1,19 @@
--- When a slot is done or held, an announcement taken and a next vector given, by the struct's own fields: in both directions. What start answers
--- besides what open does. And nothing opens a call that stands.
+-- When a slot is done or held, an announcement taken and a next vector given, by the struct's own fields: in both directions. What a frame of another
+-- length, too few lent octets and a number that is no rate get, and what start answers besides what open does. And nothing opens a call that stands.
 use mathlib.Core.Path.{_≡_, refl, sym, ap, _∙_}
 use mathlib.Core.Bool.{Bool, true, false, _&&_, not, true≢false}
 use mathlib.Core.List.{List}
-use Prim.Native.Nat.{ℕ, _≤_}
+use Prim.Native.Nat.{ℕ, _≤_, _<_}
+use native.Mathlib.Decide.{decLt}
 use native.Mathlib.Omega.{arith}
-use lib.Dec.{eqb}
+use lib.Dec.{ltb, eqb}
 use lib.ListN.{length}
-use borrow.Author.Tests.{eq-eqb, eqb-true, ltb-false, not-true, not-false}
+use borrow.Author.Tests.{eq-eqb, ne-eqb, eqb-true, lt-ltb, le-ltb, ltb-false, not-true, not-false}
 use Rattle.octets.specs.Tests.{pick}
 use Rattle.octets.proofs.TestLaws.{and-left, and-right}
 use Rattle.generator.specs.Generator.{nextVector}
 use Rattle.answers.specs.declared.Answer.{Answer}
-use Rattle.answers.specs.declared.Answer.the-variants.{Done, Held, ZeroVector}
+use Rattle.answers.specs.declared.Answer.the-variants.{Done, Held, WrongLength, OutOfRange, ZeroVector}
 use Rattle.answers.specs.Numbers.{numberOf, isDone}
 use Rattle.answers.specs.Outcomes.{Refusals, outcome}
 use Rattle.answers.proofs.OutcomeLaws.{NoneHolds, Refusal, fromTwo, among-refuses, by-refusals, some-refuses}
@@ -21,20 +22,21 @@ use Rattle.sizes.specs.Ciphers.{vectorOctets, scrambles}
 use Rattle.openings.specs.Ladder.{sessionVector, keyFor, keyRefusals, zeroFor, vectorRefusals}
 use Rattle.openings.proofs.LadderLaws.{vector-from-two, sends-more}
 use Rattle.voice.specs.declared.call.Call.{Call}
-use Rattle.sizes.specs.Frame.{frameOctets}
-use Rattle.voice.specs.Call.{closedEnd, sendingEnd, receivingEnd, unknownVector, goodCall, standing, termsOf, written, isBad, stands}
+use Rattle.octets.specs.Bits.{bit}
+use Rattle.sizes.specs.Frame.{isRate, width, frameOctets, sessionOctets}
+use Rattle.voice.specs.Call.{closedEnd, sendingEnd, receivingEnd, unknownVector, goodCall, standing, termsOf, widthOf, written, isBad, widthIn, stands}
 use Rattle.voice.specs.Opening.{joinRefusals, begunRefusals, begun, begunOf, openOf, startOf, joined, joinOf}
-use Rattle.voice.specs.Slot.{topMask, voiceRefusals, streamOf, voiceOf}
+use Rattle.voice.specs.Slot.{topMask, voiceRefusals, streamOf, voiceBy, voiceOf, voiceByOctets}
 use Rattle.voice.specs.Vector.{awaits, withVector, announceRefusals, announceOf, generates, following, nextRefusals, nextVectorOf}
-use Rattle.voice.proofs.CallLaws.{is-sender, is-known, by-stands, good-by, not-bad, stands-some, is-receiver, knows-is}
-use Rattle.voice.proofs.SlotLaws.{none-long, none-good, none-open, taken-under-two, voice-taken, answer-taken}
+use Rattle.voice.proofs.CallLaws.{is-sender, is-known, by-stands, good-by, not-bad, stands-some, width-in, is-receiver, knows-is}
+use Rattle.voice.proofs.SlotLaws.{none-long, none-good, none-open, taken-under-two, voice-refused, voice-taken, by-refused, by-long, by-short, answer-taken}
 use Rattle.voice.proofs.VectorLaws.{announce-done}
 
 -- ---- a voice slot
 
--- a frame of 28 octets, a mask of at most 15, and a good call that stands, whose vector is known or is not
+-- a frame as long as the rate has it, a mask of at most 15, and a good call that stands, whose vector is known or is not
 pub record Takes (c : Call) (mask : ℕ) (frame : List ℕ) (known : Bool) : Type 0 where
-  pub long : length frame ≡ frameOctets
+  pub long : length frame ≡ frameOctets (widthOf (c .terms))
   pub masked : mask ≤ topMask
   pub good : goodCall c ≡ true
   pub stands : c .end ≡ closedEnd → ⊥
@@ -63,7 +65,7 @@ module _ (c : Call) (mask : ℕ) (frame : List ℕ) where
   takes n =
       record {
         long = none-long c mask frame n;
-        masked = ltb-false _ _ (n .1 .0);
+        masked = ltb-false _ _ (n .0);
         good = none-good c mask frame n;
         stands = none-open c mask frame n;
         vector = refl;
@@ -82,6 +84,72 @@ module _ (c : Call) (mask : ℕ) (frame : List ℕ) where
 
   pub held-exactly : (number ≡ 1 → Takes c mask frame false) × (Takes c mask frame false → number ≡ 1)
   held-exactly = exactly false
+
+-- ---- a frame of another length, too few lent octets, and a number that is no rate
+
+-- what is asked last: a frame as long as the other rate's, say
+pub other-length : (c : Call) (mask : ℕ) (frame : List ℕ) → mask ≤ topMask → goodCall c ≡ true → (c .end ≡ closedEnd → ⊥)
+    → (length frame ≡ frameOctets (widthOf (c .terms)) → ⊥) → voiceOf c mask frame ≡ (WrongLength, (c, frame))
+unfolding voiceRefusals
+other-length c mask frame m good o n =
+    sym (voice-refused streamOf c mask frame 3 (le-ltb _ _ m, (not-bad c good, (stands-some c good o, ap not (ne-eqb _ _ (λ e. n (e ∙ ap frameOctets (width-in c good o))))))))
+
+-- by lent octets: 196, or at full rate 288, are enough, whatever the call
+session-long : (r : ℕ) → sessionOctets (width r) ≡ pick (eqb r 1) 288 196
+session-long r = go (eqb r 1)
+  where
+    go : (t : Bool) → sessionOctets (pick t 72 49) ≡ pick t 288 196
+    go true = refl
+    go false = refl
+
+module _ (session : List ℕ) (c : Call) (mask : ℕ) (frame : List ℕ) where
+  abbrev lent : Answer × (Call × List ℕ)
+  lent = voiceBy (λ d. bit session) c mask frame
+
+  -- of a call that nothing refuses
+  asked : numberOf (lent .0) < 2 → sessionOctets (widthIn (standing c)) ≡ pick (eqb (c .terms .rate) 1) 288 196
+  asked t =
+      let n = voice-taken (λ d. bit session) c mask frame t in
+      ap sessionOctets (width-in c (none-good c mask frame n) (none-open c mask frame n)) ∙ session-long (c .terms .rate)
+
+  pub lent-enough : pick (eqb (c .terms .rate) 1) 288 196 ≤ length session → voiceByOctets session c mask frame ≡ lent
+  lent-enough l = go (decLt (numberOf (lent .0)) 2)
+    where
+      go : Dec (numberOf (lent .0) < 2) → voiceByOctets session c mask frame ≡ lent
+      go (yes t) = by-long session c mask frame (omega (arith, asked t))
+      go (no t) = by-refused session c mask frame (omega arith)
+
+  -- of fewer, a slot that would be done or held is 2, and one that would be refused is refused as it would be
+  pub lent-too-few : length session < pick (eqb (c .terms .rate) 1) 288 196
+      → voiceByOctets session c mask frame ≡ pick (ltb (numberOf (lent .0)) 2) (WrongLength, (c, frame)) lent
+  lent-too-few l = go (decLt (numberOf (lent .0)) 2)
+    where
+      go : Dec (numberOf (lent .0) < 2) → voiceByOctets session c mask frame ≡ pick (ltb (numberOf (lent .0)) 2) (WrongLength, (c, frame)) lent
+      go (yes t) = rw (lt-ltb _ _ t) (sym (by-short session c mask frame (voice-taken (λ d. bit session) c mask frame t) (omega (arith, asked t))))
+      go (no t) = rw (le-ltb (numberOf (lent .0)) 2 (omega arith)) (by-refused session c mask frame (omega arith))
+
+-- whatever else is asked, where book and vector have their lengths: any rate but 0 and 1 is 3
+module _ (c : Call) (n i r : ℕ) (b : List ℕ) (m : length b ≡ 576) (h : 2 ≤ r) where
+  no-rate : isRate r ≡ false
+  unfolding isRate
+  no-rate = rw (ne-eqb r 0 (λ e. omega (arith, e)), ne-eqb r 1 (λ e. omega (arith, e)))
+
+  pub join-no-rate : joinOf c n i r b ≡ (OutOfRange, c)
+  unfolding joinOf joinRefusals keyRefusals
+  join-no-rate = rw (eq-eqb _ _ m, no-rate)
+
+  module _ (w : List ℕ) (l : length w ≡ 8) where
+    begin-no-rate : (end : ℕ) → begunOf end c n i r w b ≡ (OutOfRange, c)
+    unfolding begunRefusals vectorRefusals keyRefusals
+    begin-no-rate end = rw (eq-eqb _ _ l, eq-eqb _ _ m, no-rate)
+
+    pub open-no-rate : openOf c n i r w b ≡ (OutOfRange, c)
+    unfolding openOf
+    open-no-rate = begin-no-rate receivingEnd
+
+    pub start-no-rate : startOf c n i r w b ≡ (OutOfRange, c)
+    unfolding startOf
+    start-no-rate = begin-no-rate sendingEnd
 
 -- ---- an announcement
 
@@ -171,18 +239,18 @@ module _ (c : Call) (out : List ℕ) where
 
 -- ---- open and start
 
-module _ (c : Call) (n i : ℕ) (w b : List ℕ) where
+module _ (c : Call) (n i r : ℕ) (w b : List ℕ) where
   abbrev openAsks : Refusals
-  openAsks = vectorRefusals false true (isBad (standing c)) (stands (standing c)) n i w b
+  openAsks = vectorRefusals false (isRate r) (isBad (standing c)) (stands (standing c)) n i w b
 
   abbrev started : ℕ → Call
-  started end = written (begun end (termsOf n (keyFor b n i)) (sessionVector n w))
+  started end = written (begun end (termsOf n (keyFor b n i) r) (sessionVector n w))
 
   -- start answers what open does, but 8 where that would be done with zeros, of DES or AES
-  pub start-answers : startOf c n i w b .0 ≡ pick (isDone (openOf c n i w b .0) && zeroFor n w) ZeroVector (openOf c n i w b .0)
+  pub start-answers : startOf c n i r w b .0 ≡ pick (isDone (openOf c n i r w b .0) && zeroFor n w) ZeroVector (openOf c n i r w b .0)
   unfolding startOf openOf begunRefusals
   start-answers =
-      ap (λ (o : Answer × Call). o .0) (sends-more true (isBad (standing c)) (stands (standing c)) n i b w c (started sendingEnd))
+      ap (λ (o : Answer × Call). o .0) (sends-more (isRate r) (isBad (standing c)) (stands (standing c)) n i b w c (started sendingEnd))
       ∙ go (outcome c openAsks (started sendingEnd)) (outcome c openAsks (started receivingEnd)) (answer-alone c openAsks (Done, started sendingEnd) ∙ sym (answer-alone c openAsks (Done, started receivingEnd)))
     where
       by : (t : Bool) (d : Call) (a : Answer) → pick {A = Answer × Call} t (ZeroVector, c) (a, d) .0 ≡ pick t ZeroVector a
@@ -194,27 +262,27 @@ module _ (c : Call) (n i : ℕ) (w b : List ℕ) where
 
 -- ---- while a call stands
 
-module _ (c : Call) (busy : c .end ≡ closedEnd → ⊥) (n i : ℕ) (b : List ℕ) where
+module _ (c : Call) (busy : c .end ≡ closedEnd → ⊥) (n i r : ℕ) (b : List ℕ) where
   -- a call that has an end is bad or stands
   no-busy : isBad (standing c) ≡ false → stands (standing c) ≡ false → ⊥
   no-busy g e = true≢false (ap not (sym e) ∙ stands-some c (good-by c g) busy)
 
-  pub join-busy : Refusal (joinOf c n i b .0) × (joinOf c n i b .1 ≡ c)
+  pub join-busy : Refusal (joinOf c n i r b .0) × (joinOf c n i r b .1 ≡ c)
   unfolding joinOf joinRefusals keyRefusals
   join-busy =
-      some-refuses c (joinRefusals (standing c) n i b) (Done, written (joined (termsOf n (keyFor b n i)))) refl (λ h. no-busy (search h) (search h))
+      some-refuses c (joinRefusals (standing c) n i r b) (Done, written (joined (termsOf n (keyFor b n i) r))) refl (λ h. no-busy (search h) (search h))
 
   module _ (w : List ℕ) where
-    begin-busy : (end : ℕ) → Refusal (begunOf end c n i w b .0) × (begunOf end c n i w b .1 ≡ c)
+    begin-busy : (end : ℕ) → Refusal (begunOf end c n i r w b .0) × (begunOf end c n i r w b .1 ≡ c)
     unfolding begunRefusals vectorRefusals keyRefusals
     begin-busy end =
-        some-refuses c (begunRefusals end (standing c) n i w b) (Done, written (begun end (termsOf n (keyFor b n i)) (sessionVector n w)))
-        (vector-from-two true (isBad (standing c)) (stands (standing c)) n i b w (eqb end sendingEnd)) (λ h. no-busy (search h) (search h))
+        some-refuses c (begunRefusals end (standing c) n i r w b) (Done, written (begun end (termsOf n (keyFor b n i) r) (sessionVector n w)))
+        (vector-from-two (isRate r) (isBad (standing c)) (stands (standing c)) n i b w (eqb end sendingEnd)) (λ h. no-busy (search h) (search h))
 
-    pub open-busy : Refusal (openOf c n i w b .0) × (openOf c n i w b .1 ≡ c)
+    pub open-busy : Refusal (openOf c n i r w b .0) × (openOf c n i r w b .1 ≡ c)
     unfolding openOf
     open-busy = begin-busy receivingEnd
 
-    pub start-busy : Refusal (startOf c n i w b .0) × (startOf c n i w b .1 ≡ c)
+    pub start-busy : Refusal (startOf c n i r w b .0) × (startOf c n i r w b .1 ≡ c)
     unfolding startOf
     start-busy = begin-busy sendingEnd

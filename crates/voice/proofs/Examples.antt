@@ -1,4 +1,4 @@
--- An example past slot 0 and word 0, and bad and good calls of every kind.
+-- An example past slot 0 and word 0 at each rate, and bad and good calls of every kind.
 use mathlib.Core.Path.{_≡_, refl}
 use mathlib.Core.Bool.{Bool, true, _&&_, not}
 use mathlib.Core.List.{List, [], _∷_, _++_}
@@ -14,34 +14,48 @@ use Rattle.ciphers.specs.Keystream.{stream}
 use Rattle.sizes.specs.Ciphers.{noVector}
 use Rattle.openings.specs.Samples.{scramble0001, desABCD, seed}
 use Rattle.voice.specs.declared.call.Call.{Call}
-use Rattle.sizes.specs.Frame.{frameOctets}
+use Rattle.sizes.specs.Frame.{halfRate, fullRate, isRate, width, frameOctets}
 use Rattle.voice.specs.Frame.{ofSlot, wordTurned, protect}
 use Rattle.voice.specs.Call.{vectorRight, closedTests, openTests, isClosed, isOpen, goodCall, sending, termsOf, callAt, noCall, written}
 
--- slot 3, words 1 and 3: 00000000000000A043C1888533000000000000000080BD038E092400, by a script of the recurrence P(n+15) = P(n+1) xor P(n)
-pub example-past : protect (ofSlot (stream 1 scramble0001 noVector) 3) 10 (replicate frameOctets 0)
-    ≡ replicate 7 0 ++ (0xA0 ∷ 0x43 ∷ 0xC1 ∷ 0x88 ∷ 0x85 ∷ 0x33 ∷ replicate 8 0 ++ (0x80 ∷ 0xBD ∷ 0x03 ∷ 0x8E ∷ 0x09 ∷ 0x24 ∷ 0x00 ∷ []))
+-- slot 3, words 1 and 3: 00000000000000A043C1888533000000000000000080BD038E092400, by a script of the recurrence P(n+15) = P(n+1) xor P(n);
+-- and at full rate, by the same: 000000000000000000BEBF8781110666155400000000000000000090176073412B86F916
+abbrev past : ℕ → List ℕ
+past w = protect w (ofSlot w (stream 1 scramble0001 noVector) 3) 10 (replicate (frameOctets w) 0)
+
+pub example-past : past (width halfRate) ≡ replicate 7 0 ++ (0xA0 ∷ 0x43 ∷ 0xC1 ∷ 0x88 ∷ 0x85 ∷ 0x33 ∷ replicate 8 0 ++ (0x80 ∷ 0xBD ∷ 0x03 ∷ 0x8E ∷ 0x09 ∷ 0x24 ∷ 0x00 ∷ []))
 unfolding protect wordTurned turnedIn turned within replaced octetsFrom octet stream P iterate stepped keyNumber
 example-past = refl
 
--- a DES call, and one that is closed
+pub example-past-full : past (width fullRate)
+    ≡ replicate 9 0 ++ (0xBE ∷ 0xBF ∷ 0x87 ∷ 0x81 ∷ 0x11 ∷ 0x06 ∷ 0x66 ∷ 0x15 ∷ 0x54 ∷ replicate 9 0
+    ++ (0x90 ∷ 0x17 ∷ 0x60 ∷ 0x73 ∷ 0x41 ∷ 0x2B ∷ 0x86 ∷ 0xF9 ∷ 0x16 ∷ []))
+unfolding protect wordTurned turnedIn turned within replaced octetsFrom octet stream P iterate stepped keyNumber
+example-past-full = refl
+
+-- a DES call, and one that is closed, at half rate
 abbrev des : ℕ → List ℕ → ℕ → ℕ → List ℕ → Call
-des end key = callAt end (termsOf 2 key)
+des end key = callAt end (termsOf 2 key halfRate)
 
 abbrev shut : ℕ → List ℕ → ℕ → ℕ → List ℕ → Call
-shut cipher key = callAt 0 (termsOf cipher key)
+shut cipher key = callAt 0 (termsOf cipher key halfRate)
 
 abbrev scrambling : ℕ → ℕ → List ℕ → Call
-scrambling = callAt 2 (termsOf 1 scramble0001)
+scrambling = callAt 2 (termsOf 1 scramble0001 halfRate)
 
 abbrev pub badCalls : List Call
 badCalls =
     -- no such end, no such cipher
     des 3 desABCD 0 1 seed
-    ∷ callAt 2 (termsOf 4 desABCD) 0 1 seed
-    -- closed, with a cipher, a position, a key, a vector, or a vector told
+    ∷ callAt 2 (termsOf 4 desABCD halfRate) 0 1 seed
+    -- no such rate
+    ∷ callAt 2 (termsOf 2 desABCD 2) 0 1 seed
+    ∷ callAt 1 (termsOf 2 desABCD 2) 0 1 seed
+    ∷ callAt 2 (termsOf 1 scramble0001 2) 0 1 noVector
+    -- closed, with a cipher, a rate, a position, a key, a vector, or a vector told
     ∷ des 0 desABCD 0 1 seed
     ∷ shut 1 (replicate 32 0) 0 0 noVector
+    ∷ callAt 0 (termsOf 0 (replicate 32 0) fullRate) 0 0 noVector
     ∷ shut 0 (replicate 32 0) 1 0 noVector
     ∷ shut 0 (replicate 31 0 ++ (1 ∷ [])) 0 0 noVector
     ∷ shut 0 (replicate 32 0) 0 0 seed
@@ -62,16 +76,17 @@ badCalls =
     ∷ scrambling 0 1 seed
     ∷ []
 
--- a receiver's told vector may be zeros, and a sender's scramble vector is
+-- a receiver's told vector may be zeros, and a sender's scramble vector is; both rates
 abbrev pub goodCalls : List Call
 goodCalls =
     noCall ∷ des 2 desABCD 7 1 seed ∷ des 2 desABCD 0 1 noVector ∷ des 2 desABCD 0 0 noVector ∷ des 1 desABCD 0 1 seed ∷ scrambling 3 1 noVector
-    ∷ written (sending (termsOf 1 scramble0001) 0 noVector) ∷ []
+    ∷ written (sending (termsOf 1 scramble0001 halfRate) 0 noVector) ∷ callAt 2 (termsOf 2 desABCD fullRate) 7 1 seed ∷ callAt 1 (termsOf 1 scramble0001 fullRate) 3 1 noVector
+    ∷ []
 
 abbrev each : (Call → Bool) → List Call → Bool
 each f [] = true
 each f (c ∷ cs) = f c && each f cs
 
 pub each-kind : (each (λ c. not (goodCall c)) badCalls ≡ true) × (each goodCall goodCalls ≡ true)
-unfolding goodCall isClosed closedTests isOpen openTests keyRight vectorRight keyAllowed scrambleKey desKey oddOctet allZero allBelow
+unfolding goodCall isClosed closedTests isOpen openTests keyRight isRate vectorRight keyAllowed scrambleKey desKey oddOctet allZero allBelow
 each-kind = (refl, refl)

@@ -13,6 +13,7 @@ use Rattle.octets.specs.Lists.{allZero}
 use Rattle.octets.specs.Bits.{bit}
 use Rattle.octets.proofs.TestLaws.{and-left, every-at}
 use Rattle.sizes.specs.Ciphers.{sessionSlots, keyRoom, vectorOctets, noVector, scrambles}
+use Rattle.sizes.specs.Frame.{isRate}
 use Rattle.generator.specs.Generator.{IsVector}
 use Rattle.generator.proofs.NotZero.{next-not-zero}
 use Rattle.answers.specs.declared.Answer.{Answer}
@@ -26,7 +27,7 @@ use Rattle.voice.specs.Call.{sendingEnd, receivingEnd, toldVector, vecto
 use Rattle.voice.specs.Slot.{goingOn, slotOn, lostRefusals, lostOf, voiceRefusals, streamOf, voiceAfter, voiceBy, voiceOf, voiceByOctets}
 use Rattle.voice.specs.Vector.{awaits, withVector, announceRefusals, announceOf}
 use Rattle.sizes.proofs.SizeLaws.{no-vector-zero}
-use Rattle.voice.proofs.CallLaws.{by-known, known-back, receiver-is, open-place, open-key, open-vector, by-stands, good-by, is-sender, is-receiver, open-told, known-written}
+use Rattle.voice.proofs.CallLaws.{by-known, known-back, receiver-is, open-place, open-key, open-rate, open-vector, by-stands, good-by, is-sender, is-receiver, open-told, known-written}
 use Rattle.voice.proofs.SlotLaws.{by-lent}
 
 -- ---- written, then read
@@ -36,10 +37,10 @@ unfolding goodCall isClosed closedTests allZero allBelow
 closed-good = refl
 
 -- a struct that keeps the rules of an open call
-pub good-open : (e : ℕ) (t : Terms) (p known : ℕ) (v : List ℕ) → 1 ≤ e → e ≤ 2 → keyRight (t .cipher) (t .key) ≡ true → p < sessionSlots (t .cipher)
-    → vectorRight e (t .cipher) known (allZero v) ≡ true → goodCall (callAt e t p known v) ≡ true
+pub good-open : (e : ℕ) (t : Terms) (p known : ℕ) (v : List ℕ) → 1 ≤ e → e ≤ 2 → keyRight (t .cipher) (t .key) ≡ true → isRate (t .rate) ≡ true
+    → p < sessionSlots (t .cipher) → vectorRight e (t .cipher) known (allZero v) ≡ true → goodCall (callAt e t p known v) ≡ true
 unfolding goodCall isOpen openTests
-good-open e t p known v low high key place vector = rw (le-leb _ _ low, le-leb _ _ high, key, lt-ltb _ _ place, vector, or-true)
+good-open e t p known v low high key rate place vector = rw (le-leb _ _ low, le-leb _ _ high, key, rate, lt-ltb _ _ place, vector, or-true)
 
 -- what a sender's vector, and what is known of a receiver's, has to be
 abbrev pub sentRight : ℕ → List ℕ → Bool
@@ -48,12 +49,12 @@ sentRight c v = vectorRight sendingEnd c toldVector (allZero v)
 abbrev pub knownRight : ℕ → Known → Bool
 knownRight c k = vectorRight receivingEnd c (knownNumber k) (allZero (knownVector k))
 
-module _ (t : Terms) (p : ℕ) (key : keyRight (t .cipher) (t .key) ≡ true) (place : p < sessionSlots (t .cipher)) where
+module _ (t : Terms) (p : ℕ) (key : keyRight (t .cipher) (t .key) ≡ true) (rate : isRate (t .rate) ≡ true) (place : p < sessionSlots (t .cipher)) where
   pub good-sender : (v : List ℕ) → sentRight (t .cipher) v ≡ true → goodCall (written (sending t p v)) ≡ true
-  good-sender v = good-open sendingEnd t p toldVector v (omega arith) (omega arith) key place
+  good-sender v = good-open sendingEnd t p toldVector v (omega arith) (omega arith) key rate place
 
   pub good-receiver : (k : Known) → knownRight (t .cipher) k ≡ true → goodCall (written (receiving t p k)) ≡ true
-  good-receiver k = good-open receivingEnd t p (knownNumber k) (knownVector k) (omega arith) (omega arith) key place
+  good-receiver k = good-open receivingEnd t p (knownNumber k) (knownVector k) (omega arith) (omega arith) key rate place
 
 -- reading what was written gives it back
 pub read-written : (s : Standing) → isBad s ≡ false → goodCall (written s) ≡ true → standing (written s) ≡ s
@@ -69,14 +70,15 @@ module _ (c : Call) (lk : length (c .terms .key) ≡ keyRoom) (lv : length (c .v
   closed-is : isClosed c ≡ true → c ≡ noCall
   unfolding isClosed closedTests
   closed-is e =
-      let r : Call = callAt (c .end) (termsOf (c .terms .cipher) (c .terms .key)) (c .position) (c .known) (c .vector) in
+      let r : Call = callAt (c .end) (termsOf (c .terms .cipher) (c .terms .key) (c .terms .rate)) (c .position) (c .known) (c .vector) in
       rw (
         eqb-true (c .end) 0 (every-at (closedTests c) 0 e),
         eqb-true (c .terms .cipher) 0 (every-at (closedTests c) 1 e),
-        eqb-true (c .position) 0 (every-at (closedTests c) 2 e),
-        eqb-true (c .known) 0 (every-at (closedTests c) 3 e),
-        zeros-are (c .terms .key) keyRoom lk (every-at (closedTests c) 4 e),
-        zeros-are (c .vector) vectorOctets lv (every-at (closedTests c) 5 e),
+        eqb-true (c .terms .rate) 0 (every-at (closedTests c) 2 e),
+        eqb-true (c .position) 0 (every-at (closedTests c) 3 e),
+        eqb-true (c .known) 0 (every-at (closedTests c) 4 e),
+        zeros-are (c .terms .key) keyRoom lk (every-at (closedTests c) 5 e),
+        zeros-are (c .vector) vectorOctets lv (every-at (closedTests c) 6 e),
       ) refl
 
   pub written-read : c ≡ written (standing c)
@@ -123,14 +125,14 @@ going-right c v i right = go (scrambles c) refl
     go true e = scramble-right c v e
     go false e = rw (e, next-not-zero v (i e) (sent-some c v right e))
 
-module _ (t : Terms) (p : ℕ) (key : keyRight (t .cipher) (t .key) ≡ true) (place : p < sessionSlots (t .cipher)) where
+module _ (t : Terms) (p : ℕ) (key : keyRight (t .cipher) (t .key) ≡ true) (rate : isRate (t .rate) ≡ true) (place : p < sessionSlots (t .cipher)) where
   received-good : (k : Known) → knownRight (t .cipher) k ≡ true → goodCall (written (slotOn (receiving t p k))) ≡ true
   unfolding slotOn
   received-good k right = go (ltb (p + 1) (sessionSlots (t .cipher))) refl
     where
       go : (b : Bool) → ltb (p + 1) (sessionSlots (t .cipher)) ≡ b → goodCall (written (pick b (receiving t (p + 1) k) (receiving t 0 (untold (t .cipher))))) ≡ true
-      go true e = good-receiver t (p + 1) key (ltb-true _ _ e) k right
-      go false e = good-receiver t 0 key (omega arith) (untold (t .cipher)) (untold-right (t .cipher))
+      go true e = good-receiver t (p + 1) key rate (ltb-true _ _ e) k right
+      go false e = good-receiver t 0 key rate (omega arith) (untold (t .cipher)) (untold-right (t .cipher))
 
   sent-good : (v : List ℕ) → sentRight (t .cipher) v ≡ true → (sessionSlots (t .cipher) ≤ p + 1 → sentRight (t .cipher) (goingOn (t .cipher) v) ≡ true)
       → goodCall (written (slotOn (sending t p v))) ≡ true
@@ -138,8 +140,8 @@ module _ (t : Terms) (p : ℕ) (key : keyRight (t .cipher) (t .key) ≡ true) (p
   sent-good v right next = go (ltb (p + 1) (sessionSlots (t .cipher))) refl
     where
       go : (b : Bool) → ltb (p + 1) (sessionSlots (t .cipher)) ≡ b → goodCall (written (pick b (sending t (p + 1) v) (sending t 0 (goingOn (t .cipher) v)))) ≡ true
-      go true e = good-sender t (p + 1) key (ltb-true _ _ e) v right
-      go false e = good-sender t 0 key (omega arith) (goingOn (t .cipher) v) (next (ltb-false _ _ e))
+      go true e = good-sender t (p + 1) key rate (ltb-true _ _ e) v right
+      go false e = good-sender t 0 key rate (omega arith) (goingOn (t .cipher) v) (next (ltb-false _ _ e))
 
 -- a vector that DES or AES is told
 announced-right : (c : ℕ) (w : List ℕ) → scrambles c ≡ false → knownRight c (told w) ≡ true
@@ -166,10 +168,10 @@ slot-good-if c good next =
     by-stands c good (λ o e s. on s closed-good)
     (λ o e s.
     on s
-    (sent-good (c .terms) (c .position) (open-key c o) (open-place c o) (c .vector) (open-sent c o e) (next e)))
+    (sent-good (c .terms) (c .position) (open-key c o) (open-rate c o) (open-place c o) (c .vector) (open-sent c o e) (next e)))
     (λ o e s.
     on s
-    (received-good (c .terms) (c .position) (open-key c o) (open-place c o) (knownBy (c .known) (c .vector))
+    (received-good (c .terms) (c .position) (open-key c o) (open-rate c o) (open-place c o) (knownBy (c .known) (c .vector))
     (known-right (c .terms .cipher) (c .known) (c .vector) (rw e at (open-vector c o)))))
   where
     on : {s : Standing} → standing c ≡ s → goodCall (written (slotOn s)) ≡ true → goodCall (written (slotOn (standing c))) ≡ true
@@ -239,4 +241,4 @@ module _ (c : Call) (good : goodCall c ≡ true) where
       told-good : awaits (standing c) ≡ true → goodCall (written (withVector w (standing c))) ≡ true
       told-good a =
           by-stands c good (λ o e s. absurd (true≢false (sym a ∙ ap awaits s))) (λ o e s. absurd (true≢false (sym a ∙ ap awaits s)))
-          (λ o e s. ap (λ (t : Standing). goodCall (written (withVector w t))) s ∙ good-receiver (c .terms) (c .position) (open-key c o) (open-place c o) (told w) (announced-right (c .terms .cipher) w (not-true _ (and-left _ _ (sym (ap awaits s) ∙ a)))))
+          (λ o e s. ap (λ (t : Standing). goodCall (written (withVector w t))) s ∙ good-receiver (c .terms) (c .position) (open-key c o) (open-rate c o) (open-place c o) (told w) (announced-right (c .terms .cipher) w (not-true _ (and-left _ _ (sym (ap awaits s) ∙ a)))))

@@ -14,6 +14,7 @@ use Rattle.generator.specs.Generator.{IsVector, filled, announced, shifted, nex
 use Rattle.generator.proofs.NotZero.{next-not-zero}
 use Rattle.generator.proofs.VectorLaws.{next-is-vector}
 use Rattle.sizes.specs.Ciphers.{sessionSlots, noVector, scrambles}
+use Rattle.sizes.specs.Frame.{halfRate, isRate}
 use Rattle.answers.specs.declared.Answer.the-variants.{Done}
 use Rattle.answers.specs.Numbers.{numberOf}
 use Rattle.answers.proofs.OutcomeLaws.{by-refusals}
@@ -87,11 +88,11 @@ next-some c sent out z =
 
 -- a DES sender at its session's last slot, with a list that is no octets: not all zero, and without a bit
 abbrev beyond : Call
-beyond = written (sending (termsOf 2 desABCD) 7 (256 ∷ replicate 7 0))
+beyond = written (sending (termsOf 2 desABCD halfRate) 7 (256 ∷ replicate 7 0))
 
 -- it is good, after a slot it is not, and its next vector is zeros
 pub beyond-octets : (goodCall beyond ≡ true) × (goodCall (voiceBy (λ c n. 0) beyond 0 (replicate 28 0) .1 .0) ≡ false)
     × (nextVectorOf beyond noVector ≡ (Done, noVector))
-unfolding voiceBy voiceRefusals nextVectorOf nextRefusals standing slotOn goingOn goodCall isClosed closedTests isOpen openTests keyRight vectorRight
+unfolding voiceBy voiceRefusals nextVectorOf nextRefusals standing slotOn goingOn goodCall isClosed closedTests isOpen openTests keyRight isRate vectorRight
     keyAllowed desKey oddOctet allZero allBelow nextVector announced iterate shifted filled octetsFrom octet
 beyond-octets = (refl, refl, refl)

@@ -6,6 +6,7 @@ use Prim.Native.Nat.{ℕ}
 use lib.Dec.{eqb}
 use Rattle.octets.specs.Tests.{pick}
 use Rattle.sizes.specs.Ciphers.{scrambles}
+use Rattle.sizes.specs.Frame.{isRate}
 use Rattle.answers.specs.declared.Answer.{Answer}
 use Rattle.answers.specs.declared.Answer.the-variants.{Done}
 use Rattle.answers.specs.Numbers.{isDone}
@@ -32,25 +33,25 @@ call-alike call good g = go (goodCall call) refl
 pub joined-at : (t : Terms) {p : ℕ} → p ≡ pick (scrambles (t .cipher)) 0 superframeSlots → written (receiving t p (untold (t .cipher))) ≡ written (joined t)
 joined-at t = ap (λ (p : ℕ). written (receiving t p (untold (t .cipher))))
 
-module _ (call : Call) (good : Bool) (g : good ≡ goodCall call) (c i : ℕ) (b : List ℕ) where
+module _ (call : Call) (good : Bool) (g : good ≡ goodCall call) (c i r : ℕ) (b : List ℕ) where
   -- what the code says of the call
   abbrev busy : Bool
   busy = not (eqb (call .end) closedEnd)
 
-  module _ (a : Answer) (key : List ℕ) (e : (a, key) ≡ openingKeyOf true (not good) busy c i b) where
-    pub join-refused : isDone a ≡ false → (a, call) ≡ joinOf call c i b
+  module _ (a : Answer) (key : List ℕ) {t : Bool} (rate : t ≡ isRate r) (e : (a, key) ≡ openingKeyOf t (not good) busy c i b) where
+    pub join-refused : isDone a ≡ false → (a, call) ≡ joinOf call c i r b
     unfolding joinOf joinRefusals
-    join-refused = key-begun-refused call (λ k. written (joined (termsOf c k))) true (not good) busy _ _ (call-alike call good g) c i b a key e
+    join-refused = key-begun-refused call (λ k. written (joined (termsOf c k r))) (isRate r) (not good) busy _ _ (call-alike call good g) c i b a key (rw rate at e)
 
-    pub join-done : isDone a ≡ true → (Done, written (joined (termsOf c key))) ≡ joinOf call c i b
+    pub join-done : isDone a ≡ true → (Done, written (joined (termsOf c key r))) ≡ joinOf call c i r b
     unfolding joinOf joinRefusals
-    join-done = key-begun call (λ k. written (joined (termsOf c k))) true (not good) busy _ _ (call-alike call good g) c i b a key e
+    join-done = key-begun call (λ k. written (joined (termsOf c k r))) (isRate r) (not good) busy _ _ (call-alike call good g) c i b a key (rw rate at e)
 
-  module _ (w : List ℕ) (end : ℕ) (a : Answer) (key : List ℕ) (e : (a, key) ≡ vectorKeyOf (eqb end sendingEnd) true (not good) busy c i w b) where
-    pub begun-refused : isDone a ≡ false → (a, call) ≡ begunOf end call c i w b
+  module _ (w : List ℕ) (end : ℕ) (a : Answer) (key : List ℕ) {t : Bool} (rate : t ≡ isRate r) (e : (a, key) ≡ vectorKeyOf (eqb end sendingEnd) t (not good) busy c i w b) where
+    pub begun-refused : isDone a ≡ false → (a, call) ≡ begunOf end call c i r w b
     unfolding begunRefusals
-    begun-refused = vector-begun-refused call (λ k. written (begun end (termsOf c k) (sessionVector c w))) true (not good) busy _ _ (call-alike call good g) c i b w (eqb end sendingEnd) a key e
+    begun-refused = vector-begun-refused call (λ k. written (begun end (termsOf c k r) (sessionVector c w))) (isRate r) (not good) busy _ _ (call-alike call good g) c i b w (eqb end sendingEnd) a key (rw rate at e)
 
-    pub begun-done : isDone a ≡ true → (Done, written (begun end (termsOf c key) (sessionVector c w))) ≡ begunOf end call c i w b
+    pub begun-done : isDone a ≡ true → (Done, written (begun end (termsOf c key r) (sessionVector c w))) ≡ begunOf end call c i r w b
     unfolding begunRefusals
-    begun-done = vector-begun call (λ k. written (begun end (termsOf c k) (sessionVector c w))) true (not good) busy _ _ (call-alike call good g) c i b w (eqb end sendingEnd) a key e
+    begun-done = vector-begun call (λ k. written (begun end (termsOf c k r) (sessionVector c w))) (isRate r) (not good) busy _ _ (call-alike call good g) c i b w (eqb end sendingEnd) a key (rw rate at e)

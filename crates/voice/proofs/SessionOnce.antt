@@ -13,7 +13,7 @@ use Rattle.octets.specs.Bits.{bit, octetsFrom}
 use Rattle.octets.proofs.BitLaws.{bit-octetsFrom, length-octetsFrom, octetsFrom-same}
 use Rattle.sizes.specs.Ciphers.{sessionSlots, scrambles}
 use Rattle.ciphers.specs.Keystream.{stream}
-use Rattle.sizes.proofs.SizeLaws.{slots-at-most, slot-ranged}
+use Rattle.sizes.proofs.SizeLaws.{slot-ranged}
 use Rattle.ciphers.proofs.KeystreamLaws.{bits-stream}
 use Rattle.answers.specs.declared.Answer.the-variants.{Done, Held}
 use Rattle.answers.specs.Numbers.{isDone}
@@ -22,22 +22,23 @@ use Rattle.answers.proofs.OutcomeLaws.{neverDone, among-not-done, by-refusals}
 use Rattle.voice.specs.declared.call.Call.{Call}
 use Rattle.sizes.specs.Frame.{slotBits, sessionBits}
 use Rattle.voice.specs.Frame.{ofSlot}
-use Rattle.voice.specs.Call.{goodCall, knownVector, knownBy, untold, Standing, sending, receiving, standing, written, isBad, knows}
+use Rattle.voice.specs.Call.{goodCall, knownVector, knownBy, untold, Standing, sending, receiving, standing, written, isBad, knows, widthOf}
 use Rattle.voice.specs.Slot.{goingOn, slotOn, lostRefusals, lostOf, voiceRefusals, streamOf, inSlot, voiceAfter, voiceBy, voiceOf, voiceByOctets, sessionStreamOf, IsSession}
 use Rattle.voice.proofs.FrameLaws.{protect-same}
-use Rattle.voice.proofs.CallLaws.{by-stands, is-sender, knows-good, knows-inside, known-written}
-use Rattle.voice.proofs.SlotLaws.{by-long}
+use Rattle.voice.proofs.CallLaws.{by-stands, is-sender, knows-good, knows-inside, known-width, known-written}
+use Rattle.voice.proofs.SlotLaws.{by-long, slot-fits}
 use Rattle.voice.proofs.GoodLaws.{read-written, scramble-right, slot-good-if}
 
 -- ---- a slot rests on the bits of the call's own session
 
-module _ (st su : Call → ℕ → ℕ) (c : Call) (same : (n : ℕ) → n < sessionBits → st c n ≡ su c n) (mask : ℕ) (frame : List ℕ) where
+module _ (st su : Call → ℕ → ℕ) (c : Call) (same : (n : ℕ) → n < sessionBits (widthOf (c .terms)) → st c n ≡ su c n) (mask : ℕ) (frame : List ℕ) where
   turned-same : knows (standing c) ≡ true → inSlot st mask frame (written (standing c)) ≡ inSlot su mask frame (written (standing c))
   turned-same k =
       let l = knows-inside c k in
+      let width = widthOf (c .terms) in
       rw (known-written c k)
-      (protect-same (ofSlot (st c) (c .position)) (ofSlot (su c) (c .position)) mask
-      (λ n h. same (slotBits * c .position + n) (omega (arith, slots-at-most (c .terms .cipher)))) frame)
+      (protect-same width (ofSlot width (st c) (c .position)) (ofSlot width (su c) (c .position)) mask
+      (λ n h. same (slotBits width * c .position + n) (omega (arith, slot-fits width (c .terms .cipher) (c .position) l))) frame)
 
   frame-same : (t : Bool) → knows (standing c) ≡ t
       → pick t (inSlot st mask frame (written (standing c))) frame ≡ pick t (inSlot su mask frame (written (standing c))) frame
@@ -53,7 +54,7 @@ module _ (st su : Call → ℕ → ℕ) (c : Call) (same : (n : ℕ) → n < ses
 -- octets that hold the session turn every slot as the session does
 pub voice-by-is-voice : (c : Call) (session : List ℕ) → IsSession c session → (mask : ℕ) (frame : List ℕ)
     → voiceByOctets session c mask frame ≡ voiceOf c mask frame
-voice-by-is-voice c session i mask frame = by-long session c mask frame (i .long) ∙ voice-same (λ d. bit session) streamOf c (i .bits) mask frame
+voice-by-is-voice c session i mask frame = by-long session c mask frame (rw (known-width c (i .known)) (i .long)) ∙ voice-same (λ d. bit session) streamOf c (i .bits) mask frame
 
 -- ---- a session made
 
@@ -78,8 +79,8 @@ module _ (c : Call) where
       (λ n. ap (streamOf c) (zero-add n))
       ∙ sym (stream-made k out)
 
-  -- octets enough for a session, 196 of them, hold it once it is written there
-  pub session-made : knows (standing c) ≡ true → (out : List ℕ) → sessionBits ≤ 8 * length out → IsSession c (sessionStreamOf c out)
+  -- octets enough for a session, 196 of them or at full rate 288, hold it once it is written there
+  pub session-made : knows (standing c) ≡ true → (out : List ℕ) → sessionBits (widthOf (c .terms)) ≤ 8 * length out → IsSession c (sessionStreamOf c out)
   session-made k out room =
       record {
         known = k;
@@ -98,9 +99,10 @@ scramble-same c k v w n e = rw e
 
 module _ (c : Call) (session : List ℕ) (i : IsSession c session) where
   -- another call of the same session
-  held-as : (t : Standing) → isBad t ≡ false → goodCall (written t) ≡ true → knows t ≡ true → ((n : ℕ) → streamOf (written t) n ≡ streamOf c n)
+  held-as : (t : Standing) → written t .terms ≡ c .terms → isBad t ≡ false → goodCall (written t) ≡ true → knows t ≡ true → ((n : ℕ) → streamOf (written t) n ≡ streamOf c n)
       → IsSession (written t) session
-  held-as t b g k e = record { known = ap knows (read-written t b g) ∙ k; long = i .long; bits = λ n l. i .bits n l ∙ sym (e n) }
+  held-as t s b g k e =
+      record { known = ap knows (read-written t b g) ∙ k; long = rw s (i .long); bits = λ n l. i .bits n (rw s at l) ∙ sym (e n) }
 
   -- one slot on it is the same session, or the next one of scramble, whose bits are the same
   either-kept : (t : Bool) (on next : Standing) → (goodCall (written on) ≡ true → IsSession (written on) session)
@@ -118,14 +120,14 @@ module _ (c : Call) (session : List ℕ) (i : IsSession c session) where
       let on : Standing = sending (c .terms) (c .position + 1) (c .vector) in
       let next : Standing = sending (c .terms) 0 (goingOn (c .terms .cipher) (c .vector)) in
       rw s
-      (either-kept (ltb (c .position + 1) (sessionSlots (c .terms .cipher))) on next (λ g. held-as on refl g refl (λ n. refl))
-      (λ g e. held-as next refl g refl (again (goingOn (c .terms .cipher) (c .vector)) e)) refl (rw s at good-on) (rw s at h)))
+      (either-kept (ltb (c .position + 1) (sessionSlots (c .terms .cipher))) on next (λ g. held-as on refl refl g refl (λ n. refl))
+      (λ g e. held-as next refl refl g refl (again (goingOn (c .terms .cipher) (c .vector)) e)) refl (rw s at good-on) (rw s at h)))
       (λ o e s.
       let on : Standing = receiving (c .terms) (c .position + 1) (knownBy (c .known) (c .vector)) in
       let next : Standing = receiving (c .terms) 0 (untold (c .terms .cipher)) in
       rw s
-      (either-kept (ltb (c .position + 1) (sessionSlots (c .terms .cipher))) on next (λ g. held-as on refl g (sym (ap knows s) ∙ i .known) (own s))
-      (λ g e. held-as next refl g (rw e) (again (knownVector (untold (c .terms .cipher))) e)) refl (rw s at good-on) (rw s at h)))
+      (either-kept (ltb (c .position + 1) (sessionSlots (c .terms .cipher))) on next (λ g. held-as on refl refl g (sym (ap knows s) ∙ i .known) (own s))
+      (λ g e. held-as next refl refl g (rw e) (again (knownVector (untold (c .terms .cipher))) e)) refl (rw s at good-on) (rw s at h)))
     where
       good : goodCall c ≡ true
       good = knows-good c (i .known)

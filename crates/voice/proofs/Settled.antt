@@ -28,14 +28,14 @@ module _ (a b : Answer) (x y : Call) (c : Call) where
   pub one-announce : (w : List ℕ) → (a, x) ≡ announceOf c w → (b, y) ≡ announceOf c w → (a ≡ b) × (x ≡ y)
   one-announce w = one-outcome a b x y
 
-  module _ (n i : ℕ) (book : List ℕ) where
-    pub one-join : (a, x) ≡ joinOf c n i book → (b, y) ≡ joinOf c n i book → (a ≡ b) × (x ≡ y)
+  module _ (n i r : ℕ) (book : List ℕ) where
+    pub one-join : (a, x) ≡ joinOf c n i r book → (b, y) ≡ joinOf c n i r book → (a ≡ b) × (x ≡ y)
     one-join = one-outcome a b x y
 
-    pub one-open : (w : List ℕ) → (a, x) ≡ openOf c n i w book → (b, y) ≡ openOf c n i w book → (a ≡ b) × (x ≡ y)
+    pub one-open : (w : List ℕ) → (a, x) ≡ openOf c n i r w book → (b, y) ≡ openOf c n i r w book → (a ≡ b) × (x ≡ y)
     one-open w = one-outcome a b x y
 
-    pub one-start : (w : List ℕ) → (a, x) ≡ startOf c n i w book → (b, y) ≡ startOf c n i w book → (a ≡ b) × (x ≡ y)
+    pub one-start : (w : List ℕ) → (a, x) ≡ startOf c n i r w book → (b, y) ≡ startOf c n i r w book → (a ≡ b) × (x ≡ y)
     one-start w = one-outcome a b x y
 
   module _ (mask : ℕ) (frame f g : List ℕ) where
@@ -90,19 +90,19 @@ module _ (c : Call) where
   pub voice-keeps : (mask : ℕ) (frame : List ℕ) → Refusal (voiceOf c mask frame .0) → voiceOf c mask frame .1 ≡ (c, frame)
   voice-keeps = voice-by-keeps streamOf
 
-  module _ (n i : ℕ) (book : List ℕ) where
-    pub join-keeps : Refusal (joinOf c n i book .0) → joinOf c n i book .1 ≡ c
+  module _ (n i r : ℕ) (book : List ℕ) where
+    pub join-keeps : Refusal (joinOf c n i r book .0) → joinOf c n i r book .1 ≡ c
     unfolding joinOf
-    join-keeps = keeps c (joinRefusals (standing c) n i book) (Done, written (joined (termsOf n (keyFor book n i)))) (omega arith)
+    join-keeps = keeps c (joinRefusals (standing c) n i r book) (Done, written (joined (termsOf n (keyFor book n i) r))) (omega arith)
 
-    begun-keeps : (end : ℕ) (w : List ℕ) → Refusal (begunOf end c n i w book .0) → begunOf end c n i w book .1 ≡ c
+    begun-keeps : (end : ℕ) (w : List ℕ) → Refusal (begunOf end c n i r w book .0) → begunOf end c n i r w book .1 ≡ c
     begun-keeps end w =
-        keeps c (begunRefusals end (standing c) n i w book) (Done, written (begun end (termsOf n (keyFor book n i)) (sessionVector n w))) (omega arith)
+        keeps c (begunRefusals end (standing c) n i r w book) (Done, written (begun end (termsOf n (keyFor book n i) r) (sessionVector n w))) (omega arith)
 
-    pub open-keeps : (w : List ℕ) → Refusal (openOf c n i w book .0) → openOf c n i w book .1 ≡ c
+    pub open-keeps : (w : List ℕ) → Refusal (openOf c n i r w book .0) → openOf c n i r w book .1 ≡ c
     unfolding openOf
     open-keeps = begun-keeps receivingEnd
 
-    pub start-keeps : (w : List ℕ) → Refusal (startOf c n i w book .0) → startOf c n i w book .1 ≡ c
+    pub start-keeps : (w : List ℕ) → Refusal (startOf c n i r w book .0) → startOf c n i r w book .1 ≡ c
     unfolding startOf
     start-keeps = begun-keeps sendingEnd

@@ -17,15 +17,16 @@ use Rattle.sizes.specs.Ciphers.{sessionSlots}
 use Rattle.answers.specs.declared.Answer.{Answer}
 use Rattle.answers.specs.declared.Answer.the-variants.{Done, Held, WrongLength}
 use Rattle.answers.specs.Numbers.{numberOf}
-use Rattle.answers.specs.Outcomes.{Refusals}
-use Rattle.answers.proofs.OutcomeLaws.{NoneHolds, none-settles, Refuses, answerAt, refused-at, Refusal, fromTwo, among-refuses, by-refusals, around}
+use Rattle.answers.specs.Outcomes.{Refusals, settled}
+use Rattle.answers.proofs.OutcomeLaws.{NoneHolds, none-settles, in-a-row, or-last, refused-alike, Refuses, answerAt, refused-at, Refusal, fromTwo, among-refuses, by-refusals, around}
 use Rattle.voice.specs.declared.call.Call.{Call}
-use Rattle.sizes.specs.Frame.{frameOctets, slotBits, sessionOctets}
+use Rattle.sizes.specs.Frame.{frameOctets, slotBits, sessionBits, sessionOctets}
+use Rattle.octets.proofs.Words.{word-ends}
 use Rattle.voice.specs.Frame.{ofSlot, protect}
-use Rattle.voice.specs.Call.{closedEnd, goodCall, standing, written, stands, knows}
-use Rattle.voice.specs.Slot.{slotOn, lostRefusals, lostOf, topMask, voiceRefusals, streamOf, inSlot, voiceAfter, voiceBy, voiceOf, voiceByOctets}
+use Rattle.voice.specs.Call.{closedEnd, goodCall, standing, widthOf, written, widthIn, stands, knows}
+use Rattle.voice.specs.Slot.{slotOn, lostRefusals, lostOf, topMask, voiceRefusals, streamOf, inSlot, voiceAfter, voiceBy, voiceOf, shortRefusals, voiceByOctets}
 use Rattle.voice.proofs.FrameLaws.{protect-same}
-use Rattle.voice.proofs.CallLaws.{good-by, not-bad, stands-none, stands-some, inside, known-written}
+use Rattle.voice.proofs.CallLaws.{good-by, not-bad, stands-none, stands-some, width-in, inside, known-written}
 
 module _ (c : Call) where
   pub lost-refused : (n : ℕ) → Refuses (lostRefusals (standing c)) n → (answerAt (lostRefusals (standing c)) n, c) ≡ lostOf c
@@ -35,22 +36,31 @@ module _ (c : Call) where
 -- ---- voice
 
 -- a slot's own octets turn the frame as its session does
-pub by-slot : (c : Call) (mask : ℕ) (frame slot g : List ℕ) (from size : ℕ) → slotBits ≤ 8 * size → from ≡ slotBits * c .position
-    → slot ≡ octetsFrom size (λ n. streamOf c (from + n)) → g ≡ protect (λ n. bit slot (0 + n)) mask frame → g ≡ inSlot streamOf mask frame c
-by-slot c mask frame slot g from size room f e h =
+pub by-slot : (c : Call) (mask : ℕ) (frame slot g : List ℕ) (width from size : ℕ) → width ≡ widthOf (c .terms) → slotBits width ≤ 8 * size
+    → from ≡ slotBits width * c .position → slot ≡ octetsFrom size (λ n. streamOf c (from + n)) → g ≡ protect width (λ n. bit slot (0 + n)) mask frame
+    → g ≡ inSlot streamOf mask frame c
+by-slot c mask frame slot g width from size its room f e h =
     h
-    ∙ protect-same (λ n. bit slot (0 + n)) (ofSlot (streamOf c) (c .position)) mask
+    ∙ protect-same width (λ n. bit slot (0 + n)) (ofSlot width (streamOf c) (c .position)) mask
     (λ n l.
     ap (bit slot) (zero-add n)
     ∙ ap (λ (xs : List ℕ). bit xs n) e
     ∙ bit-octetsFrom size (λ i. streamOf c (from + i)) (λ i. bits-stream (c .terms .cipher) (c .terms .key) (c .vector) (from + i)) n (omega arith)
     ∙ ap (λ (z : ℕ). streamOf c (z + n)) f)
     frame
+    ∙ ap (λ (w : ℕ). protect w (ofSlot w (streamOf c) (c .position)) mask frame) its
 
 -- and so do a session's octets, from the slot's place on
-pub by-octets : (session : List ℕ) (q p mask : ℕ) (frame g : List ℕ) → q ≡ p → g ≡ protect (λ n. bit session (slotBits * q + n)) mask frame
-    → g ≡ protect (ofSlot (bit session) p) mask frame
-by-octets session q p mask frame g e h = h ∙ ap (λ (m : ℕ). protect (ofSlot (bit session) m) mask frame) e
+pub by-octets : (session : List ℕ) (c : Call) (mask : ℕ) (frame g : List ℕ) (width from : ℕ) → width ≡ widthOf (c .terms) → from ≡ slotBits width * c .position
+    → g ≡ protect width (λ n. bit session (from + n)) mask frame → g ≡ inSlot (λ d. bit session) mask frame c
+by-octets session c mask frame g width from its f h =
+    h
+    ∙ ap (λ (z : ℕ). protect width (λ n. bit session (z + n)) mask frame) f
+    ∙ ap (λ (w : ℕ). protect w (ofSlot w (bit session) (c .position)) mask frame) its
+
+-- a slot ends where its session does, or before: no session has more than 8 slots
+pub slot-fits : (width c p : ℕ) → p < sessionSlots c → slotBits width * p + slotBits width ≤ sessionBits width
+slot-fits width c p l = word-ends (slotBits width) p 8 (omega (arith, slots-at-most c))
 
 -- ---- what nothing refuses
 
@@ -61,20 +71,20 @@ module _ (c : Call) (mask : ℕ) (frame : List ℕ) where
   from-two = refl
 
   module _ (n : NoneHolds (voiceRefusals (standing c) mask frame)) where
-    pub none-long : length frame ≡ frameOctets
-    unfolding voiceRefusals
-    none-long = eqb-true _ _ (not-false _ (n .0))
-
     pub none-good : goodCall c ≡ true
     unfolding voiceRefusals
-    none-good = good-by c (n .1 .1 .0)
+    none-good = good-by c (n .1 .0)
 
     none-stands : not (stands (standing c)) ≡ false
     unfolding voiceRefusals
-    none-stands = n .1 .1 .1 .0
+    none-stands = n .1 .1 .0
 
     pub none-open : c .end ≡ closedEnd → ⊥
     none-open z = true≢false (sym (stands-none c none-good z) ∙ none-stands)
+
+    pub none-long : length frame ≡ frameOctets (widthOf (c .terms))
+    unfolding voiceRefusals
+    none-long = eqb-true _ _ (not-false _ (n .1 .1 .1 .0)) ∙ ap frameOctets (width-in c none-good none-open)
 
 -- ---- whatever gives the session's bits
 
@@ -144,22 +154,38 @@ voice-beside st su c mask frame =
 -- ---- by lent octets
 
 module _ (session : List ℕ) (c : Call) (mask : ℕ) (frame : List ℕ) where
-  pub by-short : length session < sessionOctets → (WrongLength, (c, frame)) ≡ voiceByOctets session c mask frame
-  unfolding voiceByOctets
-  by-short l = rw (lt-ltb _ _ l)
+  abbrev lent : Answer × (Call × List ℕ)
+  lent = voiceBy (λ d. bit session) c mask frame
 
-  pub by-long : sessionOctets ≤ length session → voiceByOctets session c mask frame ≡ voiceBy (λ d. bit session) c mask frame
-  unfolding voiceByOctets
-  by-long l = rw (le-ltb _ _ l)
+  -- the slot by octets enough, but where there are too few
+  lent-is : voiceByOctets session c mask frame
+      ≡ settled (c, frame) (voiceRefusals (standing c) mask frame)
+      (pick (ltb (length session) (sessionOctets (widthIn (standing c)))) (WrongLength, (c, frame)) (voiceAfter (λ d. bit session) mask frame (standing c)))
+  unfolding voiceByOctets shortRefusals
+  lent-is = in-a-row (voiceRefusals (standing c) mask frame) (shortRefusals (standing c) session) (c, frame) (voiceAfter (λ d. bit session) mask frame (standing c))
+
+  -- what is refused as every slot is
+  pub by-refused : Refusal (lent .0) → voiceByOctets session c mask frame ≡ lent
+  unfolding voiceBy
+  by-refused r =
+      lent-is
+      ∙ refused-alike (c, frame) (voiceRefusals (standing c) mask frame) _ (voiceAfter (λ d. bit session) mask frame (standing c)) (taken-under-two (knows (standing c))) r
+
+  pub by-long : sessionOctets (widthIn (standing c)) ≤ length session → voiceByOctets session c mask frame ≡ lent
+  unfolding voiceBy
+  by-long l = lent-is ∙ rw (le-ltb _ _ l)
+
+  pub by-short : NoneHolds (voiceRefusals (standing c) mask frame) → length session < sessionOctets (widthIn (standing c))
+      → (WrongLength, (c, frame)) ≡ voiceByOctets session c mask frame
+  by-short n l = sym (lent-is ∙ none-settles (voiceRefusals (standing c) mask frame) (c, frame) _ n ∙ rw (lt-ltb _ _ l))
 
   -- what holds of 2 with all as it was, and of the slot by octets enough, holds of the outcome
-  pub by-lent : (P : Answer × (Call × List ℕ) → Type 0) → P (WrongLength, (c, frame)) → P (voiceBy (λ d. bit session) c mask frame)
-      → P (voiceByOctets session c mask frame)
-  unfolding voiceByOctets
-  by-lent P short long = go (ltb (length session) sessionOctets)
+  pub by-lent : (P : Answer × (Call × List ℕ) → Type 0) → P (WrongLength, (c, frame)) → P lent → P (voiceByOctets session c mask frame)
+  unfolding voiceBy
+  by-lent P short long = rw lent-is (go (ltb (length session) (sessionOctets (widthIn (standing c)))))
     where
-      go : (t : Bool) → P (pick t (WrongLength, (c, frame)) (voiceBy (λ d. bit session) c mask frame))
-      go true = short
+      go : (t : Bool) → P (settled (c, frame) (voiceRefusals (standing c) mask frame) (pick t (WrongLength, (c, frame)) (voiceAfter (λ d. bit session) mask frame (standing c))))
+      go true = or-last P (c, frame) (voiceRefusals (standing c) mask frame) (WrongLength, (c, frame)) (voiceAfter (λ d. bit session) mask frame (standing c)) short long
       go false = long
 
   -- any answer but 0: the frame is as it came
@@ -174,14 +200,14 @@ module _ (c : Call) (mask : ℕ) (frame : List ℕ) where
       → answerAt (voiceRefusals (standing c) mask frame) n ≡ voiceOf c mask frame .0
   answer-refused n r = ap (λ (o : Answer × (Call × List ℕ)). o .0) (voice-refused streamOf c mask frame n r)
 
-  module _ (l : length frame ≡ frameOctets) (m : mask ≤ topMask) (good : goodCall c ≡ true) where
+  module _ (l : length frame ≡ frameOctets (widthOf (c .terms))) (m : mask ≤ topMask) (good : goodCall c ≡ true) where
     -- 0 where the vector is known, else 1
     pub answer-taken : (t : Bool) → (c .end ≡ closedEnd → ⊥) → knows (standing c) ≡ t → pick t Done Held ≡ voiceOf c mask frame .0
     unfolding voiceRefusals
     answer-taken t o k =
         ap (λ (u : Bool). pick u Done Held) (sym k)
         ∙ ap (λ (r : Answer × (Call × List ℕ)). r .0)
-        (voice-done streamOf c mask frame (ap not (eq-eqb _ _ l), (le-ltb _ _ m, (not-bad c good, (stands-some c good o, tt)))))
+        (voice-done streamOf c mask frame (le-ltb _ _ m, (not-bad c good, (stands-some c good o, (ap not (eq-eqb _ _ (l ∙ ap frameOctets (sym (width-in c good o)))), tt)))))
 
   -- the call after it
   module _ (a : Answer) (e : a ≡ voiceOf c mask frame .0) where
@@ -223,7 +249,7 @@ module _ (st : Call → ℕ → ℕ) (c : Call) (mask : ℕ) (frame : List ℕ)
     none-refused : NoneHolds (voiceRefusals (standing c) mask frame)
     none-refused = voice-taken st c mask frame (omega (arith, number-by))
 
-    pub turned-long : length frame ≡ frameOctets
+    pub turned-long : length frame ≡ frameOctets (widthOf (c .terms))
     turned-long = none-long c mask frame none-refused
 
     pub turned-inside : c .position < sessionSlots (c .terms .cipher)
@@ -232,3 +258,34 @@ module _ (st : Call → ℕ → ℕ) (c : Call) (mask : ℕ) (frame : List ℕ)
     -- no session has more than 8 slots
     pub turned-early : c .position < 8
     turned-early = let l = turned-inside in omega (arith, slots-at-most (c .terms .cipher))
+
+-- by lent octets
+module _ (session : List ℕ) (c : Call) (mask : ℕ) (frame : List ℕ)
+    (a : Answer) (d : Call) (stepped : (a ≡ voiceOf c mask frame .0) × (d ≡ voiceOf c mask frame .1 .0)) where
+  abbrev st : Call → ℕ → ℕ
+  st e = bit session
+
+  pub lent-refused : Refusal a → (a, (d, frame)) ≡ voiceByOctets session c mask frame
+  lent-refused r =
+      frame-stays st c mask frame a d stepped (λ z. omega arith)
+      ∙ sym (by-refused session c mask frame (rw (number-by st c mask frame a d stepped) at r))
+
+  module _ (taken : numberOf a < 2) where
+    none : NoneHolds (voiceRefusals (standing c) mask frame)
+    none = taken-none c mask frame a (stepped .0) taken
+
+    its : widthIn (standing c) ≡ widthOf (c .terms)
+    its = width-in c (none-good c mask frame none) (none-open c mask frame none)
+
+    pub lent-short : length session < sessionOctets (widthOf (c .terms)) → (WrongLength, (c, frame)) ≡ voiceByOctets session c mask frame
+    lent-short l = by-short session c mask frame none (rw its l)
+
+    module _ (l : sessionOctets (widthOf (c .terms)) ≤ length session) where
+      enough : voiceByOctets session c mask frame ≡ voiceBy st c mask frame
+      enough = by-long session c mask frame (rw its l)
+
+      pub lent-held : (numberOf a ≡ 0 → ⊥) → (a, (d, frame)) ≡ voiceByOctets session c mask frame
+      lent-held n = frame-stays st c mask frame a d stepped n ∙ sym enough
+
+      pub lent-turned : numberOf a ≡ 0 → (g : List ℕ) → g ≡ inSlot st mask frame c → (a, (d, g)) ≡ voiceByOctets session c mask frame
+      lent-turned z g t = frame-turned st c mask frame a d stepped z g t ∙ sym enough

@@ -1,9 +1,10 @@
 -- A voice slot of a call that stands, whole: what it answers and leaves. And at 9600 bps, where every other slot has mask 0.
 use mathlib.Core.Path.{_≡_, refl, sym, ap, ap₂, _∙_}
-use mathlib.Core.Bool.{Bool, true, false≢true}
+use mathlib.Core.Bool.{Bool, true, false, false≢true}
 use mathlib.Core.List.{List}
 use Prim.Native.Nat.{ℕ, _+_, _-_, _*_, _≤_, _<_}
 use native.Mathlib.Omega.{arith}
+use lib.Dec.{ltb}
 use lib.ListN.{length}
 use borrow.Author.Tests.{eq-eqb, le-ltb, lt-ltb}
 use Rattle.sizes.proofs.SizeLaws.{slot-ranged}
@@ -12,24 +13,27 @@ use Rattle.octets.specs.Tests.{pick}
 use Rattle.sizes.specs.Ciphers.{sessionSlots}
 use Rattle.answers.specs.declared.Answer.{Answer}
 use Rattle.answers.specs.declared.Answer.the-variants.{Done, Held}
+use Rattle.answers.specs.Numbers.{numberOf}
+use Rattle.answers.proofs.OutcomeLaws.{NoneHolds}
 use Rattle.voice.specs.declared.call.Terms.{Terms}
 use Rattle.voice.specs.declared.call.Call.{Call}
-use Rattle.sizes.specs.Frame.{frameOctets, slotBits}
+use Rattle.sizes.specs.Frame.{halfRate, width, frameOctets, slotBits}
 use Rattle.voice.specs.Frame.{IsFrame, ofSlot, protect}
-use Rattle.voice.specs.Call.{unknownVector, goodCall, Known, Standing, closed, bad, sending, receiving, standing, callAt, written, stands, knows}
+use Rattle.voice.specs.Call.{unknownVector, goodCall, Known, Standing, closed, bad, sending, receiving, standing, callAt, widthOf, written, widthIn, stands, knows}
 use Rattle.voice.specs.Slot.{slotOn, lostRefusals, lostOf, topMask, voiceRefusals, streamOf, inSlot, voiceAfter, voiceBy, voiceOf}
 use Rattle.voice.proofs.FrameLaws.{protect-same, protect-none}
-use Rattle.voice.proofs.CallLaws.{knows-inside, knows-yes, known-written}
+use Rattle.voice.proofs.SlotLaws.{none-good, none-open, voice-taken, voice-done}
+use Rattle.voice.proofs.CallLaws.{by-stands, knows-inside, knows-yes, known-width, known-written}
 use Rattle.voice.proofs.GoodLaws.{slot-good-if}
 
 -- a call that stands, wherever it does
-module _ (call : Call) (mask : ℕ) (frame : List ℕ) (m : mask ≤ topMask) (l : length frame ≡ frameOctets) where
-  pub voice-at : (s : Standing) → standing call ≡ s → stands s ≡ true → voiceOf call mask frame ≡ voiceAfter streamOf mask frame s
+module _ (call : Call) (mask : ℕ) (frame : List ℕ) (m : mask ≤ topMask) where
+  pub voice-at : (s : Standing) → length frame ≡ frameOctets (widthIn s) → standing call ≡ s → stands s ≡ true → voiceOf call mask frame ≡ voiceAfter streamOf mask frame s
   unfolding voiceBy voiceRefusals
-  voice-at closed e o = absurd (false≢true o)
-  voice-at bad e o = absurd (false≢true o)
-  voice-at (sending t p v) e o = rw (e, eq-eqb _ _ l, le-ltb _ _ m)
-  voice-at (receiving t p k) e o = rw (e, eq-eqb _ _ l, le-ltb _ _ m)
+  voice-at closed l e o = absurd (false≢true o)
+  voice-at bad l e o = absurd (false≢true o)
+  voice-at (sending t p v) l e o = rw (e, eq-eqb _ _ l, le-ltb _ _ m)
+  voice-at (receiving t p k) l e o = rw (e, eq-eqb _ _ l, le-ltb _ _ m)
 
 -- a receiver that is told of a lost slot
 pub lost-at : (call : Call) {t : Terms} {p : ℕ} {k : Known} → standing call ≡ receiving t p k → lostOf call ≡ (Done, written (slotOn (receiving t p k)))
@@ -73,17 +77,35 @@ module _ (c : Call) (r : Running c) where
     runs-on = record { good = sym (ap goodCall (within .1)) ∙ slot-good-if c (r .good) (λ e last. absurd (omega arith)); known = r .known }
 
     -- before a session's last slot the frame is turned and the position moves on, at either end
-    pub voice-within : (mask : ℕ) (frame : List ℕ) → mask ≤ topMask → length frame ≡ frameOctets
+    pub voice-within : (mask : ℕ) (frame : List ℕ) → mask ≤ topMask → length frame ≡ frameOctets (widthOf (c .terms))
         → voiceOf c mask frame ≡ (Done, (onward c, inSlot streamOf mask frame c))
     voice-within mask frame m l =
-        voice-at c mask frame m l (standing c) refl (within .0)
+        voice-at c mask frame m (standing c) (l ∙ ap frameOctets (sym (known-width c knows-running))) refl (within .0)
         ∙ ap (λ (t : Bool). (pick t Done Held, (written (slotOn (standing c)), pick t (inSlot streamOf mask frame (written (standing c))) frame))) knows-running
         ∙ ap₂ (λ (d e : Call). (Done, (d, inSlot streamOf mask frame e))) (within .1) itself
+
+-- ---- a session's end
+
+-- after its last slot, done or held, a call is at position 0, under the same terms
+pub session-over : (c : Call) → c .position + 1 ≡ sessionSlots (c .terms .cipher) → (mask : ℕ) (frame : List ℕ) → numberOf (voiceOf c mask frame .0) < 2
+    → (voiceOf c mask frame .1 .0 .position ≡ 0) × (voiceOf c mask frame .1 .0 .terms ≡ c .terms)
+unfolding slotOn
+session-over c last mask frame l =
+    by-stands c (none-good c mask frame n) (λ o e s. absurd (none-open c mask frame n e)) (λ o e s. rw (after, s, over) (refl, refl)) (λ o e s. rw (after, s, over) (refl, refl))
+  where
+    n : NoneHolds (voiceRefusals (standing c) mask frame)
+    n = voice-taken streamOf c mask frame l
+
+    after : voiceOf c mask frame ≡ voiceAfter streamOf mask frame (standing c)
+    after = sym (voice-done streamOf c mask frame n)
+
+    over : ltb (c .position + 1) (sessionSlots (c .terms .cipher)) ≡ false
+    over = le-ltb (c .position + 1) (sessionSlots (c .terms .cipher)) (omega arith)
 
 -- ---- half rate at 9600 bps: the second and fourth slots of a superframe have mask 0
 
 -- the third slot stands at bits 392 to 587
-pub third-bits : (slotBits * 2 ≡ 392) × (slotBits * 2 + (slotBits - 1) ≡ 587)
+pub third-bits : (slotBits (width halfRate) * 2 ≡ 392) × (slotBits (width halfRate) * 2 + (slotBits (width halfRate) - 1) ≡ 587)
 third-bits = (refl, refl)
 
 slots-four : (c p : ℕ) → p < sessionSlots c → 4 ≤ sessionSlots c
@@ -91,8 +113,8 @@ slots-four c p h = by-range (λ n. 4 ≤ sessionSlots n) (omega arith) (omega ar
 
 -- the first three slots of a session at either end: the second is left as it came, and the third is turned by bits 392 and on, so the second
 -- used up its own all the same
-module _ (c : Call) (r : Running c) (start : c .position ≡ 0) (m n : ℕ) (hm : m ≤ topMask) (hn : n ≤ topMask)
-    (first second third : List ℕ) (l : length first ≡ frameOctets) (f : IsFrame second) (l′ : length third ≡ frameOctets) where
+module _ (c : Call) (r : Running c) (half : c .terms .rate ≡ halfRate) (start : c .position ≡ 0) (m n : ℕ) (hm : m ≤ topMask) (hn : n ≤ topMask)
+    (first second third : List ℕ) (l : length first ≡ 28) (f : IsFrame 49 second) (l′ : length third ≡ 28) where
   abbrev pub two : Answer × (Call × List ℕ)
   two = voiceOf (voiceOf c m first .1 .0) 0 second
 
@@ -109,12 +131,12 @@ module _ (c : Call) (r : Running c) (start : c .position ≡ 0) (m n : ℕ) (hm 
   runs-one = runs-on c r (early (c .position) (omega arith))
 
   once : voiceOf c m first .1 .0 ≡ onward c
-  once = ap (λ (o : Answer × (Call × List ℕ)). o .1 .0) (voice-within c r (early (c .position) (omega arith)) m first hm l)
+  once = ap (λ (o : Answer × (Call × List ℕ)). o .1 .0) (voice-within c r (early (c .position) (omega arith)) m first hm (rw half l))
 
   on-two : two ≡ (Done, (onward (onward c), inSlot streamOf 0 second (onward c)))
   on-two =
       ap (λ (d : Call). voiceOf d 0 second) once
-      ∙ voice-within (onward c) runs-one (early (c .position + 1) (omega arith)) 0 second (omega arith) (f .long)
+      ∙ voice-within (onward c) runs-one (early (c .position + 1) (omega arith)) 0 second (omega arith) (rw half (f .long))
 
   runs-two : Running (onward (onward c))
   runs-two = runs-on (onward c) runs-one (early (c .position + 1) (omega arith))
@@ -122,12 +144,13 @@ module _ (c : Call) (r : Running c) (start : c .position ≡ 0) (m n : ℕ) (hm 
   pub second-stays : two .1 .1 ≡ second
   second-stays =
       ap (λ (o : Answer × (Call × List ℕ)). o .1 .1) on-two
-      ∙ protect-none (ofSlot (streamOf c) (c .position + 1)) 0 second f refl
+      ∙ protect-none (widthOf (c .terms)) (ofSlot (widthOf (c .terms)) (streamOf c) (c .position + 1)) 0 second (rw half f) refl
 
-  pub third-turned : three .1 .1 ≡ protect (λ i. streamOf c (392 + i)) n third
+  pub third-turned : three .1 .1 ≡ protect 49 (λ i. streamOf c (392 + i)) n third
   third-turned =
       ap (λ (o : Answer × (Call × List ℕ)). voiceOf (o .1 .0) n third .1 .1) on-two
       ∙ ap (λ (o : Answer × (Call × List ℕ)). o .1 .1)
-      (voice-within (onward (onward c)) runs-two (early (c .position + 1 + 1) (omega arith)) n third hn l′)
-      ∙ protect-same (ofSlot (streamOf c) (c .position + 1 + 1)) (λ i. streamOf c (392 + i)) n
-      (λ i h. let e : slotBits * (c .position + 1 + 1) + i ≡ 392 + i = omega arith in ap (streamOf c) e) third
+      (voice-within (onward (onward c)) runs-two (early (c .position + 1 + 1) (omega arith)) n third hn (rw half l′))
+      ∙ ap (λ (r : ℕ). protect (width r) (ofSlot (width r) (streamOf c) (c .position + 1 + 1)) n third) half
+      ∙ protect-same 49 (ofSlot 49 (streamOf c) (c .position + 1 + 1)) (λ i. streamOf c (392 + i)) n
+      (λ i h. let e : slotBits 49 * (c .position + 1 + 1) + i ≡ 392 + i = omega arith in ap (streamOf c) e) third

@@ -13,6 +13,7 @@ use Rattle.answers.specs.Outcomes.{Refusals, outcome}
 use Rattle.voice.specs.declared.call.Terms.{Terms}
 use Rattle.voice.specs.declared.call.Call.{Call}
 use Rattle.ciphers.specs.Keys.{keyRight}
+use Rattle.sizes.specs.Frame.{isRate, width}
 
 -- ---- the numbers of the struct
 
@@ -42,12 +43,13 @@ vectorRight end cipher known zeros =
 -- closed, all else zero
 unfoldable pub closedTests : Call → List Bool
 closedTests c =
-    eqb (c .end) closedEnd ∷ eqb (c .terms .cipher) 0 ∷ eqb (c .position) 0 ∷ eqb (c .known) unknownVector ∷ allZero (c .terms .key) ∷ allZero (c .vector) ∷ []
+    eqb (c .end) closedEnd ∷ eqb (c .terms .cipher) 0 ∷ eqb (c .terms .rate) 0 ∷ eqb (c .position) 0 ∷ eqb (c .known) unknownVector
+    ∷ allZero (c .terms .key) ∷ allZero (c .vector) ∷ []
 
--- its end, cipher, allowed key, position inside the session, and vector with what is known of it
+-- its end, cipher, allowed key, rate, position inside the session, and vector with what is known of it
 unfoldable pub openTests : Call → List Bool
 openTests c =
-    leb sendingEnd (c .end) ∷ leb (c .end) receivingEnd ∷ keyRight (c .terms .cipher) (c .terms .key)
+    leb sendingEnd (c .end) ∷ leb (c .end) receivingEnd ∷ keyRight (c .terms .cipher) (c .terms .key) ∷ isRate (c .terms .rate)
     ∷ ltb (c .position) (sessionSlots (c .terms .cipher)) ∷ vectorRight (c .end) (c .terms .cipher) (c .known) (allZero (c .vector)) ∷ []
 
 unfoldable pub isClosed : Call → Bool
@@ -102,15 +104,19 @@ standing c =
     (receiving (c .terms) (c .position) (knownBy (c .known) (c .vector))))
     bad)
 
-abbrev pub termsOf : ℕ → List ℕ → Terms
-termsOf cipher key = record { cipher = cipher; key = key }
+abbrev pub termsOf : ℕ → List ℕ → ℕ → Terms
+termsOf cipher key rate = record { cipher = cipher; key = key; rate = rate }
+
+-- the speech bits of a word, by the rate
+abbrev pub widthOf : Terms → ℕ
+widthOf t = width (t .rate)
 
 abbrev pub callAt : ℕ → Terms → ℕ → ℕ → List ℕ → Call
 callAt end t p known v = record { end = end; terms = t; position = p; known = known; vector = v }
 
 -- no call: all zero
 abbrev pub noCall : Call
-noCall = callAt closedEnd (termsOf 0 (replicate keyRoom 0)) 0 unknownVector noVector
+noCall = callAt closedEnd (termsOf 0 (replicate keyRoom 0) 0) 0 unknownVector noVector
 
 -- the one struct for what a call stands for (there is none for bad: no operation leaves a bad call but as it was)
 abbrev pub written : Standing → Call
@@ -124,6 +130,13 @@ isBad closed = false
 isBad bad = true
 isBad (sending t p v) = false
 isBad (receiving t p k) = false
+
+-- the speech bits of a word of a call that stands; of others none are asked for
+abbrev pub widthIn : Standing → ℕ
+widthIn closed = 0
+widthIn bad = 0
+widthIn (sending t p v) = widthOf t
+widthIn (receiving t p k) = widthOf t
 
 -- a call stands
 abbrev pub stands : Standing → Bool

@@ -1,6 +1,5 @@
 -- How a call begins (document 01, "Voice"): open, join and start.
 use mathlib.Core.List.{List}
-use mathlib.Core.Bool.{true}
 use Prim.Native.Nat.{ℕ}
 use lib.Dec.{eqb}
 use Rattle.octets.specs.Tests.{pick}
@@ -9,6 +8,7 @@ use Rattle.answers.specs.Outcomes.{Refusals, outcome}
 use Rattle.voice.specs.declared.call.Terms.{Terms}
 use Rattle.voice.specs.declared.call.Call.{Call}
 use Rattle.sizes.specs.Ciphers.{scrambles}
+use Rattle.sizes.specs.Frame.{isRate}
 use Rattle.openings.specs.Ladder.{sessionVector, keyFor, keyRefusals, vectorRefusals}
 use Rattle.voice.specs.Call.{sendingEnd, receivingEnd, told, untold, Standing, sending, receiving, standing, termsOf, written, isBad, stands}
 
@@ -16,31 +16,31 @@ use Rattle.voice.specs.Call.{sendingEnd, receivingEnd, told, untold, Sta
 abbrev pub superframeSlots : ℕ
 superframeSlots = 4
 
--- 2, 3 of cipher and key ID (it has no numbers of its own), 4 of the call, 9 while a call stands, 4 of the book, 5, 6
-unfoldable pub joinRefusals : Standing → ℕ → ℕ → List ℕ → Refusals
-joinRefusals s c i b = keyRefusals true (isBad s) (stands s) c i b
+-- 2, 3 of cipher, key ID and rate, 4 of the call, 9 while a call stands, 4 of the book, 5, 6
+unfoldable pub joinRefusals : Standing → ℕ → ℕ → ℕ → List ℕ → Refusals
+joinRefusals s c i r b = keyRefusals (isRate r) (isBad s) (stands s) c i b
 
 -- the same of a call at one of its ends, with the vector's 2 first, and its 8 last for a sender
-unfoldable pub begunRefusals : ℕ → Standing → ℕ → ℕ → List ℕ → List ℕ → Refusals
-begunRefusals end s c i w b = vectorRefusals (eqb end sendingEnd) true (isBad s) (stands s) c i w b
+unfoldable pub begunRefusals : ℕ → Standing → ℕ → ℕ → ℕ → List ℕ → List ℕ → Refusals
+begunRefusals end s c i r w b = vectorRefusals (eqb end sendingEnd) (isRate r) (isBad s) (stands s) c i w b
 
 -- a call at one of its ends, at position 0 of its first session, vector told
 abbrev pub begun : ℕ → Terms → List ℕ → Standing
 begun end t v = pick (eqb end sendingEnd) (sending t 0 v) (receiving t 0 (told v))
 
-abbrev pub begunOf : ℕ → Call → ℕ → ℕ → List ℕ → List ℕ → Answer × Call
-begunOf end call c i w b =
-    outcome call (begunRefusals end (standing call) c i w b) (written (begun end (termsOf c (keyFor b c i)) (sessionVector c w)))
+abbrev pub begunOf : ℕ → Call → ℕ → ℕ → ℕ → List ℕ → List ℕ → Answer × Call
+begunOf end call c i r w b =
+    outcome call (begunRefusals end (standing call) c i r w b) (written (begun end (termsOf c (keyFor b c i) r) (sessionVector c w)))
 
-unfoldable pub openOf : Call → ℕ → ℕ → List ℕ → List ℕ → Answer × Call
+unfoldable pub openOf : Call → ℕ → ℕ → ℕ → List ℕ → List ℕ → Answer × Call
 openOf = begunOf receivingEnd
 
-unfoldable pub startOf : Call → ℕ → ℕ → List ℕ → List ℕ → Answer × Call
+unfoldable pub startOf : Call → ℕ → ℕ → ℕ → List ℕ → List ℕ → Answer × Call
 startOf = begunOf sendingEnd
 
 -- a receiver at the end of a first superframe: scramble is at position 0 and running; DES and AES are at position 4, vector unknown
 abbrev pub joined : Terms → Standing
 joined t = receiving t (pick (scrambles (t .cipher)) 0 superframeSlots) (untold (t .cipher))
 
-unfoldable pub joinOf : Call → ℕ → ℕ → List ℕ → Answer × Call
-joinOf call c i b = outcome call (joinRefusals (standing call) c i b) (written (joined (termsOf c (keyFor b c i))))
+unfoldable pub joinOf : Call → ℕ → ℕ → ℕ → List ℕ → Answer × Call
+joinOf call c i r b = outcome call (joinRefusals (standing call) c i r b) (written (joined (termsOf c (keyFor b c i) r)))

@@ -1,6 +1,6 @@
 -- A voice slot of a call (document 01, "Voice"), arrived or lost.
 use mathlib.Core.Path.{_≡_}
-use mathlib.Core.List.{List, [], _∷_}
+use mathlib.Core.List.{List, [], _∷_, _++_}
 use mathlib.Core.Bool.{true, not}
 use Prim.Native.Nat.{ℕ, _+_, _-_, _^_, _≤_, _<_}
 use lib.Dec.{ltb, eqb}
@@ -16,7 +16,7 @@ use Rattle.generator.specs.Generator.{nextVector}
 use Rattle.voice.specs.declared.call.Call.{Call}
 use Rattle.sizes.specs.Frame.{words, frameOctets, sessionBits, sessionOctets}
 use Rattle.voice.specs.Frame.{ofSlot, protect}
-use Rattle.voice.specs.Call.{untold, Standing, closed, bad, sending, receiving, standing, written, isBad, stands, receives, knows}
+use Rattle.voice.specs.Call.{untold, Standing, closed, bad, sending, receiving, standing, widthOf, widthIn, written, isBad, stands, receives, knows}
 
 -- ---- a slot on
 
@@ -46,10 +46,10 @@ lostOf c = outcome c (lostRefusals (standing c)) (written (slotOn (standing c)))
 abbrev pub topMask : ℕ
 topMask = 2 ^ words - 1
 
--- 2, 10, 4, 9 without a call
+-- 10, 4, 9 without a call; and 2, which comes last, since a frame's length follows the call's rate (document 02, W-205)
 unfoldable pub voiceRefusals : Standing → ℕ → List ℕ → Refusals
 voiceRefusals s mask frame =
-    (not (eqb (length frame) frameOctets), WrongLength) ∷ (ltb topMask mask, BadMask) ∷ (isBad s, Bad) ∷ (not (stands s), NotNow) ∷ []
+    (ltb topMask mask, BadMask) ∷ (isBad s, Bad) ∷ (not (stands s), NotNow) ∷ (not (eqb (length frame) (frameOctets (widthIn s))), WrongLength) ∷ []
 
 -- the keystream of the session that a call is in
 abbrev pub streamOf : Call → ℕ → ℕ
@@ -58,7 +58,7 @@ streamOf c = stream (c .terms .cipher) (c .terms .key) (c .vector)
 module _ (st : Call → ℕ → ℕ) (mask : ℕ) (frame : List ℕ) where
   -- protected or opened, the frame is turned by the bits of the slot that a call is at, of its session's, which st gives
   abbrev pub inSlot : Call → List ℕ
-  inSlot c = protect (ofSlot (st c) (c .position)) mask frame
+  inSlot c = let width = widthOf (c .terms) in protect width (ofSlot width (st c) (c .position)) mask frame
 
   -- at either end the frame is turned; where a receiver doesn't know the vector it is held as it came; position moves on
   abbrev pub voiceAfter : Standing → Answer × (Call × List ℕ)
@@ -72,10 +72,14 @@ voiceBy st c mask frame = settled (c, frame) (voiceRefusals (standing c) mask fr
 abbrev pub voiceOf : Call → ℕ → List ℕ → Answer × (Call × List ℕ)
 voiceOf = voiceBy streamOf
 
--- by lent octets, whatever they hold; fewer than a session's are 2, as a frame of another length is
+-- fewer lent octets than a session's are 2, as a frame of another length is
+unfoldable pub shortRefusals : Standing → List ℕ → Refusals
+shortRefusals s session = (ltb (length session) (sessionOctets (widthIn s)), WrongLength) ∷ []
+
+-- by lent octets, whatever they hold
 unfoldable pub voiceByOctets : List ℕ → Call → ℕ → List ℕ → Answer × (Call × List ℕ)
 voiceByOctets session c mask frame =
-    settled (c, frame) ((ltb (length session) sessionOctets, WrongLength) ∷ []) (voiceBy (λ d. bit session) c mask frame)
+    settled (c, frame) (voiceRefusals (standing c) mask frame ++ shortRefusals (standing c) session) (voiceAfter (λ d. bit session) mask frame (standing c))
 
 -- ---- a session's keystream, made once
 
@@ -86,5 +90,5 @@ sessionStreamOf c out = pick (knows (standing c)) (octetsFrom (length out) (stre
 -- octets that hold the keystream of the session that a call is in, all that its slots can take
 pub record IsSession (call : Call) (session : List ℕ) : Type 0 where
   pub known : knows (standing call) ≡ true
-  pub long : sessionOctets ≤ length session
-  pub bits : (n : ℕ) → n < sessionBits → bit session n ≡ streamOf call n
+  pub long : sessionOctets (widthOf (call .terms)) ≤ length session
+  pub bits : (n : ℕ) → n < sessionBits (widthOf (call .terms)) → bit session n ≡ streamOf call n

@@ -9,6 +9,7 @@ use sizes::cipher::KEY_ROOM;
 use sizes::cipher::Scramble;
 use sizes::cipher::VECTOR_OCTETS;
 use sizes::cipher::session_slots;
+use sizes::frame::is_rate;
 
 pub const CLOSED: u8 = 0;
 
@@ -25,6 +26,7 @@ pub const TOLD: u8 = 1;
 pub struct Terms {
     pub cipher: u8,
     pub key: [u8; KEY_ROOM],
+    pub rate: u8,
 }
 
 // Closed is all zero. A scramble vector is told and zeros, an unknown vector is zeros.
@@ -74,6 +76,9 @@ fn is_closed(call: Call) -> bool
     if call.terms.cipher != 0 {
         return false;
     }
+    if call.terms.rate != 0 {
+        return false;
+    }
     if call.position != 0 {
         return false;
     }
@@ -99,6 +104,9 @@ fn is_open(call: Call) -> bool
     }
     let key = call.terms.key;
     if !key_right(call.terms.cipher, key) {
+        return false;
+    }
+    if !is_rate(call.terms.rate) {
         return false;
     }
     if wide(call.position) >= session_slots(call.terms.cipher) {
@@ -127,6 +135,7 @@ pub fn no_call() -> Call
         terms: Terms {
             cipher: 0,
             key: [0; KEY_ROOM],
+            rate: 0,
         },
         position: 0,
         known: UNKNOWN,

@@ -20,6 +20,7 @@ use openings::opening_key_with;
 use openings::session_vector;
 use sizes::cipher::Scramble;
 use sizes::cipher::VECTOR_OCTETS;
+use sizes::frame::is_rate;
 
 const SUPERFRAME_SLOTS: u8 = 4;
 
@@ -33,12 +34,12 @@ fn begun(end: u8, terms: Terms, vector: [u8; VECTOR_OCTETS]) -> Call
     receiver(terms, 0, TOLD, vector)
 }
 
-fn begin(end: u8, call: Call, cipher: u8, id: u8, vector: &[u8], book: &[u8]) -> Stepped
-    ensures { λ r. ⌜ (r .answer, r .call) ≡ begunOf end call cipher id (now (vector .entry)) (now (book .entry)) ⌝ }
+fn begin(end: u8, call: Call, cipher: u8, id: u8, rate: u8, vector: &[u8], book: &[u8]) -> Stepped
+    ensures { λ r. ⌜ (r .answer, r .call) ≡ begunOf end call cipher id rate (now (vector .entry)) (now (book .entry)) ⌝ }
 {
     let ready = opening_key_with(
         end == SENDING,
-        true,
+        is_rate(rate),
         !good_call(call),
         call.end != CLOSED,
         cipher,
@@ -53,20 +54,24 @@ fn begin(end: u8, call: Call, cipher: u8, id: u8, vector: &[u8], book: &[u8]) ->
     let key = ready.key;
     Stepped {
         answer: Answer::Done,
-        call: begun(end, Terms { cipher, key }, session_vector(cipher, vector)),
+        call: begun(
+            end,
+            Terms { cipher, key, rate },
+            session_vector(cipher, vector),
+        ),
     }
 }
 
-pub fn open(call: Call, cipher: u8, id: u8, vector: &[u8], book: &[u8]) -> Stepped
-    ensures { λ r. ⌜ (r .answer, r .call) ≡ openOf call cipher id (now (vector .entry)) (now (book .entry)) ⌝ }
+pub fn open(call: Call, cipher: u8, id: u8, rate: u8, vector: &[u8], book: &[u8]) -> Stepped
+    ensures { λ r. ⌜ (r .answer, r .call) ≡ openOf call cipher id rate (now (vector .entry)) (now (book .entry)) ⌝ }
 {
-    begin(RECEIVING, call, cipher, id, vector, book)
+    begin(RECEIVING, call, cipher, id, rate, vector, book)
 }
 
-pub fn start(call: Call, cipher: u8, id: u8, vector: &[u8], book: &[u8]) -> Stepped
-    ensures { λ r. ⌜ (r .answer, r .call) ≡ startOf call cipher id (now (vector .entry)) (now (book .entry)) ⌝ }
+pub fn start(call: Call, cipher: u8, id: u8, rate: u8, vector: &[u8], book: &[u8]) -> Stepped
+    ensures { λ r. ⌜ (r .answer, r .call) ≡ startOf call cipher id rate (now (vector .entry)) (now (book .entry)) ⌝ }
 {
-    begin(SENDING, call, cipher, id, vector, book)
+    begin(SENDING, call, cipher, id, rate, vector, book)
 }
 
 // A receiver at the end of a first superframe.
@@ -80,10 +85,17 @@ fn joining(terms: Terms) -> Call
     receiver(terms, SUPERFRAME_SLOTS, known, [0; VECTOR_OCTETS])
 }
 
-pub fn join(call: Call, cipher: u8, id: u8, book: &[u8]) -> Stepped
-    ensures { λ r. ⌜ (r .answer, r .call) ≡ joinOf call cipher id (now (book .entry)) ⌝ }
+pub fn join(call: Call, cipher: u8, id: u8, rate: u8, book: &[u8]) -> Stepped
+    ensures { λ r. ⌜ (r .answer, r .call) ≡ joinOf call cipher id rate (now (book .entry)) ⌝ }
 {
-    let ready = opening_key(true, !good_call(call), call.end != CLOSED, cipher, id, book);
+    let ready = opening_key(
+        is_rate(rate),
+        !good_call(call),
+        call.end != CLOSED,
+        cipher,
+        id,
+        book,
+    );
     let answer = ready.answer;
     if answer.number() != 0 {
         return refused(answer, call);
@@ -91,6 +103,6 @@ pub fn join(call: Call, cipher: u8, id: u8, book: &[u8]) -> Stepped
     let key = ready.key;
     Stepped {
         answer: Answer::Done,
-        call: joining(Terms { cipher, key }),
+        call: joining(Terms { cipher, key, rate }),
     }
 }

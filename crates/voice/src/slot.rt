@@ -4,9 +4,9 @@ ghost use Prim.Native.Nat.{_<_};
 ghost use lib.ListN.{length};
 ghost use mathlib.Core.Bool.{true};
 ghost use Rattle.sizes.specs.Ciphers.{sessionSlots};
-ghost use Rattle.sizes.specs.Frame.{frameOctets};
+ghost use Rattle.sizes.specs.Frame.{frameOctets, slotOctets};
 ghost use Rattle.octets.specs.Lists.{allZero};
-ghost use Rattle.voice.specs.Call.{closedEnd, receivingEnd, vectorRight, goodCall, knownBy, sending, receiving, standing, written};
+ghost use Rattle.voice.specs.Call.{closedEnd, receivingEnd, vectorRight, goodCall, knownBy, sending, receiving, standing, widthOf, written};
 ghost use Rattle.voice.specs.Slot.{goingOn, slotOn, lostOf, streamOf, inSlot, voiceOf, voiceByOctets, sessionStreamOf};
 use crate::call::CLOSED;
 use crate::call::Call;
@@ -27,12 +27,12 @@ use octets::wide;
 use sizes::cipher::Scramble;
 use sizes::cipher::VECTOR_OCTETS;
 use sizes::cipher::session_slots;
-use sizes::frame::FRAME_OCTETS;
-use sizes::frame::SESSION_OCTETS;
-use sizes::frame::SLOT_BITS;
-
-// The octets that hold a slot's bits.
-const SLOT_OCTETS: usize = (SLOT_BITS + 7) / 8;
+use sizes::frame::MOST_SLOT_OCTETS;
+use sizes::frame::frame_octets;
+use sizes::frame::session_octets;
+use sizes::frame::slot_bits;
+use sizes::frame::slot_octets;
+use sizes::frame::width;
 
 // The mask of all words.
 const TOP_MASK: u8 = 15;
@@ -105,31 +105,38 @@ pub fn lost(call: Call) -> Stepped
 
 // ---- a voice slot
 
-// The frame turned by the bits of the session's slot, which stand for all words, in the mask or not.
-fn turn_slot(call: Call, mask: u8, frame: &mut [u8])
-    requires { ⌜ (call .position < sessionSlots (call .terms .cipher)) × (length (now frame) ≡ frameOctets) ⌝ }
+// The frame turned by the bits of the session's slot, which stand for all words, in the mask or not. They are made in lent octets.
+fn turn_in(call: Call, mask: u8, frame: &mut [u8], slot: &mut [u8])
+    requires { ⌜ (call .position < sessionSlots (call .terms .cipher)) × (length (now frame) ≡ frameOctets (widthOf (call .terms))) × (length (now slot) ≡ slotOctets (widthOf (call .terms))) ⌝ }
     ensures { λ _. ⌜ now (frame .exit) ≡ inSlot streamOf mask (now (frame .entry)) call ⌝ }
 {
     let key = call.terms.key;
     let vector = call.vector;
-    let mut slot = [0; SLOT_OCTETS];
+    let width = width(call.terms.rate);
     keystream(
         call.terms.cipher,
         key,
         vector,
-        SLOT_BITS * wide(call.position),
-        &mut slot,
+        slot_bits(width) * wide(call.position),
+        slot,
     );
-    turn_frame(frame, mask, &slot, 0);
+    turn_frame(frame, width, mask, slot, 0);
+}
+
+// The same, in room for a slot at any rate.
+fn turn_slot(call: Call, mask: u8, frame: &mut [u8])
+    requires { ⌜ (call .position < sessionSlots (call .terms .cipher)) × (length (now frame) ≡ frameOctets (widthOf (call .terms))) ⌝ }
+    ensures { λ _. ⌜ now (frame .exit) ≡ inSlot streamOf mask (now (frame .entry)) call ⌝ }
+{
+    let mut room = [0; MOST_SLOT_OCTETS];
+    let octets = slot_octets(width(call.terms.rate));
+    turn_in(call, mask, frame, &mut room[..octets]);
 }
 
 // What a slot is answered. Of the frame only the length counts.
 fn answer_to(call: Call, mask: u8, frame: &[u8]) -> Answer
     ensures { λ r. ⌜ r ≡ voiceOf call mask (now (frame .entry)) .0 ⌝ }
 {
-    if frame.len() != FRAME_OCTETS {
-        return Answer::WrongLength;
-    }
     if mask > TOP_MASK {
         return Answer::BadMask;
     }
@@ -138,6 +145,9 @@ fn answer_to(call: Call, mask: u8, frame: &[u8]) -> Answer
     }
     if call.end == CLOSED {
         return Answer::NotNow;
+    }
+    if frame.len() != frame_octets(width(call.terms.rate)) {
+        return Answer::WrongLength;
     }
     if call.known == UNKNOWN {
         return Answer::Held;
@@ -178,15 +188,20 @@ pub fn voice(call: Call, mask: u8, frame: &mut [u8]) -> Stepped
 pub fn voice_by(call: Call, mask: u8, frame: &mut [u8], session: &[u8]) -> Stepped
     ensures { λ r. ⌜ (r .answer, (r .call, now (frame .exit))) ≡ voiceByOctets (now (session .entry)) call mask (now (frame .entry)) ⌝ }
 {
-    if session.len() < SESSION_OCTETS {
-        return refused(Answer::WrongLength, call);
-    }
     let stepped = step(call, mask, frame);
     let answer = stepped.answer;
+    if answer.number() > 1 {
+        return stepped;
+    }
+    let width = width(call.terms.rate);
+    if session.len() < session_octets(width) {
+        return refused(Answer::WrongLength, call);
+    }
     if answer.number() != 0 {
         return stepped;
     }
-    turn_frame(frame, mask, session, SLOT_BITS * wide(call.position));
+    let from = slot_bits(width) * wide(call.position);
+    turn_frame(frame, width, mask, session, from);
     stepped
 }
 

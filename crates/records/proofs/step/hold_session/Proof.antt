@@ -7,13 +7,21 @@ use Rattle.records.proofs.step.hold_session.Statement.{statement}
 use Rattle.records.proofs.step.hold_session.Tie as tie
 
 returns : tie.Need-returns
-returns c = (sym (c .before .before .pre .holds (c .if1 .taken) .known), record { long = c .before .before .pre .long; holds = λ t. c .before .before .pre .holds (c .if1 .taken) })
+returns c = (λ h. sym (c .before .before .pre .holds (c .if1 .taken) .known), record { long = c .before .before .pre .long; holds = λ t. c .before .before .pre .holds (c .if1 .taken) })
 
-returns-2 : tie.Need-returns-2
-returns-2 c = (sym (knows-no _ (c .if2 .taken)), unmade _ _ (c .before .before .before .before .pre .long))
-
-returns-3 : tie.Need-returns-3
-returns-3 c = made-holds _ _ _ (c .before .before .before .before .before .before .before .before .before .pre .long) (c .before .before .before .session-stream .ensures) (search needs) (c .before .before .before .before .before .if2 .left) (c .good-call .ensures)
+returns-4 : tie.Need-returns-4
+returns-4 c =
+    let made = made-holds _ _ _ (c .before .before .before .before .before .if3 .left) (c .before .before .before .before .before .before .before .before .before .before .before .pre .long) (c .before .before .before .session-stream .ensures) (search needs) (c .before .before .before .before .before .before .before .if2 .left) (c .good-call .ensures) in
+    (λ h. made .0, made .1)
 
 pub hold-session-spec : {M : Type 1} → statement M
-hold-session-spec = tie.close (tie.spec returns returns-2 (λ c κs. search needs) (λ c κs. search needs) (λ c. search needs) returns-3)
+hold-session-spec =
+    tie.close
+    (tie.spec
+    returns
+    (λ c. (λ h. sym (knows-no (c .before .before .before .before .args .call) (c .if2 .taken)), unmade _ _ (c .before .before .before .before .pre .long)))
+    (λ c. (λ h. absurd (c .if3 .taken h), unmade _ _ (c .before .before .before .before .before .before .pre .long)))
+    (λ c κs. search needs)
+    (λ c κs. search needs)
+    (λ c. search needs)
+    returns-4)

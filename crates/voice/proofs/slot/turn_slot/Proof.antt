@@ -1,10 +1,8 @@
 -- `voice::slot::turn_slot` meets its contract.
-use mathlib.Core.Path.{ap}
-use Prim.Native.Nat.{ℕ, _*_}
+use mathlib.Core.Path.{sym, ap, _∙_}
 use native.Mathlib.Omega.{arith}
-use Rattle.sizes.proofs.SizeLaws.{slot-ranged, slots-at-most}
-use Rattle.sizes.specs.Frame.{slotBits}
-use Rattle.voice.proofs.SlotLaws.{by-slot}
+use lib.Seq.{length-take-le}
+use Rattle.sizes.specs.Frame.{slotOctets}
 use borrow.Author.Needs.{needs}
 use Rattle.voice.proofs.slot.turn_slot.Statement.{statement}
 use Rattle.voice.proofs.slot.turn_slot.Tie as tie
@@ -14,10 +12,9 @@ turn-slot-spec =
     tie.close
     (tie.spec
     (λ c κs. search needs)
-    (λ c. let h = c .before .before .before .before .pre .0 in omega (arith, h, slots-at-most (c .before .before .before .before .args .call .terms .cipher), c .wide .ensures .0))
-    (λ c. search needs)
-    (λ c κs. slot-ranged _ _ (c .before .before .before .before .before .pre .0))
-    (λ c. search needs)
     (λ c κs. search needs)
     (λ c. search needs)
-    (λ c. by-slot (c .before .before .before .before .before .before .before .before .before .before .before .before .args .call) _ _ _ _ _ _ (omega arith) (ap (λ (n : ℕ). slotBits * n) (c .before .before .before .before .before .before .before .before .wide .ensures .0)) (c .before .before .before .before .before .before .keystream .ensures) (c .before .before .turn-frame .ensures)))
+    (λ c. sym (length-take-le (c .before .before .slot-octets .result) _ (omega arith)))
+    (λ c κs. (c .before .before .before .before .before .pre .0, c .before .before .before .before .before .pre .1, length-take-le (c .before .before .slot-octets .result) _ (omega arith) ∙ c .before .before .slot-octets .ensures ∙ ap slotOctets (c .before .before .before .width .ensures .0)))
+    (λ c. search needs)
+    (λ c. search needs))

@@ -1,0 +1,30 @@
+-- `vectors::slots::go_through` is safe and ends.
+use mathlib.Core.Path.{_≡_}
+use Prim.Native.Nat.{_-_}
+use lib.ListN.{length}
+use borrow.Author.Needs.{needs}
+use Rattle.vectors.proofs.slots.go_through.Statement.{statement}
+use Rattle.vectors.proofs.slots.go_through.Tie as tie
+
+abbrev Inv-loop : tie.InvT-loop
+Inv-loop slots frame₀ sender₀ k₀ frame sender k = length frame ≡ length frame₀
+
+abbrev μ-loop : tie.MeasureT-loop
+μ-loop slots frame₀ sender₀ k₀ frame sender k = slots - k
+
+pub go-through-spec : {M : Type 1} → statement M
+go-through-spec =
+    tie.close
+    (tie.spec
+    Inv-loop
+    μ-loop
+    (λ c. search needs)
+    (λ c κs. search needs)
+    (λ c κs. search needs)
+    (λ c. search needs)
+    (λ c. search needs)
+    (λ c. search needs)
+    (λ c. search needs)
+    (λ c. search needs)
+    (λ c. search needs)
+    (λ c. search needs))
