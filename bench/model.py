@@ -7,7 +7,8 @@ model.py slots               prints crates/vectors/data/voice-slots.tsv
 model.py slotcheck < FILE    prints what slotcheck should print
 Each first checks the model against section 7.2.2 of NXDN TS 1-D ("001").
 A voice call has a rate: a word has 49 speech bits at half rate and 72 at full rate, and each other size follows from that. A row of slots gives the rate, and where it
-gave a position it gives how many slots of the call come before, so that it may stand in a later session. slotcheck's calls stay at half rate."""
+gave a position it gives how many slots of the call come before, so that it may stand in a later session. slotcheck's calls are at half rate and strict:
+at a session's end a strict receiver's vector is unknown until the next is announced. By default a receiver goes on with the generator's next, as a row of slots does."""
 import functools
 import re
 import subprocess
@@ -148,8 +149,9 @@ def allowed(cipher, key):
 
 
 class Receiver:
-    def __init__(self):
-        self.book, self.call = {}, None  # (cipher, key ID) to key; cipher, key, position, vector or None
+    def __init__(self, strict=True):
+        self.strict = strict
+        self.book, self.call = {}, None  # (cipher, key ID) to key; cipher, key, position, vector or None, whether it was told
 
     def load(self, cipher, key_id, key):
         if cipher not in KEY_OCTETS or key_id > 63:
@@ -174,30 +176,30 @@ class Receiver:
             return 5
         joined = vector is None and cipher != 1
         known = bytes(8) if cipher == 1 else vector
-        self.call = [cipher, self.book[cipher, key_id], 4 if joined else 0, known]
+        self.call = [cipher, self.book[cipher, key_id], 4 if joined else 0, known, not joined]
         return 0
 
     def slot(self):
-        cipher, _, position, _ = self.call
+        cipher, _, position, vector, _ = self.call
         self.call[2] = (position + 1) % SLOTS[cipher]
         if self.call[2] == 0 and cipher != 1:
-            self.call[3] = None
+            self.call[3:] = None if self.strict or vector is None else following(vector), False
 
     def voice(self, mask, frame):
         if mask > 15:
             return 10, None
         if not self.call:
             return 9, None
-        cipher, key, position, vector = self.call
+        cipher, key, position, vector, _ = self.call
         self.slot()
         if vector is None:
             return 1, None
         return 0, turned_frame(HALF, cipher, key, vector, position, mask, frame)
 
     def announce(self, vector):
-        if not self.call or self.call[0] == 1 or self.call[2] != 0 or self.call[3] is not None:
+        if not self.call or self.call[0] == 1 or self.call[2] != 0 or self.call[4]:
             return 9
-        self.call[3] = vector
+        self.call[3:] = vector, True
         return 0
 
     def line(self, line):
@@ -264,11 +266,12 @@ def slots():
     print("# Voice slots at both rates, in a first session and past it: cipher type, rate, key, vector of the call's first session, slots of the call before it, mask (hex), frame, turned frame.")
     print("# Printed by bench/model.py slots: scramble and the generator in Python, DES and AES by OpenSSL.")
     for cipher, rate, key, before, mask, frame in FRAMES:
-        sessions, position = divmod(before, SLOTS[cipher])
-        vector = bytes.fromhex(SEED[cipher])
-        for _ in range(sessions):
-            vector = following(vector)  # scramble's zeros stay
-        out = turned_frame(rate, cipher, bytes.fromhex(key), vector, position, mask, bytes.fromhex(frame))
+        receiver = Receiver(strict=False)
+        receiver.call = [cipher, bytes.fromhex(key), 0, bytes.fromhex(SEED[cipher]), True]
+        for _ in range(before):
+            receiver.slot()
+        _, octets, position, vector, _ = receiver.call
+        out = turned_frame(rate, cipher, octets, vector, position, mask, bytes.fromhex(frame))
         print(cipher, rate, key, SEED[cipher], before, f"{mask:02X}", frame, out.hex().upper(), sep="\t")
 
 

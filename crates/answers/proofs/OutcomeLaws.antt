@@ -82,6 +82,17 @@ module _ {S : Type 0} where
       go true e h = f (r .1) (inl refl)
       go false e h = h (λ n. g (e, n))
 
+  -- and of two outcomes that are refused alike
+  pub side-by-side : {T : Type 0} (P : Answer × S → Answer × T → Type 0) (before : S) (before′ : T) (rs : Refusals) (last : Answer × S) (last′ : Answer × T)
+      → ((a : Answer) → P (a, before) (a, before′)) → (NoneHolds rs → P last last′) → P (settled before rs last) (settled before′ rs last′)
+  side-by-side P before before′ [] last last′ f g = g tt
+  side-by-side P before before′ (r ∷ rs) last last′ f g = go (r .0) refl (side-by-side P before before′ rs last last′ f)
+    where
+      go : (t : Bool) → r .0 ≡ t → ((NoneHolds rs → P last last′) → P (settled before rs last) (settled before′ rs last′))
+          → P (pick t (r .1, before) (settled before rs last)) (pick t (r .1, before′) (settled before′ rs last′))
+      go true e h = f (r .1)
+      go false e h = h (λ n. g (e, n))
+
   -- what holds before, and of what is left where no test holds, holds of what is left
   pub leaves : (P : S → Type 0) (before : S) (rs : Refusals) (last : Answer × S) → P before → (NoneHolds rs → P (last .1)) → P (settled before rs last .1)
   leaves P before rs last b = by-refusals (λ o. P (o .1)) before rs last (λ a m. b)

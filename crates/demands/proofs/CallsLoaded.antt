@@ -15,10 +15,9 @@ use Rattle.openings.specs.Ladder.{sessionVector, keyFor}
 use Rattle.openings.proofs.LadderLaws.{key-never, vector-never}
 use Rattle.voice.specs.declared.call.Terms.{Terms}
 use Rattle.voice.specs.declared.call.Call.{Call}
-use Rattle.voice.specs.Call.{sendingEnd, receivingEnd, goodCall, Known, told, knownBy, untold, Standing, closed, bad, sending, receiving, standing, termsOf, written, isBad, stands, endRefusals, endOf}
+use Rattle.voice.specs.Call.{sendingEnd, receivingEnd, byDefault, termsRight, goodCall, Known, told, knownBy, Standing, closed, bad, sending, receiving, standing, termsOf, written, isBad, stands, endRefusals, endOf}
 use Rattle.voice.specs.Opening.{joinRefusals, begunRefusals, begun, begunOf, openOf, startOf, joined, joinOf}
-use Rattle.sizes.specs.Frame.{isRate}
-use Rattle.voice.specs.Slot.{goingOn, slotOn, lostRefusals, lostOf, voiceRefusals, streamOf, voiceAfter, voiceBy}
+use Rattle.voice.specs.Slot.{goingOn, ridden, slotOn, lostRefusals, lostOf, voiceRefusals, streamOf, voiceAfter, voiceBy}
 use Rattle.voice.specs.Vector.{withVector, announceRefusals, announceOf, nextVectorOf}
 use Rattle.voice.proofs.CallLaws.{by-stands, stands-bad}
 use Rattle.demands.specs.Device.{Device, CallOperation, Open, Start, Join, Voice, Lost, End, Announce, NextVector, callStep, packetStep, Operation, OfBook, OfCall, OfPacket, step, deviceAfter, history}
@@ -33,10 +32,11 @@ theCalls =
     record {
       State = Call;
       of = λ d n. d .calls n;
+      Fixed = ℕ × ℕ;
       opens = OpensCall;
       renews = renewsCall;
       stands = λ c. c .end ≡ 0 → ⊥;
-      fixed = λ c. c .terms .rate;
+      fixed = λ c. (c .terms .rate, c .terms .strictness);
       cipher = λ c. c .terms .cipher;
       key = λ c. c .terms .key;
     }
@@ -62,7 +62,7 @@ module _ (f : Standing → Standing) (of-closed : f closed ≡ closed) (of-bad :
           → SameKey theCalls c (written (f (standing c)))
       under n s u =
           let q : c .terms ≡ written (f (standing c)) .terms = rw s u in
-          (n, ap (λ (t : Terms). t .rate) q, ap (λ (t : Terms). t .cipher) q, ap (λ (t : Terms). t .key) q)
+          (n, ap (λ (t : Terms). (t .rate, t .strictness)) q, ap (λ (t : Terms). t .cipher) q, ap (λ (t : Terms). t .key) q)
 
       go : (t : Bool) → goodCall c ≡ t → SameKey theCalls c (written (f (standing c)))
       go true g =
@@ -76,32 +76,33 @@ unfolding slotOn
 slot-kept =
     standing-kept slotOn refl refl
     (λ t p v. picked (ltb (p + 1) (sessionSlots (t .cipher))) (sending t (p + 1) v) (sending t 0 (goingOn (t .cipher) v)) refl refl)
-    (λ t p k. picked (ltb (p + 1) (sessionSlots (t .cipher))) (receiving t (p + 1) k) (receiving t 0 (untold (t .cipher))) refl refl)
+    (λ t p k. picked (ltb (p + 1) (sessionSlots (t .cipher))) (receiving t (p + 1) k) (receiving t 0 (ridden t k)) refl refl)
 
 told-kept : (w : List ℕ) (c : Call) → KeepsKey theCalls c (written (withVector w (standing c)))
 told-kept w = standing-kept (withVector w) refl refl (λ t p v. refl) (λ t p k. refl)
 
 -- open and start
-begun-left : (n : ℕ) (b : List ℕ) (c : Call) (end m i r : ℕ) (w : List ℕ) (o : CallOperation) → OpensCall n r m i (OfCall n o)
-    → Left theCalls n b (OfCall n o) c (begunOf end c m i r w b .0) (begunOf end c m i r w b .1)
+begun-left : (n : ℕ) (b : List ℕ) (c : Call) (end m i r s : ℕ) (w : List ℕ) (o : CallOperation) → OpensCall n (r, s) m i (OfCall n o)
+    → Left theCalls n b (OfCall n o) c (begunOf end c m i r s w b .0) (begunOf end c m i r s w b .1)
 unfolding begunRefusals
-begun-left n b c end m i r w o p =
-    let u : Under (termsOf m (keyFor b m i) r) (begun end (termsOf m (keyFor b m i) r) (sessionVector m w)) =
-    picked (eqb end sendingEnd) (sending (termsOf m (keyFor b m i) r) 0 (sessionVector m w)) (receiving (termsOf m (keyFor b m i) r) 0 (told (sessionVector m w))) refl refl in
-    renewing theCalls n b (OfCall n o) c (written (begun end (termsOf m (keyFor b m i) r) (sessionVector m w))) (begunRefusals end (standing c) m i r w b)
-    (vector-never (isRate r) (isBad (standing c)) (stands (standing c)) m i b w (eqb end sendingEnd))
-    (λ h s.
-    begins r m i (keyFor b m i) refl p (none-ready-vector (eqb end sendingEnd) (isRate r) (isBad (standing c)) (stands (standing c)) m i b w h) (ap (λ (t : Terms). t .rate) u) (ap (λ (t : Terms). t .cipher) u)
-    (ap (λ (t : Terms). t .key) u))
+begun-left n b c end m i r s w o p =
+    let t = termsOf m (keyFor b m i) r s in
+    let u : Under t (begun end t (sessionVector m w)) =
+    picked (eqb end sendingEnd) (sending t 0 (sessionVector m w)) (receiving t 0 (told (sessionVector m w))) refl refl in
+    renewing theCalls n b (OfCall n o) c (written (begun end t (sessionVector m w))) (begunRefusals end (standing c) m i r s w b)
+    (vector-never (termsRight end r s) (isBad (standing c)) (stands (standing c)) m i b w (eqb end sendingEnd))
+    (λ h x.
+    begins (r, s) m i (keyFor b m i) refl p (none-ready-vector (eqb end sendingEnd) (termsRight end r s) (isBad (standing c)) (stands (standing c)) m i b w h)
+    (ap (λ (t : Terms). (t .rate, t .strictness)) u) (ap (λ (t : Terms). t .cipher) u) (ap (λ (t : Terms). t .key) u))
 
 call-left : (n : ℕ) (b : List ℕ) (c : Call) (o : CallOperation) → Left theCalls n b (OfCall n o) c (callStep b c o .0) (callStep b c o .1 .0)
 unfolding callStep openOf startOf joinOf voiceBy lostOf endOf announceOf joinRefusals endRefusals
-call-left n b c (Open m i r w) = begun-left n b c receivingEnd m i r w (Open m i r w) (by-open w)
-call-left n b c (Start m i r w) = begun-left n b c sendingEnd m i r w (Start m i r w) (by-start w)
-call-left n b c (Join m i r) =
-    renewing theCalls n b (OfCall n (Join m i r)) c (written (joined (termsOf m (keyFor b m i) r))) (joinRefusals (standing c) m i r b)
-    (key-never (isRate r) (isBad (standing c)) (stands (standing c)) m i b)
-    (λ h s. begins r m i (keyFor b m i) refl by-join (none-ready (isRate r) (isBad (standing c)) (stands (standing c)) m i b h) refl refl refl)
+call-left n b c (Open m i r s w) = begun-left n b c receivingEnd m i r s w (Open m i r s w) (by-open w)
+call-left n b c (Start m i r w) = begun-left n b c sendingEnd m i r byDefault w (Start m i r w) (by-start w refl)
+call-left n b c (Join m i r s) =
+    renewing theCalls n b (OfCall n (Join m i r s)) c (written (joined (termsOf m (keyFor b m i) r s))) (joinRefusals (standing c) m i r s b)
+    (key-never (termsRight receivingEnd r s) (isBad (standing c)) (stands (standing c)) m i b)
+    (λ h x. begins (r, s) m i (keyFor b m i) refl by-join (none-ready (termsRight receivingEnd r s) (isBad (standing c)) (stands (standing c)) m i b h) refl refl refl)
 call-left n b c (Voice mask frame) =
     keeping theCalls n b (OfCall n (Voice mask frame)) (λ (r : Call × List ℕ). r .0) (c, frame) (voiceRefusals (standing c) mask frame)
     (voiceAfter streamOf mask frame (standing c)) (and-false-r (eqb n n)) (slot-kept c)

@@ -21,7 +21,7 @@ use Rattle.openings.specs.Ladder as ladder
 use Rattle.openings.specs.Ladder.{sessionVector, keyFor, vectorRefusals}
 use Rattle.openings.proofs.LadderLaws.{vector-in-table}
 use Rattle.voice.specs.declared.call.Call.{Call}
-use Rattle.voice.specs.Call.{sendingEnd, receivingEnd, closed, standing, termsOf, written, knows, endRefusals, endOf}
+use Rattle.voice.specs.Call.{sendingEnd, receivingEnd, byDefault, closed, standing, termsOf, written, knows, endRefusals, endOf}
 use Rattle.voice.specs.Opening.{joinRefusals, begunRefusals, begun, openOf, startOf, joined, joinOf}
 use Rattle.voice.specs.Slot.{slotOn, lostRefusals, lostOf, voiceRefusals, streamOf, voiceAfter, voiceBy}
 use Rattle.voice.specs.Vector.{withVector, announceRefusals, announceOf, following, nextRefusals, nextVectorOf}
@@ -54,9 +54,9 @@ none-lent {S} s = record { number = s .number; answer = s .answer; none-holds = 
 pub call-settles : (b : List ℕ) (c : Call) (o : CallOperation) → Settles (c, lentCall o) (callRefusals b c o) (callUnrefused c o) (callStep b c o)
 unfolding callStep openOf startOf joinOf voiceBy lostOf endOf announceOf nextVectorOf begunRefusals joinRefusals vectorRefusals ladder.keyRefusals ladder.zeroRefusals
     voiceRefusals lostRefusals endRefusals announceRefusals nextRefusals
-call-settles b c (Open n i r w) = none-lent (settles c (begunRefusals receivingEnd (standing c) n i r w b) (Done, written (begun receivingEnd (termsOf n (keyFor b n i) r) (sessionVector n w))) refl (omega arith))
-call-settles b c (Start n i r w) = none-lent (settles c (begunRefusals sendingEnd (standing c) n i r w b) (Done, written (begun sendingEnd (termsOf n (keyFor b n i) r) (sessionVector n w))) refl (omega arith))
-call-settles b c (Join n i r) = none-lent (settles c (joinRefusals (standing c) n i r b) (Done, written (joined (termsOf n (keyFor b n i) r))) refl (omega arith))
+call-settles b c (Open n i r s w) = none-lent (settles c (begunRefusals receivingEnd (standing c) n i r s w b) (Done, written (begun receivingEnd (termsOf n (keyFor b n i) r s) (sessionVector n w))) refl (omega arith))
+call-settles b c (Start n i r w) = none-lent (settles c (begunRefusals sendingEnd (standing c) n i r byDefault w b) (Done, written (begun sendingEnd (termsOf n (keyFor b n i) r byDefault) (sessionVector n w))) refl (omega arith))
+call-settles b c (Join n i r s) = none-lent (settles c (joinRefusals (standing c) n i r s b) (Done, written (joined (termsOf n (keyFor b n i) r s))) refl (omega arith))
 call-settles b c (Voice mask frame) =
     settles (c, frame) (voiceRefusals (standing c) mask frame) (voiceAfter streamOf mask frame (standing c)) refl (taken-under-two (knows (standing c)))
 call-settles b c Lost = none-lent (settles c (lostRefusals (standing c)) (Done, written (slotOn (standing c))) refl (omega arith))

@@ -2,6 +2,7 @@
 -- key operation that reaches a call, version three, which takes a vector in the middle of a session, and version one, which takes half a key.
 use mathlib.Core.Path.{_≡_, refl, sym, ap, _∙_}
 use mathlib.Core.Bool.{Bool, true, false, true≢false}
+use mathlib.Core.Logic.{inl, inr}
 use mathlib.Core.List.{List, [], _∷_, _++_}
 use Prim.Native.Nat.{ℕ, _≤_}
 use native.Mathlib.Omega.{arith}
@@ -24,7 +25,7 @@ use Rattle.sizes.specs.Frame.{halfRate, isRate, width}
 use Rattle.openings.specs.Ladder.{keyRefusals, zeroFor, zeroRefusals, vectorRefusals}
 use Rattle.openings.specs.Samples.{seed, desABCD}
 use Rattle.voice.specs.declared.call.Call.{Call}
-use Rattle.voice.specs.Call.{vectorRight, closedTests, openTests, isClosed, isOpen, unknown, told, Standing, sending, receiving, standing, termsOf, noCall, written, widthIn, stands, knows}
+use Rattle.voice.specs.Call.{byDefault, strict, termsRight, vectorRight, closedTests, openTests, isClosed, isOpen, unknown, told, Standing, sending, receiving, standing, termsOf, noCall, written, isBad, widthIn, stands, knows}
 use Rattle.voice.specs.Opening.{begunRefusals, joinRefusals}
 use Rattle.voice.specs.Slot.{voiceOf}
 use Rattle.voice.specs.Vector.{announceRefusals}
@@ -32,9 +33,9 @@ use Rattle.voice.proofs.SlotSteps.{voice-at}
 use Rattle.data.specs.Packet as packet
 use Rattle.demands.specs.Marked.{holding}
 use Rattle.demands.specs.Device.{Device, CallOperation, Open, Start, Join, Voice, Announce, callStep, Operation, OfBook, OfCall, OfPacket, Step, step, deviceAfter, history}
-use Rattle.demands.specs.Demand1.{Unknown, slot, NoneDone, Demand1}
+use Rattle.demands.specs.Demand1.{NotTold, TimeOfCall, Unknown, slot, NoneDone, Demand1}
 use Rattle.demands.specs.OtherDevices.{noise, noisy, filing, wiped, wiping, careless, holdingAll, ending, hastyCall, hasty, eager}
-use Rattle.demands.proofs.Layouts.{rate-is}
+use Rattle.demands.proofs.Layouts.{ways-right, sender-right}
 use Rattle.demands.proofs.Samples.{silence, silent-long}
 use Rattle.demands.proofs.ThrownOut1.{finishing, no-word}
 
@@ -44,13 +45,21 @@ having b calls = record { book = b; calls = calls; packets = λ n. packet.noPack
 
 -- ---- noise for a held frame
 
--- a DES receiver that joined
+-- a DES receiver that joined, and is strict
 abbrev listening : Call
-listening = written (receiving (termsOf 2 desABCD halfRate) 4 unknown)
+listening = written (receiving (termsOf 2 desABCD halfRate strict) 4 unknown)
 
-listens : standing listening ≡ receiving (termsOf 2 desABCD halfRate) 4 unknown
-unfolding standing isClosed closedTests isOpen openTests keyRight isRate vectorRight keyAllowed desKey oddOctet allZero allBelow
+listens : standing listening ≡ receiving (termsOf 2 desABCD halfRate strict) 4 unknown
+unfolding standing isClosed closedTests isOpen openTests keyRight isRate termsRight vectorRight keyAllowed desKey oddOctet allZero allBelow
 listens = refl
+
+-- one that was told the vector of the session that starts, of either strictness
+abbrev told-once : ℕ → Call
+told-once m = written (receiving (termsOf 2 desABCD halfRate m) 0 (told seed))
+
+was-told : (m : ℕ) → m ≤ 1 → standing (told-once m) ≡ receiving (termsOf 2 desABCD halfRate m) 0 (told seed)
+unfolding standing isClosed closedTests isOpen openTests keyRight vectorRight keyAllowed desKey oddOctet allZero allBelow
+was-told m l = rw (ways-right halfRate m (omega arith) l)
 
 pub noisy-thrown-out : Demand1 noisy → ⊥
 unfolding step callStep
@@ -58,7 +67,7 @@ noisy-thrown-out meets =
     let d = having [] (λ n. listening) in
     let o = OfCall 0 (Voice 15 (silence halfRate)) in
     let e : numberOf (step d o .0) ≡ 1 =
-    ap (λ (r : Answer × (Call × List ℕ)). numberOf (r .0)) (voice-at listening 15 (silence halfRate) (omega arith) (receiving (termsOf 2 desABCD halfRate) 4 unknown) refl listens refl) in
+    ap (λ (r : Answer × (Call × List ℕ)). numberOf (r .0)) (voice-at listening 15 (silence halfRate) (omega arith) (receiving (termsOf 2 desABCD halfRate strict) 4 unknown) refl listens refl) in
     let u : pick (eqb (numberOf (step d o .0)) 1) noise (step d o .1 .1) ≡ silence halfRate = meets .untouched d o (λ z. omega arith) in
     let q : noise ≡ silence halfRate = rw e at u in
     let r = ap (λ (xs : List ℕ). getD xs 0 0) q in
@@ -72,7 +81,7 @@ filing-thrown-out meets =
     let d = having [] (λ n. listening) in
     let o = OfCall 0 (Voice 15 (silence halfRate)) in
     let e : numberOf (step d o .0) ≡ 1 =
-    ap (λ (r : Answer × (Call × List ℕ)). numberOf (r .0)) (voice-at listening 15 (silence halfRate) (omega arith) (receiving (termsOf 2 desABCD halfRate) 4 unknown) refl listens refl) in
+    ap (λ (r : Answer × (Call × List ℕ)). numberOf (r .0)) (voice-at listening 15 (silence halfRate) (omega arith) (receiving (termsOf 2 desABCD halfRate strict) 4 unknown) refl listens refl) in
     let z : numberOf (filing d o .0) ≡ 0 = rw e in
     meets .unopened d o (slot 0 15 (silence halfRate) refl refl) z
 
@@ -127,16 +136,28 @@ ending-thrown-out st meets =
     let z = ap (λ (c : Call). c .end) e in
     omega arith
 
--- ---- version three: a vector that is announced in the middle of a session
+-- ---- version three: a vector that is announced in the middle of a session; and a second one in a session, at its start
 
-pub eager-thrown-out : Demand1 eager → ⊥
-unfolding announceRefusals allZero allBelow
-eager-thrown-out meets =
-    let d = having [] (λ n. listening) in
-    let o = OfCall 0 (Announce seed) in
-    let r : 2 ≤ numberOf (eager d o .0) = meets .untimely d o (λ t. omega (arith, t .2)) in
-    let z : numberOf (eager d o .0) ≡ 0 = rw listens in
-    omega arith
+module _ (isEager : Call → Bool) (meets : Demand1 (eager isEager)) where
+  -- it takes a vector that comes out of its time
+  eager-fails : (c : Call) → isEager c ≡ true → isBad (standing c) ≡ false → (TimeOfCall c (Announce seed) → ⊥) → ⊥
+  unfolding announceRefusals
+  eager-fails c e good late =
+      let d = having [] (λ n. c) in
+      let o = OfCall 0 (Announce seed) in
+      let r : 2 ≤ numberOf (eager isEager d o .0) = meets .untimely d o late in
+      let z : numberOf (eager isEager d o .0) ≡ 0 = rw (e, good) in
+      omega arith
+
+  pub eager-thrown-out : isEager listening ≡ true → ⊥
+  eager-thrown-out e = eager-fails listening e (ap isBad listens) (λ t. omega (arith, t .2))
+
+  pub told-twice-thrown-out : (m : ℕ) → m ≤ 1 → isEager (told-once m) ≡ true → ⊥
+  told-twice-thrown-out m l e = eager-fails (told-once m) e (ap isBad (was-told m l)) (λ t. not-told (t .3))
+    where
+      not-told : NotTold (told-once m) → ⊥
+      not-told (inl z) = omega arith
+      not-told (inr z) = omega (arith, z .0)
 
 -- ---- version one
 
@@ -169,21 +190,21 @@ unfolding book.step operations.beginOf operations.addOf operations.beginRefusals
     entry.lacks entry.newEntry entry.extendRefusals entry.extended allZero allBelow firstBelow replaced keyAllowed
 books = (refl, refl, refl, refl)
 
--- the calls, and that they stand, at any one rate
-abbrev openedAes : ℕ → Standing
-openedAes r = receiving (termsOf 3 keptAes r) 0 (told seed)
+-- the calls, and that they stand, at any one rate and of any one strictness
+abbrev openedAes : ℕ → ℕ → Standing
+openedAes r m = receiving (termsOf 3 keptAes r m) 0 (told seed)
 
 abbrev startedAes : ℕ → Standing
-startedAes r = sending (termsOf 3 keptAes r) 0 seed
+startedAes r = sending (termsOf 3 keptAes r byDefault) 0 seed
 
-abbrev joinedScramble : ℕ → Standing
-joinedScramble r = receiving (termsOf 1 keptScramble r) 0 (told noVector)
+abbrev joinedScramble : ℕ → ℕ → Standing
+joinedScramble r m = receiving (termsOf 1 keptScramble r m) 0 (told noVector)
 
-module _ (r : ℕ) (low : r ≤ 1) where
-  stand : (standing (written (openedAes r)) ≡ openedAes r) × (standing (written (startedAes r)) ≡ startedAes r)
-      × (standing (written (joinedScramble r)) ≡ joinedScramble r)
+module _ (r m : ℕ) (low : r ≤ 1) (lows : m ≤ 1) where
+  stand : (standing (written (openedAes r m)) ≡ openedAes r m) × (standing (written (startedAes r)) ≡ startedAes r)
+      × (standing (written (joinedScramble r m)) ≡ joinedScramble r m)
   unfolding standing isClosed closedTests isOpen openTests keyRight vectorRight keyAllowed scrambleKey allZero allBelow
-  stand = rw (rate-is r low) (refl, refl, refl)
+  stand = rw (ways-right r m low lows, sender-right r low) (refl, refl, refl)
 
   turns : (s : Standing) → widthIn s ≡ width r → standing (written s) ≡ s → stands s ≡ true → knows s ≡ true → numberOf (voiceOf (written s) 15 (silence r) .0) ≡ 0
   turns s h e o k =
@@ -217,25 +238,25 @@ module _ (isHasty : CallOperation → Bool) where
         ∙ ap (λ (r : Answer × (Call × List ℕ)). numberOf (voiceOf (r .1 .0) 15 frame .0)) opens
         ∙ turns)
 
-  -- hasty in open, in start or in join, at one rate: each alone is thrown out
-  module _ (r : ℕ) (low : r ≤ 1) where
-    pub hasty-open-thrown-out : isHasty (Open 3 0 r seed) ≡ true → Demand1 (hasty isHasty) → ⊥
+  -- hasty in open, in start or in join, at one rate and of one strictness: each alone is thrown out
+  module _ (r m : ℕ) (low : r ≤ 1) (lows : m ≤ 1) where
+    pub hasty-open-thrown-out : isHasty (Open 3 0 r m seed) ≡ true → Demand1 (hasty isHasty) → ⊥
     unfolding begunRefusals vectorRefusals keyRefusals zeroRefusals zeroFor standing isClosed closedTests allZero allBelow firstBelow entry.inRange entry.isFor
         entry.entryRight entry.usedRight entry.readyRight entry.lacks rules.entryOf rules.findEntry rules.apart rules.goodBook
     hasty-open-thrown-out e =
-        half-key-fails 3 halfAes (books .0) (books .1) (Open 3 0 r seed) (written (openedAes r)) (silence r) (rw (e, rate-is r low))
-        (turns r low (openedAes r) refl (stand r low .0) refl refl)
+        half-key-fails 3 halfAes (books .0) (books .1) (Open 3 0 r m seed) (written (openedAes r m)) (silence r) (rw (e, ways-right r m low lows))
+        (turns r m low lows (openedAes r m) refl (stand r m low lows .0) refl refl)
 
     pub hasty-start-thrown-out : isHasty (Start 3 0 r seed) ≡ true → Demand1 (hasty isHasty) → ⊥
     unfolding begunRefusals vectorRefusals keyRefusals zeroRefusals zeroFor standing isClosed closedTests allZero allBelow firstBelow entry.inRange entry.isFor
         entry.entryRight entry.usedRight entry.readyRight entry.lacks rules.entryOf rules.findEntry rules.apart rules.goodBook
     hasty-start-thrown-out e =
-        half-key-fails 3 halfAes (books .0) (books .1) (Start 3 0 r seed) (written (startedAes r)) (silence r) (rw (e, rate-is r low))
-        (turns r low (startedAes r) refl (stand r low .1) refl refl)
+        half-key-fails 3 halfAes (books .0) (books .1) (Start 3 0 r seed) (written (startedAes r)) (silence r) (rw (e, sender-right r low))
+        (turns r m low lows (startedAes r) refl (stand r m low lows .1) refl refl)
 
-    pub hasty-join-thrown-out : isHasty (Join 1 0 r) ≡ true → Demand1 (hasty isHasty) → ⊥
+    pub hasty-join-thrown-out : isHasty (Join 1 0 r m) ≡ true → Demand1 (hasty isHasty) → ⊥
     unfolding joinRefusals keyRefusals standing isClosed closedTests allZero allBelow firstBelow entry.inRange entry.isFor entry.entryRight entry.usedRight
         entry.readyRight entry.lacks rules.entryOf rules.findEntry rules.apart rules.goodBook
     hasty-join-thrown-out e =
-        half-key-fails 1 halfScramble (books .2) (books .3) (Join 1 0 r) (written (joinedScramble r)) (silence r) (rw (e, rate-is r low))
-        (turns r low (joinedScramble r) refl (stand r low .2) refl refl)
+        half-key-fails 1 halfScramble (books .2) (books .3) (Join 1 0 r m) (written (joinedScramble r m)) (silence r) (rw (e, ways-right r m low lows))
+        (turns r m low lows (joinedScramble r m) refl (stand r m low lows .2) refl refl)

@@ -1,6 +1,6 @@
 -- The premises can be met: for DES and for AES a call of our sender with losses, of whose three sessions the second's vector does not reach the
 -- receiver, and one of another maker's whose vectors are all zeros; for scramble a call with losses and with words that gave way to signalling; and
--- what our receiver answers.
+-- what our receiver answers. In the default way: calls of which every announcement is lost, and a late entry that rides.
 use mathlib.Core.Path.{_≡_, refl, sym, ap, subst, _∙_}
 use mathlib.Core.Bool.{Bool, true, false, true≢false}
 use mathlib.Core.List.{List, [], _∷_, _++_, map}
@@ -25,14 +25,15 @@ use Rattle.demands.specs.Notices.{noticesOf}
 use Rattle.demands.specs.Log.{talkLog}
 use Rattle.demands.specs.Demand3.{Right, ours}
 use Rattle.demands.specs.Others.{turning}
-use Rattle.demands.specs.OurSender.{Said, Saying, talkMade, SaidKept, Follows}
+use Rattle.demands.specs.Demand3Default.{defaultNotices, defaultLog, Successive, Generated, handset}
+use Rattle.demands.specs.OurSender.{Said, Saying, talkMade, SaidKept, AllSaid, Follows}
 use Rattle.octets.proofs.Zeros.{octets-by}
 use Rattle.demands.proofs.Layouts.{layoutBy, layout-is, by-layout}
 use Rattle.demands.proofs.AirLaws.{is-frame, frame-at, word-bits, protected-air}
 use Rattle.demands.proofs.Standing.{eight-slots}
-use Rattle.demands.proofs.ReceiverMeets.{ours-meets-3}
-use Rattle.demands.proofs.Settled.{answers, due, answers-settled}
-use Rattle.demands.proofs.SenderKeeps.{ours-keeps}
+use Rattle.demands.proofs.ReceiverMeets.{ours-meets-3, handset-meets-3}
+use Rattle.demands.proofs.Settled.{answers, due, strict-settled, default-settled}
+use Rattle.demands.proofs.SenderKeeps.{ours-keeps, ours-generated}
 use Rattle.demands.proofs.Samples.{silence, silence-frame, loud, loud-frame, saying, repeating, saying-kept, repeating-kept, seed-starts}
 use Rattle.demands.proofs.SampleKeys.{keyOf, bookOfThree, has-key, key-long}
 
@@ -51,10 +52,15 @@ said-all-kept l frame f (a ∷ rest) = (record { mask = omega arith; frame = f }
 abbrev others : List Bool
 others = true ∷ false ∷ true ∷ false ∷ true ∷ false ∷ true ∷ false ∷ []
 
+-- a whole session, and one that has begun
+abbrev wholly : List ℕ → Bool → Saying
+wholly frame announced = record { announced = announced; slots = saidAll frame others }
+
+abbrev begun : List ℕ → Bool → Saying
+begun frame announced = record { announced = announced; slots = saidAll frame (true ∷ []) }
+
 abbrev three : List ℕ → List Saying
-three frame =
-    record { announced = true; slots = saidAll frame others } ∷ record { announced = false; slots = saidAll frame others }
-    ∷ record { announced = true; slots = saidAll frame (true ∷ []) } ∷ []
+three frame = wholly frame true ∷ wholly frame false ∷ begun frame true ∷ []
 
 -- what our receiver then answers by the opening: handed out, held, handed out. The opening, a lost slot and the announcement are 0
 abbrev whenOpened : List ℕ
@@ -77,7 +83,7 @@ pub record Heard (t : Talk) : Type 0 where
 
 module _ (t : Talk) (k : Kept t) (h : HasKey bookOfThree (t .cipher) 0 (t .key)) where
   settled : (e : WayIn) → answers (talkLog ours bookOfThree 0 t e) ≡ map due (noticesOf t e)
-  settled = answers-settled ours ours-meets-3 t k bookOfThree 0 h
+  settled e = strict-settled ours bookOfThree 0 t e (ours-meets-3 t k bookOfThree 0 h e)
 
   heard : map due (noticesOf t opening) ≡ whenOpened → map due (noticesOf t (joining 0)) ≡ whenJoined → map due (noticesOf t (joining 1)) ≡ whenLater → Heard t
   heard o j l =
@@ -87,17 +93,17 @@ module _ (t : Talk) (k : Kept t) (h : HasKey bookOfThree (t .cipher) 0 (t .key))
 abbrev pub mixed : ℕ → ℕ → List ℕ → Talk
 mixed c r frame = talkMade c (keyOf c) 0 r seed bookOfThree (three frame)
 
--- a call of another maker's sender whose vectors are all zeros
+-- a call of another maker's sender whose vectors are all zeros: the first's and the third's announcements arrive, or none does
 abbrev zeroSession : ℕ → ℕ → List ℕ → Bool → List Bool → Session
 zeroSession c r frame announced arriving = record { vector = noVector; announced = announced; slots = repeating r frame (stream c (keyOf c) noVector) 0 arriving }
 
-abbrev pub zeros : ℕ → ℕ → List ℕ → Talk
-zeros c r frame =
+abbrev pub zeros : ℕ → ℕ → List ℕ → Bool → Talk
+zeros c r frame announced =
     record {
       cipher = c;
       rate = r;
       key = keyOf c;
-      sessions = zeroSession c r frame true others ∷ zeroSession c r frame false others ∷ zeroSession c r frame true (true ∷ []) ∷ [];
+      sessions = zeroSession c r frame announced others ∷ zeroSession c r frame false others ∷ zeroSession c r frame announced (true ∷ []) ∷ [];
     }
 
 module _ (c : ℕ) (g : (1 ≤ c) × (c ≤ 3)) (n : scrambles c ≡ false) (r : ℕ) (l : r ≤ 1) (frame : List ℕ) (f : FrameAt (layout r) frame) where
@@ -116,20 +122,81 @@ module _ (c : ℕ) (g : (1 ≤ c) × (c ≤ 3)) (n : scrambles c ≡ false) (r :
   zero-session-kept : (announced : Bool) (arriving : List Bool) → SessionKept (layout r) c (keyOf c) (zeroSession c r frame announced arriving)
   zero-session-kept announced arriving = record { vector = refl; slots = repeating-kept r frame f (stream c (keyOf c) noVector) 0 arriving }
 
-  zeros-kept : Kept (zeros c r frame)
-  zeros-kept =
+  zeros-kept : (announced : Bool) → Kept (zeros c r frame announced)
+  zeros-kept announced =
       record {
         rate = l;
         key = key-long c g;
-        each = (zero-session-kept true others, (zero-session-kept false others, (zero-session-kept true (true ∷ []), tt)));
+        each = (zero-session-kept announced others, (zero-session-kept false others, (zero-session-kept announced (true ∷ []), tt)));
         full = (eight, (eight, omega (arith, eight)));
       }
 
   -- and its vectors are the generator's: zeros are their own next
-  zeros-heard : Heard (zeros c r frame) × Follows c noVector (zeros c r frame .sessions)
-  zeros-heard = (heard (zeros c r frame) zeros-kept (has-key c g) (rw n) (rw n) (rw n), rw (n, zeros-next, zeros-next) (refl, (refl, (refl, tt))))
+  zeros-heard : Heard (zeros c r frame true) × Follows c noVector (zeros c r frame true .sessions)
+  zeros-heard = (heard (zeros c r frame true) (zeros-kept true) (has-key c g) (rw n) (rw n) (rw n), rw (n, zeros-next, zeros-next) (refl, (refl, (refl, tt))))
 
--- at either rate, whatever one frame is said in every slot
+-- ---- DES and AES in the default way
+
+-- calls of our sender: of three sessions no announcement arrives; of five the fourth's does
+abbrev pub faded : ℕ → ℕ → List ℕ → Talk
+faded c r frame = talkMade c (keyOf c) 0 r seed bookOfThree (wholly frame false ∷ wholly frame false ∷ begun frame false ∷ [])
+
+abbrev pub later : ℕ → ℕ → List ℕ → Talk
+later c r frame =
+    talkMade c (keyOf c) 0 r seed bookOfThree (wholly frame false ∷ wholly frame false ∷ wholly frame false ∷ wholly frame true ∷ begun frame false ∷ [])
+
+-- joining in the first: held to the end of the third; the announcement, and all after it, 0
+abbrev untilAnnounced : List ℕ
+untilAnnounced =
+    0 ∷ (1 ∷ 0 ∷ 1 ∷ 0 ∷ (1 ∷ 0 ∷ 1 ∷ 0 ∷ 1 ∷ 0 ∷ 1 ∷ 0 ∷ (1 ∷ 0 ∷ 1 ∷ 0 ∷ 1 ∷ 0 ∷ 1 ∷ 0 ∷ (0 ∷ (0 ∷ 0 ∷ 0 ∷ 0 ∷ 0 ∷ 0 ∷ 0 ∷ 0 ∷ (0 ∷ []))))))
+
+-- the premises hold, our receiver answers these numbers, and each word that it hands out is the one that was spoken
+pub record Ridden (t : Talk) (e : WayIn) (numbers : List ℕ) : Type 0 where
+  pub kept : Kept t
+  pub generated : Successive Generated (t .sessions)
+  pub answered : answers (defaultLog handset bookOfThree 0 t e) ≡ numbers
+  pub right : Each Right (defaultLog handset bookOfThree 0 t e)
+
+module _ (c : ℕ) (g : (1 ≤ c) × (c ≤ 3)) (n : scrambles c ≡ false) (r : ℕ) (l : r ≤ 1) (frame : List ℕ) (f : FrameAt (layout r) frame) where
+  ridden : (t : Talk) → t .cipher ≡ c → t .key ≡ keyOf c → Kept t → Successive Generated (t .sessions) → (e : WayIn) (numbers : List ℕ)
+      → map due (defaultNotices t e) ≡ numbers → Ridden t e numbers
+  ridden t q o k s e numbers d =
+      let h = handset-meets-3 t k (λ z. s) bookOfThree 0 (rw (q, o) (has-key c g)) e in
+      record { kept = k; generated = s; answered = default-settled handset bookOfThree 0 t e h ∙ d; right = h }
+
+  -- of our sender
+  made : (said : List Saying) → AllSaid c r said → (e : WayIn) (numbers : List ℕ)
+      → map due (defaultNotices (talkMade c (keyOf c) 0 r seed bookOfThree said) e) ≡ numbers → Ridden (talkMade c (keyOf c) 0 r seed bookOfThree said) e numbers
+  made said a =
+      ridden (talkMade c (keyOf c) 0 r seed bookOfThree said) refl refl
+      (ours-keeps bookOfThree c 0 (keyOf c) (has-key c g) (key-long c g) r l seed (seed-starts c) said a)
+      (ours-generated bookOfThree c 0 (keyOf c) (has-key c g) (key-long c g) r l seed (seed-starts c) said a n)
+
+  wholly-kept : Each (SaidKept (layout r)) (saidAll frame others)
+  wholly-kept = said-all-kept (layout r) frame f others
+
+  begun-kept : Each (SaidKept (layout r)) (saidAll frame (true ∷ []))
+  begun-kept = said-all-kept (layout r) frame f (true ∷ [])
+
+  pub faded-ridden : Ridden (faded c r frame) opening (replicate 18 0)
+  faded-ridden =
+      let e = eight c g n r l frame f in
+      made (wholly frame false ∷ wholly frame false ∷ begun frame false ∷ [])
+      (record { each = (wholly-kept, (wholly-kept, (begun-kept, tt))); full = (e, (e, omega (arith, e))) }) opening (replicate 18 0) (rw n)
+
+  later-ridden : Ridden (later c r frame) (joining 0) untilAnnounced
+  later-ridden =
+      let e = eight c g n r l frame f in
+      made (wholly frame false ∷ wholly frame false ∷ wholly frame false ∷ wholly frame true ∷ begun frame false ∷ [])
+      (record { each = (wholly-kept, (wholly-kept, (wholly-kept, (wholly-kept, (begun-kept, tt))))); full = (e, (e, (e, (e, omega (arith, e))))) }) (joining 0) untilAnnounced (rw n)
+
+  -- carried zeros are not unknown
+  zeros-ridden : Ridden (zeros c r frame false) opening (replicate 18 0)
+  zeros-ridden =
+      ridden (zeros c r frame false) refl refl (zeros-kept c g n r l frame f false) (sym zeros-next, (sym zeros-next, tt)) opening (replicate 18 0) (rw n)
+
+-- ---- at either rate, whatever one frame is said in every slot
+
 module _ (r : ℕ) (l : r ≤ 1) (frame : List ℕ) (f : FrameAt (layout r) frame) where
   pub mixed-des : Heard (mixed 2 r frame)
   mixed-des = mixed-heard 2 (omega arith, omega arith) refl r l frame f
@@ -137,11 +204,29 @@ module _ (r : ℕ) (l : r ≤ 1) (frame : List ℕ) (f : FrameAt (layout r) fram
   pub mixed-aes : Heard (mixed 3 r frame)
   mixed-aes = mixed-heard 3 (omega arith, omega arith) refl r l frame f
 
-  pub zeros-des : Heard (zeros 2 r frame) × Follows 2 noVector (zeros 2 r frame .sessions)
+  pub zeros-des : Heard (zeros 2 r frame true) × Follows 2 noVector (zeros 2 r frame true .sessions)
   zeros-des = zeros-heard 2 (omega arith, omega arith) refl r l frame f
 
-  pub zeros-aes : Heard (zeros 3 r frame) × Follows 3 noVector (zeros 3 r frame .sessions)
+  pub zeros-aes : Heard (zeros 3 r frame true) × Follows 3 noVector (zeros 3 r frame true .sessions)
   zeros-aes = zeros-heard 3 (omega arith, omega arith) refl r l frame f
+
+  pub faded-des : Ridden (faded 2 r frame) opening (replicate 18 0)
+  faded-des = faded-ridden 2 (omega arith, omega arith) refl r l frame f
+
+  pub faded-aes : Ridden (faded 3 r frame) opening (replicate 18 0)
+  faded-aes = faded-ridden 3 (omega arith, omega arith) refl r l frame f
+
+  pub later-des : Ridden (later 2 r frame) (joining 0) untilAnnounced
+  later-des = later-ridden 2 (omega arith, omega arith) refl r l frame f
+
+  pub later-aes : Ridden (later 3 r frame) (joining 0) untilAnnounced
+  later-aes = later-ridden 3 (omega arith, omega arith) refl r l frame f
+
+  pub faded-zeros-des : Ridden (zeros 2 r frame false) opening (replicate 18 0)
+  faded-zeros-des = zeros-ridden 2 (omega arith, omega arith) refl r l frame f
+
+  pub faded-zeros-aes : Ridden (zeros 3 r frame false) opening (replicate 18 0)
+  faded-zeros-aes = zeros-ridden 3 (omega arith, omega arith) refl r l frame f
 
 -- ---- scramble, at either rate
 
@@ -243,7 +328,7 @@ module _ (r : ℕ) (l : r ≤ 1) where
       }
 
   replacing-settled : (e : WayIn) → answers (talkLog ours bookOfThree 0 (replacing r) e) ≡ map due (noticesOf (replacing r) e)
-  replacing-settled = answers-settled ours ours-meets-3 (replacing r) replacing-kept bookOfThree 0 (has-key 1 (omega arith, omega arith))
+  replacing-settled e = strict-settled ours bookOfThree 0 (replacing r) e (ours-meets-3 (replacing r) replacing-kept bookOfThree 0 (has-key 1 (omega arith, omega arith)) e)
 
   -- by the opening, and joining in the first session: all 0
   pub replacing-opened : answers (talkLog ours bookOfThree 0 (replacing r) opening) ≡ 0 ∷ (0 ∷ 0 ∷ 0 ∷ 0 ∷ (0 ∷ 0 ∷ []))

@@ -33,7 +33,7 @@ use Rattle.demands.specs.Marked.{holding}
 use Rattle.demands.specs.Device.{Device, Open, Voice, callStep, OpenPacket, Message, packetStep, Operation, OfBook, OfCall, OfPacket, step, deviceAfter, history}
 use Rattle.demands.specs.Demand1.{WordsTurned, MessageTurned}
 use Rattle.demands.proofs.Meets1.{ours-meets-1}
-use Rattle.demands.proofs.Layouts.{rate-is}
+use Rattle.demands.proofs.Layouts.{ways-right}
 use Rattle.demands.proofs.Samples.{silence, silent-long}
 use Rattle.demands.proofs.SampleKeys.{keyABCD}
 
@@ -83,27 +83,27 @@ is-loaded =
     (loads (OfBook (book.Begin 2 0) ∷ []) (book.Add 2 0 first) (loads [] (book.Begin 2 0) none-yet (books .0)) (books .1)) (books .2))
     (books .3)
 
--- ---- it opens a call, at either rate
+-- ---- it opens a call, at either rate and of either strictness
 
-module _ (r : ℕ) (low : r ≤ 1) where
+module _ (r m : ℕ) (low : r ≤ 1) (lows : m ≤ 1) where
   abbrev heard : Standing
-  heard = receiving (termsOf 2 desABCD r) 0 (told seed)
+  heard = receiving (termsOf 2 desABCD r m) 0 (told seed)
 
-  opens : openOf noCall 2 0 r seed ready ≡ (Done, written heard)
+  opens : openOf noCall 2 0 r m seed ready ≡ (Done, written heard)
   unfolding openOf begunRefusals vectorRefusals keyRefusals zeroRefusals standing isClosed closedTests allZero allBelow firstBelow entry.inRange entry.isFor
       entry.entryRight entry.usedRight entry.readyRight entry.lacks rules.entryOf rules.findEntry rules.apart rules.goodBook keyAllowed desKey oddOctet
-  opens = rw (rate-is r low)
+  opens = rw (ways-right r m low lows)
 
   heard-stands : standing (written heard) ≡ heard
   unfolding standing isClosed closedTests isOpen openTests keyRight vectorRight keyAllowed desKey oddOctet allZero allBelow
-  heard-stands = rw (rate-is r low)
+  heard-stands = rw (ways-right r m low lows)
 
   abbrev pub opening-call : List Operation
-  opening-call = OfCall 0 (Open 2 0 r seed) ∷ loading
+  opening-call = OfCall 0 (Open 2 0 r m seed) ∷ loading
 
   is-open : deviceAfter step opening-call .calls 0 ≡ written heard
   unfolding deviceAfter step callStep
-  is-open = ap (λ (d : Device). step d (OfCall 0 (Open 2 0 r seed)) .1 .0 .calls 0) is-loaded ∙ ap (λ (r : Answer × Call). r .1) opens
+  is-open = ap (λ (d : Device). step d (OfCall 0 (Open 2 0 r m seed)) .1 .0 .calls 0) is-loaded ∙ ap (λ (r : Answer × Call). r .1) opens
 
   -- every word of a slot
   pub word-done : numberOf (step (deviceAfter step opening-call) (OfCall 0 (Voice 15 (silence r))) .0) ≡ 0

@@ -4,8 +4,10 @@ pub mod MarkedHold
 pub mod Layouts
 pub mod AirLaws
 pub mod Standing
+pub mod Marking
 pub mod ReceiverMeets
 pub mod LogComplete
+pub mod ScrambleAlike
 pub mod Settled
 pub mod Samples
 pub mod SampleKeys
@@ -16,6 +18,8 @@ pub mod SenderKeeps
 pub mod SenderLeaves
 pub mod Instance
 pub mod Meets2
+pub mod Apart
+pub mod ThrownOutDefault
 pub mod Ends
 pub mod DeviceLaws
 pub mod RefusalOrder

@@ -44,7 +44,7 @@ ready-told os c i k q = rw (keys-are os) (ready-only-if-told (keysIn os) c i k (
 
 -- ---- one operation more
 
-module _ (opens : ℕ → ℕ → ℕ → Operation → Type 0) (renews : Operation → Bool) (h : History) (o : Operation) (a : Answer) {f c : ℕ} {k : List ℕ} where
+module _ {F : Type 0} (opens : F → ℕ → ℕ → Operation → Type 0) (renews : Operation → Bool) (h : History) (o : Operation) (a : Answer) {f : F} {c : ℕ} {k : List ℕ} where
   -- unless it is done and renews, what was loaded is
   pub still-loaded : (isDone a && renews o) ≡ false → Loaded opens renews h f c k → Loaded opens renews ((o, a) ∷ h) f c k
   still-loaded u l =
@@ -78,11 +78,13 @@ pub record Holder : Type 1 where
   pub State : Type 0
   -- that of number n
   pub of : Device → ℕ → State
-  pub opens : ℕ → ℕ → ℕ → ℕ → Operation → Type 0
+  -- what its opening fixes besides
+  pub Fixed : Type 0
+  pub opens : ℕ → Fixed → ℕ → ℕ → Operation → Type 0
   pub renews : ℕ → Operation → Bool
-  -- in use, and then at this rate or of this kind, under this cipher and key
+  -- in use, and then at this rate and strictness or of this kind, under this cipher and key
   pub stands : State → Type 0
-  pub fixed : State → ℕ
+  pub fixed : State → Fixed
   pub cipher : State → ℕ
   pub key : State → List ℕ
 
@@ -100,7 +102,7 @@ module _ (H : Holder) where
       -- it is the key that x held
       stays : (isDone a && H .renews n o) ≡ false → SameKey x y → Way b o x a y
       -- it came out of the book
-      begins : (f c i : ℕ) (k : List ℕ) → a ≡ Done → H .opens n f c i o → readyKeyOf b c i ≡ (Done, k) → f ≡ H .fixed y → c ≡ H .cipher y → k ≡ H .key y → Way b o x a y
+      begins : (f : H .Fixed) (c i : ℕ) (k : List ℕ) → a ≡ Done → H .opens n f c i o → readyKeyOf b c i ≡ (Done, k) → f ≡ H .fixed y → c ≡ H .cipher y → k ≡ H .key y → Way b o x a y
 
     -- if y stands
     abbrev pub Left : List ℕ → Operation → H .State → Answer → H .State → Type 0

@@ -1,4 +1,4 @@
--- No slot is left out of a log, whatever the receiver: the log lists exactly the slots that arrived, in order.
+-- No slot is left out of a log, of either way, whatever the receiver: the log lists exactly the slots that arrived, in order.
 use mathlib.Core.Path.{_≡_, refl, ap, _∙_}
 use mathlib.Core.List.{List, [], _∷_, _++_}
 use mathlib.Core.Bool.{Bool, true, false, _&&_, not}
@@ -11,6 +11,7 @@ use Rattle.demands.specs.Talk.{Slot, Session, Talk, WayIn, opening, join
 use Rattle.demands.specs.Arrivals.{Shown, shownIn, arriving, allSlots, slotsFrom, slotsAfter}
 use Rattle.demands.specs.Notices.{Notice, hear, join, announce, lost, voice, isReached, slotNotice, slotNotices, startNotices, sessionNotices, firstNotices, noticesOf}
 use Rattle.demands.specs.Log.{Receiver, Event, event, events, talkLog}
+use Rattle.demands.specs.Demand3Default.{sinceKnown, defaultNotices, defaultLog}
 
 -- ---- what notices bring
 
@@ -54,6 +55,15 @@ talk-brought t opening = opened (t .sessions)
     opened (x ∷ xs) = first-brought (t .cipher) true 0 (x ∷ xs)
 talk-brought t (joining n) = first-brought (t .cipher) false superframeSlots (drop n (t .sessions))
 
+-- which slots count as reached is all that the default way changes
+since-brought : (known : Bool) (ns : List Notice) → brought (sinceKnown known ns) ≡ brought ns
+since-brought known [] = refl
+since-brought known (hear v ∷ ns) = since-brought true ns
+since-brought known (join ∷ ns) = since-brought known ns
+since-brought known (announce v ∷ ns) = since-brought true ns
+since-brought known (lost ∷ ns) = since-brought known ns
+since-brought known (voice reached x ∷ ns) = ap (λ (r : List Shown). (x .mask, (x .spoken, x .sent)) ∷ r) (since-brought known ns)
+
 -- ---- and what a receiver logs of them
 
 module _ (R : Receiver) (b : List ℕ) where
@@ -70,3 +80,7 @@ module _ (R : Receiver) (b : List ℕ) where
 
   pub log-complete : (i : ℕ) (t : Talk) (e : WayIn) → shownIn (talkLog R b i t e) ≡ arriving (slotsAfter t e)
   log-complete i t e = events-shown (t .cipher) i (t .rate) (R .idle) (noticesOf t e) ∙ talk-brought t e
+
+  pub default-complete : (i : ℕ) (t : Talk) (e : WayIn) → shownIn (defaultLog R b i t e) ≡ arriving (slotsAfter t e)
+  default-complete i t e =
+      events-shown (t .cipher) i (t .rate) (R .idle) (defaultNotices t e) ∙ since-brought (scrambles (t .cipher)) (noticesOf t e) ∙ talk-brought t e

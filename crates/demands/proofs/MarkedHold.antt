@@ -13,7 +13,7 @@ use Rattle.keybook.specs.Book.{entryOf, apart, goodBook, findEntry, bookRefusal
 use Rattle.keybook.specs.Operations.{finishRefusals, finishOf}
 use Rattle.voice.specs.Slot.{slotOn}
 use Rattle.demands.specs.Marked.{Marked, finishNumber}
-use Rattle.demands.proofs.MarkedVoice.{openings, example-2, held-on, after-four, after-three}
+use Rattle.demands.proofs.MarkedVoice.{openings, example-2, held-on, to-next, after-four, after-three}
 use Rattle.demands.proofs.MarkedData.{example-3, example-10}
 
 pub marked : Marked
@@ -30,11 +30,12 @@ marked =
       example-8 = refl;
       example-9 = refl;
       example-10 = example-10;
-      example-11 = (
-        openings .3,
-        λ mask frame m l. (held-on 4 (omega arith) mask frame m l, held-on 5 (omega arith) mask frame m l, held-on 6 (omega arith) mask frame m l, held-on 7 (omega arith) mask frame m l),
-        after-four,
-        after-three,
+      example-11 = λ n low. (
+        openings n low .3,
+        λ mask frame m l.
+            (held-on n low 4 (omega arith) mask frame m l, held-on n low 5 (omega arith) mask frame m l, held-on n low 6 (omega arith) mask frame m l, to-next n low mask frame m l),
+        after-four n low,
+        after-three n low,
       );
-      example-12 = (openings .0, openings .1, openings .2);
+      example-12 = λ n low. (openings n low .0, openings n low .1, openings n low .2);
     }

@@ -27,6 +27,7 @@ thePackets =
     record {
       State = Packet;
       of = λ d n. d .packets n;
+      Fixed = ℕ;
       opens = OpensPacket;
       renews = renewsPacket;
       stands = λ p. p .kind ≡ 0 → ⊥;

@@ -1,32 +1,41 @@
--- Our receiver meets demand 3.
+-- Our receiver meets demand 3, strict; and by default it meets the demand in the default way, already where each next vector is the generator's or its announcement
+-- arrived. One proof, over the strictness.
 use mathlib.Core.Path.{_≡_, refl, sym, ap, _∙_}
-use mathlib.Core.Bool.{Bool, true, false, _&&_, _||_, not, or-true, true≢false}
+use mathlib.Core.Bool.{Bool, true, false, _&&_, _||_, not, or-true, or-false, true≢false}
 use mathlib.Core.Logic.{_⊎_, inl, inr}
 use mathlib.Core.List.{List, [], _∷_, _++_}
 use Prim.Native.Nat.{ℕ, zero, suc, _+_, _≤_, _<_}
 use native.Mathlib.Nat.{add-zero, zero-add}
 use native.Mathlib.Numerals.{add-one}
 use native.Mathlib.Omega.{arith}
+use lib.Dec.{eqb}
 use lib.ListN.{length, drop, length-drop}
+use borrow.Author.Tests.{eqb-true}
+use Rattle.octets.specs.Tests.{pick}
+use Rattle.octets.specs.Lists.{Each}
+use Rattle.answers.specs.declared.Answer.the-variants.{Done, Held}
 use Rattle.answers.specs.Numbers.{numberOf}
-use Rattle.sizes.specs.Frame.{isRate, width}
-use Rattle.sizes.specs.Ciphers.{keyOctets, sessionSlots, vectorOctets, scrambles}
+use Rattle.generator.specs.Generator.{nextVector}
+use Rattle.sizes.specs.Frame.{width}
+use Rattle.sizes.specs.Ciphers.{keyOctets, sessionSlots, vectorOctets, noVector, scrambles}
 use Rattle.ciphers.specs.Keystream.{stream}
-use Rattle.openings.specs.Ladder.{keyFor}
+use Rattle.openings.specs.Ladder.{sessionVector, keyFor}
 use Rattle.voice.specs.declared.call.Terms.{Terms}
 use Rattle.voice.specs.declared.call.Call.{Call}
 use Rattle.voice.specs.Frame.{inMask}
-use Rattle.voice.specs.Call.{Standing, standing, termsOf, noCall}
+use Rattle.voice.specs.Call.{receivingEnd, byDefault, strict, termsRight, Known, unknown, told, carried, isKnown, isTold, knownVector, untold, Standing, receiving, standing, termsOf, noCall, written}
 use Rattle.voice.specs.Opening.{superframeSlots}
-use Rattle.octets.specs.Lists.{Each}
+use Rattle.voice.specs.Slot.{ridden, streamOf, inSlot, voiceOf}
 use Rattle.demands.specs.Rates.{Layout, wordAt}
-use Rattle.demands.specs.Talk.{Slot, Session, WayIn, opening, joining, SlotKept, SlotsKept, SessionKept, Full, slotCounts, HasKey}
-use Rattle.demands.specs.Notices.{Notice, join, isReached, slotNotice, slotNotices, startNotices, sessionNotices, firstNotices}
-use Rattle.demands.specs.Log.{Report, Event, event, events, talkLog}
-use Rattle.demands.specs.Demand3.{RightSlot, Right, Meets3, ours}
-use Rattle.demands.proofs.Layouts.{layoutBy, layout-is, rate-is}
+use Rattle.demands.specs.Talk.{Slot, Session, Talk, WayIn, opening, joining, SlotKept, SlotsKept, SessionKept, Full, slotCounts, Kept, HasKey}
+use Rattle.demands.specs.Notices.{Notice, hear, join, isReached, slotNotice, slotNotices, startNotices, openingNotices}
+use Rattle.demands.specs.Log.{Receiver, Report, Event, event, events, talkLog}
+use Rattle.demands.specs.Demand3.{RightSlot, Right, Meets3, oursIn, ours}
+use Rattle.demands.specs.Demand3Default.{sinceKnown, defaultLog, Successive, Generated, GeneratedOrAnnounced, Meets3Default, Meets3Announced, handset}
+use Rattle.demands.proofs.Layouts.{layoutBy, layout-is, ways-right}
 use Rattle.demands.proofs.AirLaws.{opened-word}
-use Rattle.demands.proofs.Standing.{key-ranged, slots-some, knowing, fresh, place, place-end, place-lost, place-voice, place-on, same-slot, place-opened, opened-stands, place-joined, joined-stands, place-announced, announced-stands, place-untold}
+use Rattle.demands.proofs.Marking.{knownNext, sessionsBy, firstBy, strict-first, default-first}
+use Rattle.demands.proofs.Standing.{key-ranged, slots-some, fresh, place, place-end, place-lost, place-voice, place-on, same-slot, place-opened, opened-stands, place-joined, joined-stands, place-announced, announced-stands, place-untold}
 
 each-drop : {A : Type 0} (P : A → Type 0) (n : ℕ) (xs : List A) → Each P xs → Each P (drop n xs)
 each-drop P zero xs h = h
@@ -58,15 +67,15 @@ right-held : (r : Report) → r .reached ≡ false → numberOf (r .answer) ≡ 
 right-held r e a f =
     record { opened = λ z. absurd (let q : 1 ≡ 0 = sym a ∙ z in omega arith); handed = λ n. absurd (true≢false (sym n ∙ e)); held = λ z. (a, f) }
 
-module _ (b : List ℕ) (c i : ℕ) (key : List ℕ) (h : HasKey b c i key) (long : length key ≡ keyOctets c) (rt : ℕ) (rate : isRate rt ≡ true) where
+module _ (b : List ℕ) (c i : ℕ) (key : List ℕ) (h : HasKey b c i key) (long : length key ≡ keyOctets c) (rt m : ℕ) (right : termsRight receivingEnd rt m ≡ true) where
   abbrev t : Terms
-  t = termsOf c (keyFor b c i) rt
+  t = termsOf c (keyFor b c i) rt m
 
   abbrev its : Layout
   its = layoutBy (width rt)
 
   abbrev log : Call → List Notice → List Event
-  log = events ours b c i rt
+  log = events (oursIn m) b c i rt
 
   -- from wherever it stands so, what it is told is answered right
   abbrev RightFrom : Standing → List Notice → Type 0
@@ -74,51 +83,133 @@ module _ (b : List ℕ) (c i : ℕ) (key : List ℕ) (h : HasKey b c i key) (lon
 
   -- ---- the slots of a session
 
-  module _ (reached : Bool) (v : List ℕ) where
-    abbrev at : ℕ → Standing
-    at = place t (knowing c reached v)
+  -- what it knows of a session's vector v is that, where the session counts as reached, and else nothing
+  pub record Knowing (reached : Bool) (v : List ℕ) (k : Known) : Type 0 where
+    pub known : isKnown k ≡ reached
+    pub vector : reached ≡ true → knownVector k ≡ sessionVector c v
 
   -- a slot is answered right, and it stands at the next one
-  abbrev Steps : Bool → List ℕ → ℕ → Event × Call → Type 0
-  Steps reached v p out = Right (out .0) × (standing (out .1) ≡ at reached v (p + 1))
+  abbrev Steps : Known → ℕ → Event × Call → Type 0
+  Steps k p out = Right (out .0) × (standing (out .1) ≡ place t k (p + 1))
 
-  slot-steps : (reached : Bool) (v : List ℕ) (p : ℕ) → p < sessionSlots c → (x : Slot) → SlotKept its (stream c key v) p x → (d : Call) → standing d ≡ at reached v p
-      → (arrived : Bool) → Steps reached v p (event ours b c i rt (slotNotice reached arrived x) d)
-  slot-steps true v p l x s d e true =
-      rw (place-voice t (knowing c true v) p l d e (x .mask) (x .sent) (s .mask) (s .sent .long), same-slot b c i key h rt rate long v p (x .mask) (x .sent))
-      (right-handed _ refl refl (opened-word (width rt) (stream c key v) p x s), place-on t (knowing c true v) p l d e)
-  slot-steps false v p l x s d e true =
-      rw (place-voice t (knowing c false v) p l d e (x .mask) (x .sent) (s .mask) (s .sent .long))
-      (right-held _ refl refl refl, place-on t (knowing c false v) p l d e)
-  slot-steps reached v p l x s d e false = rw (place-lost t (knowing c reached v) p l d e) (refl, place-on t (knowing c reached v) p l d e)
+  -- a slot that arrives
+  slot-heard : (reached : Bool) (v : List ℕ) (k : Known) → Knowing reached v k → (p : ℕ) → p < sessionSlots c → (x : Slot) → SlotKept its (stream c key v) p x
+      → (d : Call) → standing d ≡ place t k p
+      → voiceOf d (x .mask) (x .sent) ≡ (pick reached Done Held, (written (place t k (p + 1)), pick reached (inSlot streamOf (x .mask) (x .sent) (written (receiving t p k))) (x .sent)))
+  slot-heard reached v k n p l x s d e =
+      place-voice t k p l d e (x .mask) (x .sent) (s .mask) (s .sent .long)
+      ∙ ap (λ (r : Bool). (pick r Done Held, (written (place t k (p + 1)), pick r (inSlot streamOf (x .mask) (x .sent) (written (receiving t p k))) (x .sent)))) (n .known)
 
-  module _ (reached : Bool) (v : List ℕ) where
+  slot-steps : (reached : Bool) (v : List ℕ) (k : Known) → Knowing reached v k → (p : ℕ) → p < sessionSlots c → (x : Slot) → SlotKept its (stream c key v) p x
+      → (d : Call) → standing d ≡ place t k p → (arrived : Bool) → Steps k p (event (oursIn m) b c i rt (slotNotice reached arrived x) d)
+  slot-steps true v k n p l x s d e true =
+      rw (slot-heard true v k n p l x s d e, same-slot b c i key h rt m right long k v (n .vector refl) p (x .mask) (x .sent))
+      (right-handed _ refl refl (opened-word (width rt) (stream c key v) p x s), place-on t k p l d e)
+  slot-steps false v k n p l x s d e true =
+      rw (slot-heard false v k n p l x s d e) (right-held _ refl refl refl, place-on t k p l d e)
+  slot-steps reached v k n p l x s d e false = rw (place-lost t k p l d e) (refl, place-on t k p l d e)
+
+  module _ (reached : Bool) (v : List ℕ) (k : Known) (n : Knowing reached v k) where
     -- the slots from slot p on, and then whatever is right after them
     slots-right : (p : ℕ) (xs : List Slot) → p + length xs ≤ sessionSlots c → SlotsKept its (stream c key v) p xs
-        → (ns : List Notice) → RightFrom (at reached v (p + length xs)) ns → RightFrom (at reached v p) (slotNotices reached xs ++ ns)
-    slots-right p [] l s ns r d e = r d (e ∙ ap (at reached v) (sym (add-zero p)))
+        → (ns : List Notice) → RightFrom (place t k (p + length xs)) ns → RightFrom (place t k p) (slotNotices reached xs ++ ns)
+    slots-right p [] l s ns r d e = r d (e ∙ ap (place t k) (sym (add-zero p)))
     slots-right p (x ∷ xs) l s ns r d e =
-        let o = slot-steps reached v p (omega arith) x (s .0) d e (x .arrived) in
+        let o = slot-steps reached v k n p (omega arith) x (s .0) d e (x .arrived) in
         let q : p + suc (length xs) ≡ suc p + length xs = omega arith in
         (o .0, slots-right (suc p) xs (omega arith) (s .1) ns (rw q at r) _ (rw add-one at (o .1)))
 
     -- the rest of a session, whole or the call's last, and those after it
     part-right : (p : ℕ) (xs : List Slot) → p + length xs ≤ sessionSlots c → SlotsKept its (stream c key v) p xs
-        → (ys : List Session) → ((ys ≡ []) ⊎ (p + length xs ≡ sessionSlots c)) → RightFrom (fresh t) (sessionNotices c ys)
-        → RightFrom (at reached v p) (slotNotices reached xs ++ sessionNotices c ys)
-    part-right p xs l s ys (inl e) r = rw e (slots-right p xs l s [] (λ d q. tt))
-    part-right p xs l s ys (inr e) r =
-        slots-right p xs l s (sessionNotices c ys) (λ d q. r d (q ∙ place-end t (knowing c reached v) (p + length xs) e))
+        → (now : Bool) (ys : List Session) → ((ys ≡ []) ⊎ (p + length xs ≡ sessionSlots c)) → RightFrom (fresh t k) (sessionsBy m c now ys)
+        → RightFrom (place t k p) (slotNotices reached xs ++ sessionsBy m c now ys)
+    part-right p xs l s now ys (inl e) r = rw e (slots-right p xs l s [] (λ d q. tt))
+    part-right p xs l s now ys (inr e) r =
+        slots-right p xs l s (sessionsBy m c now ys) (λ d q. r d (q ∙ place-end t k (p + length xs) e))
+
+  -- ---- from one session to the next
+
+  -- what it knows as a session x starts: told of no vector, but for scramble; and where no announcement comes, the session's vector, if any
+  pub record Ready (known : Bool) (k : Known) (x : Session) : Type 0 where
+    pub knows : isKnown k ≡ known
+    pub untold : isTold k ≡ scrambles c
+    pub vector : (not (scrambles c) && x .announced) ≡ false → known ≡ true → knownVector k ≡ sessionVector c (x .vector)
+
+  -- by default, and with DES or AES, each next vector is the generator's or its announcement arrived
+  abbrev Linked : List Session → Type 0
+  Linked xs = m ≡ byDefault → scrambles c ≡ false → Successive GeneratedOrAnnounced xs
+
+  known-on : (u d n : Bool) (v : List ℕ) → (u ≡ true → n ≡ true) → isKnown (pick (not u && (d && n)) (carried v) (pick u (told noVector) unknown)) ≡ pick d n u
+  known-on true true n v s = sym (s refl)
+  known-on true false n v s = refl
+  known-on false true true v s = refl
+  known-on false true false v s = refl
+  known-on false false n v s = refl
+
+  told-on : (u d n : Bool) (v : List ℕ) → isTold (pick (not u && (d && n)) (carried v) (pick u (told noVector) unknown)) ≡ u
+  told-on true d n v = refl
+  told-on false true true v = refl
+  told-on false true false v = refl
+  told-on false false n v = refl
+
+  -- the vector of a session y after x
+  vector-on : (u d n : Bool) (w v : List ℕ) → (u ≡ false → d ≡ true → n ≡ true → nextVector w ≡ v) → pick d n u ≡ true
+      → knownVector (pick (not u && (d && n)) (carried (nextVector w)) (pick u (told noVector) unknown)) ≡ pick u noVector v
+  vector-on true d n w v f k = refl
+  vector-on false true true w v f k = f refl refl refl
+  vector-on false true false w v f k = absurd (true≢false (sym k))
+  vector-on false false n w v f k = absurd (true≢false (sym k))
+
+  ready-next : (reached : Bool) (x : Session) (k : Known) → Knowing reached (x .vector) k → (scrambles c ≡ true → reached ≡ true) → (y : Session)
+      → (m ≡ byDefault → scrambles c ≡ false → GeneratedOrAnnounced x y) → Ready (knownNext m c reached) (ridden t k) y
+  ready-next reached x k n s y link =
+      record {
+        knows = known-on (scrambles c) (eqb m byDefault) (isKnown k) (nextVector (knownVector k)) (λ u. n .known ∙ s u) ∙ ap (knownNext m c) (n .known);
+        untold = told-on (scrambles c) (eqb m byDefault) (isKnown k) (nextVector (knownVector k));
+        vector = λ a z.
+            vector-on (scrambles c) (eqb m byDefault) (isKnown k) (knownVector k) (y .vector)
+            (λ u d e. following a u (n .vector (sym (n .known) ∙ e)) (link (eqb-true m byDefault d) u)) (ap (knownNext m c) (n .known) ∙ z);
+      }
+    where
+      following : (not (scrambles c) && y .announced) ≡ false → scrambles c ≡ false → knownVector k ≡ sessionVector c (x .vector) → GeneratedOrAnnounced x y
+          → nextVector (knownVector k) ≡ y .vector
+      following a u e (inl z) = absurd (true≢false (rw (u, z) at a))
+      following a u e (inr z) = ap nextVector (e ∙ ap (λ (b : Bool). pick b noVector (x .vector)) u) ∙ sym z
+
+  told-known : (k : Known) → isTold k ≡ true → isKnown k ≡ true
+  told-known unknown e = absurd (true≢false (sym e))
+  told-known (told v) e = refl
+  told-known (carried v) e = refl
+
+  -- scramble's counts as reached, announced or not
+  some-known : (known : Bool) (k : Known) (x : Session) → Ready known k x → scrambles c ≡ true → (a : Bool) → (known || a) ≡ known
+  some-known true k x r e a = refl
+  some-known false k x r e a = absurd (true≢false (sym (told-known k (r .untold ∙ e)) ∙ r .knows))
 
   -- told of the vector as the session starts, if the announcement arrived
-  start-right : (told : Bool) (v : List ℕ) → length v ≡ vectorOctets → (ns : List Notice) → RightFrom (at (isReached c told) v 0) ns
-      → RightFrom (fresh t) (startNotices (not (scrambles c) && told) v ++ ns)
-  start-right told v l ns r d q = go (scrambles c) refl told r
+  start-right : (known : Bool) (k : Known) (x : Session) → Ready known k x → length (x .vector) ≡ vectorOctets → (ns : List Notice)
+      → ((k′ : Known) → Knowing (known || x .announced) (x .vector) k′ → RightFrom (place t k′ 0) ns)
+      → RightFrom (receiving t 0 k) (startNotices (not (scrambles c) && x .announced) (x .vector) ++ ns)
+  start-right known k x r l ns next d q = go (scrambles c) (x .announced) refl refl
     where
-      go : (u : Bool) → scrambles c ≡ u → (told : Bool) → RightFrom (at (u || told) v 0) ns → Each Right (log d (startNotices (not u && told) v ++ ns))
-      go true e told r = r d (place-untold b c i key h rt rate d q v true e)
-      go false e true r = rw (place-announced b c i key h rt rate d q v l e) (refl, r _ (announced-stands b c i key h rt rate d q v l e))
-      go false e false r = r d (place-untold b c i key h rt rate d q v false e)
+      go : (u a : Bool) → scrambles c ≡ u → x .announced ≡ a → Each Right (log d (startNotices (not u && a) (x .vector) ++ ns))
+      go true a e f =
+          next k
+          (record { known = r .knows ∙ sym (some-known known k x r e (x .announced)); vector = λ z. r .vector (rw e) (sym (r .knows) ∙ told-known k (r .untold ∙ e)) }) d
+          (place-untold b c i key h rt m right d k q)
+      go false true e f =
+          rw (place-announced b c i key h rt m right d k q (x .vector) l e (r .untold ∙ e)) (
+            refl,
+            next (told (x .vector))
+                (record { known = sym (or-true known) ∙ ap (λ (a : Bool). known || a) (sym f); vector = λ z. sym (ap (λ (u : Bool). pick u noVector (x .vector)) e) }) _
+                (announced-stands b c i key h rt m right d k q (x .vector) l e (r .untold ∙ e)),
+          )
+      go false false e f =
+          next k
+          (record {
+            known = r .knows ∙ sym (or-false known) ∙ ap (λ (a : Bool). known || a) (sym f);
+            vector = λ z. r .vector (rw (e, f)) (sym (or-false known) ∙ ap (λ (a : Bool). known || a) (sym f) ∙ z);
+          }) d (place-untold b c i key h rt m right d k q)
 
   -- ---- the sessions
 
@@ -132,44 +223,135 @@ module _ (b : List ℕ) (c i : ℕ) (key : List ℕ) (h : HasKey b c i key) (lon
   full-within x (y ∷ ys) f = omega (arith, f .0)
 
   -- a session from slot p on, and then the sessions after it
-  session-right : (told : Bool) (p : ℕ) → p ≤ sessionSlots c → (x : Session) (ys : List Session) → SessionKept its c key x → Full c (slotCounts (x ∷ ys))
-      → RightFrom (fresh t) (sessionNotices c ys) → RightFrom (at (isReached c told) (x .vector) p) (firstNotices c told p (x ∷ ys))
-  session-right told p l x ys k f r =
-      part-right (isReached c told) (x .vector) p (drop p (x .slots)) (omega (arith, length-drop p (x .slots), full-within x ys f))
-      (rw zero-add at (slots-drop its (stream c key (x .vector)) p 0 (x .slots) (k .slots))) ys (last (full-or-last x ys f)) r
+  session-right : (reached : Bool) (k : Known) (p : ℕ) → p ≤ sessionSlots c → (x : Session) (ys : List Session) → Knowing reached (x .vector) k
+      → SessionKept its c key x → Full c (slotCounts (x ∷ ys)) → RightFrom (fresh t k) (sessionsBy m c (knownNext m c reached) ys)
+      → RightFrom (place t k p) (firstBy m c reached p (x ∷ ys))
+  session-right reached k p l x ys n kept f r =
+      part-right reached (x .vector) k n p (drop p (x .slots)) (omega (arith, length-drop p (x .slots), full-within x ys f))
+      (rw zero-add at (slots-drop its (stream c key (x .vector)) p 0 (x .slots) (kept .slots))) (knownNext m c reached) ys (last (full-or-last x ys f)) r
     where
       last : (ys ≡ []) ⊎ (length (x .slots) ≡ sessionSlots c) → (ys ≡ []) ⊎ (p + length (drop p (x .slots)) ≡ sessionSlots c)
       last (inl e) = inl e
       last (inr e) = inr (omega (arith, length-drop p (x .slots)))
 
-  sessions-right : (xs : List Session) → Each (SessionKept its c key) xs → Full c (slotCounts xs) → RightFrom (fresh t) (sessionNotices c xs)
-  sessions-right [] k f = λ d q. tt
-  sessions-right (x ∷ ys) k f =
-      start-right (x .announced) (x .vector) (k .0 .vector) (firstNotices c (x .announced) 0 (x ∷ ys))
-      (session-right (x .announced) 0 (omega arith) x ys (k .0) f (sessions-right ys (k .1) (full-tail c x ys f)))
+  abbrev ReadyFor : Bool → Known → List Session → Type 0
+  ReadyFor known k [] = Unit {0}
+  ReadyFor known k (x ∷ xs) = Ready known k x
+
+  ready-for : (reached : Bool) (x : Session) (k : Known) → Knowing reached (x .vector) k → (scrambles c ≡ true → reached ≡ true) → (ys : List Session)
+      → Linked (x ∷ ys) → ReadyFor (knownNext m c reached) (ridden t k) ys
+  ready-for reached x k n s [] link = tt
+  ready-for reached x k n s (y ∷ ys) link = ready-next reached x k n s y (λ d u. link d u .0)
+
+  linked-tail : (x : Session) (ys : List Session) → Linked (x ∷ ys) → Linked ys
+  linked-tail x [] link d u = tt
+  linked-tail x (y ∷ ys) link d u = link d u .1
+
+  sessions-right : (known : Bool) (k : Known) (xs : List Session) → ReadyFor known k xs → Each (SessionKept its c key) xs → Full c (slotCounts xs) → Linked xs
+      → RightFrom (receiving t 0 k) (sessionsBy m c known xs)
+  sessions-right known k [] r kept f link = λ d q. tt
+  sessions-right known k (x ∷ ys) r kept f link =
+      start-right known k x r (kept .0 .vector) (firstBy m c (known || x .announced) 0 (x ∷ ys))
+      (λ k′ n.
+      let some : scrambles c ≡ true → (known || x .announced) ≡ true = λ u. some-known known k x r u (x .announced) ∙ sym (r .knows) ∙ told-known k (r .untold ∙ u) in
+      session-right (known || x .announced) k′ 0 (omega arith) x ys n (kept .0) f
+      (sessions-right (knownNext m c (known || x .announced)) (ridden t k′) ys (ready-for (known || x .announced) x k′ n some ys link) (kept .1) (full-tail c x ys f)
+      (linked-tail x ys link)))
 
   -- the first session that is heard, from slot p on
-  first-right : (told : Bool) (p : ℕ) → p ≤ sessionSlots c → (x : Session) (ys : List Session) → Each (SessionKept its c key) (x ∷ ys)
-      → Full c (slotCounts (x ∷ ys)) → RightFrom (at (isReached c told) (x .vector) p) (firstNotices c told p (x ∷ ys))
-  first-right told p l x ys k f = session-right told p l x ys (k .0) f (sessions-right ys (k .1) (full-tail c x ys f))
+  first-right : (reached : Bool) (k : Known) (p : ℕ) → p ≤ sessionSlots c → (x : Session) (ys : List Session) → Knowing reached (x .vector) k
+      → (scrambles c ≡ true → reached ≡ true) → Each (SessionKept its c key) (x ∷ ys) → Full c (slotCounts (x ∷ ys)) → Linked (x ∷ ys)
+      → RightFrom (place t k p) (firstBy m c reached p (x ∷ ys))
+  first-right reached k p l x ys n s kept f link =
+      session-right reached k p l x ys n (kept .0) f
+      (sessions-right (knownNext m c reached) (ridden t k) ys (ready-for reached x k n s ys link) (kept .1) (full-tail c x ys f) (linked-tail x ys link))
 
-  joined-right : (xs : List Session) → Each (SessionKept its c key) xs → Full c (slotCounts xs)
-      → Each Right (log noCall (join ∷ firstNotices c false superframeSlots xs))
-  joined-right [] k f = rw (place-joined b c i key h rt rate) (refl, tt)
-  joined-right (x ∷ xs) k f =
-      rw (place-joined b c i key h rt rate)
-      (refl, first-right false superframeSlots (slots-some c (key-ranged b c i key h)) x xs k f _ (joined-stands b c i key h rt rate (x .vector)))
+  -- ---- how it comes in
 
-  talk-right : (e : WayIn) (xs : List Session) → Each (SessionKept its c key) xs → Full c (slotCounts xs)
-      → Each Right (talkLog ours b i (record { cipher = c; rate = rt; key = key; sessions = xs }) e)
-  talk-right opening [] k f = tt
-  talk-right opening (x ∷ xs) k f =
-      rw (place-opened b c i key h rt rate (x .vector) (k .0 .vector)) (
+  opened-right : (reached : Bool) → reached ≡ true → (x : Session) (xs : List Session) → Each (SessionKept its c key) (x ∷ xs) → Full c (slotCounts (x ∷ xs))
+      → Linked (x ∷ xs) → Each Right (log noCall (hear (x .vector) ∷ firstBy m c reached 0 (x ∷ xs)))
+  opened-right reached e x xs kept f link =
+      rw (place-opened b c i key h rt m right (x .vector) (kept .0 .vector)) (
         refl,
-        first-right true 0 (omega arith) x xs k f _
-            (opened-stands b c i key h rt rate (x .vector) (k .0 .vector) ∙ ap (λ (r : Bool). at r (x .vector) 0) (sym (or-true (scrambles c)))),
+        first-right reached (told (sessionVector c (x .vector))) 0 (omega arith) x xs (record { known = sym e; vector = λ z. refl }) (λ u. e) kept f link _
+            (opened-stands b c i key h rt m right (x .vector) (kept .0 .vector)),
       )
-  talk-right (joining n) xs k f = joined-right (drop n xs) (each-drop (SessionKept its c key) n xs k) (full-drop c n xs f)
+
+  joined-right : (reached : Bool) → reached ≡ scrambles c → (xs : List Session) → Each (SessionKept its c key) xs → Full c (slotCounts xs) → Linked xs
+      → Each Right (log noCall (join ∷ firstBy m c reached superframeSlots xs))
+  joined-right reached e [] kept f link = rw (place-joined b c i key h rt m right) (refl, tt)
+  joined-right reached e (x ∷ xs) kept f link =
+      rw (place-joined b c i key h rt m right) (
+        refl,
+        first-right reached (untold c) superframeSlots (slots-some c (key-ranged b c i key h)) x xs (nothing (scrambles c) refl) (λ u. e ∙ u) kept f link _
+            (joined-stands b c i key h rt m right),
+      )
+    where
+      nothing : (u : Bool) → scrambles c ≡ u → Knowing reached (x .vector) (untold c)
+      nothing true q = record { known = rw q (sym (e ∙ q)); vector = λ z. rw q }
+      nothing false q = record { known = rw q (sym (e ∙ q)); vector = λ z. absurd (true≢false (sym z ∙ e ∙ q)) }
+
+-- ---- the two demands
+
+linked-drop : (P : Session → Session → Type 0) (n : ℕ) (xs : List Session) → Successive P xs → Successive P (drop n xs)
+linked-drop P zero xs l = l
+linked-drop P (suc n) [] l = l
+linked-drop P (suc n) (x ∷ []) l = linked-drop P n [] tt
+linked-drop P (suc n) (x ∷ y ∷ ys) l = linked-drop P n (y ∷ ys) (l .1)
+
+module _ (t : Talk) (k : Kept t) (b : List ℕ) (i : ℕ) (h : HasKey b (t .cipher) i (t .key)) where
+  kept-by : Each (SessionKept (layoutBy (width (t .rate))) (t .cipher) (t .key)) (t .sessions)
+  kept-by = rw (layout-is (t .rate)) at (k .each)
+
+  not-default : {A : Type 0} → strict ≡ byDefault → A
+  not-default e = absurd (omega arith)
+
+  strict-right : (e : WayIn) → Each Right (talkLog ours b i t e)
+  strict-right opening = go (t .sessions) kept-by (k .full)
+    where
+      go : (xs : List Session) → Each (SessionKept (layoutBy (width (t .rate))) (t .cipher) (t .key)) xs → Full (t .cipher) (slotCounts xs)
+          → Each Right (events ours b (t .cipher) i (t .rate) noCall (openingNotices (t .cipher) xs))
+      go [] a f = tt
+      go (x ∷ xs) a f =
+          rw (← strict-first (t .cipher) true 0 (x ∷ xs))
+          (opened-right b (t .cipher) i (t .key) h (k .key) (t .rate) strict (ways-right (t .rate) strict (k .rate) (omega arith)) (isReached (t .cipher) true)
+          (or-true (scrambles (t .cipher))) x xs a f (λ d u. not-default d))
+  strict-right (joining n) =
+      rw (← strict-first (t .cipher) false superframeSlots (drop n (t .sessions)))
+      (joined-right b (t .cipher) i (t .key) h (k .key) (t .rate) strict (ways-right (t .rate) strict (k .rate) (omega arith)) (isReached (t .cipher) false)
+      (or-false (scrambles (t .cipher))) (drop n (t .sessions)) (each-drop (SessionKept (layoutBy (width (t .rate))) (t .cipher) (t .key)) n (t .sessions) kept-by)
+      (full-drop (t .cipher) n (t .sessions) (k .full)) (λ d u. not-default d))
+
+  default-right : (scrambles (t .cipher) ≡ false → Successive GeneratedOrAnnounced (t .sessions)) → (e : WayIn) → Each Right (defaultLog handset b i t e)
+  default-right link opening = go (t .sessions) kept-by (k .full) link
+    where
+      go : (xs : List Session) → Each (SessionKept (layoutBy (width (t .rate))) (t .cipher) (t .key)) xs → Full (t .cipher) (slotCounts xs)
+          → (scrambles (t .cipher) ≡ false → Successive GeneratedOrAnnounced xs)
+          → Each Right (events handset b (t .cipher) i (t .rate) noCall (sinceKnown (scrambles (t .cipher)) (openingNotices (t .cipher) xs)))
+      go [] a f l = tt
+      go (x ∷ xs) a f l =
+          rw (default-first (t .cipher) true true (λ u. refl) 0 (x ∷ xs))
+          (opened-right b (t .cipher) i (t .key) h (k .key) (t .rate) byDefault (ways-right (t .rate) byDefault (k .rate) (omega arith)) true refl x xs a f (λ d. l))
+  default-right link (joining n) =
+      rw (default-first (t .cipher) (scrambles (t .cipher)) false (λ u. u) superframeSlots (drop n (t .sessions)))
+      (joined-right b (t .cipher) i (t .key) h (k .key) (t .rate) byDefault (ways-right (t .rate) byDefault (k .rate) (omega arith)) (scrambles (t .cipher)) refl
+      (drop n (t .sessions)) (each-drop (SessionKept (layoutBy (width (t .rate))) (t .cipher) (t .key)) n (t .sessions) kept-by)
+      (full-drop (t .cipher) n (t .sessions) (k .full)) (λ d u. linked-drop GeneratedOrAnnounced n (t .sessions) (link u)))
 
 pub ours-meets-3 : Meets3 ours
-ours-meets-3 t k b i h e = talk-right b (t .cipher) i (t .key) h (k .key) (t .rate) (rate-is (t .rate) (k .rate)) e (t .sessions) (rw (layout-is (t .rate)) at (k .each)) (k .full)
+ours-meets-3 t k b i h e = strict-right t k b i h e
+
+pub handset-meets-3-announced : Meets3Announced handset
+handset-meets-3-announced t k l b i h e = default-right t k b i h l e
+
+-- the generator's are among these
+generated-linked : (xs : List Session) → Successive Generated xs → Successive GeneratedOrAnnounced xs
+generated-linked [] l = tt
+generated-linked (x ∷ []) l = tt
+generated-linked (x ∷ y ∷ ys) l = (inr (l .0), generated-linked (y ∷ ys) (l .1))
+
+pub announced-default : (R : Receiver) → Meets3Announced R → Meets3Default R
+announced-default R meets t k l = meets t k (λ u. generated-linked (t .sessions) (l u))
+
+pub handset-meets-3 : Meets3Default handset
+handset-meets-3 = announced-default handset handset-meets-3-announced

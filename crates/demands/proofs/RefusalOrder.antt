@@ -16,10 +16,9 @@ use Rattle.keybook.specs.Book.{bookOctets, bookRefusals}
 use Rattle.keybook.specs.Operations.{beginRefusals, addRefusals, finishRefusals, eraseRefusals, notReady, readyRefusals}
 use Rattle.keybook.specs.History as book
 use Rattle.sizes.specs.Ciphers.{vectorOctets}
-use Rattle.sizes.specs.Frame.{isRate}
 use Rattle.openings.specs.Ladder.{keyRefusals, zeroRefusals, vectorRefusals}
 use Rattle.openings.proofs.LadderLaws.{key-in-order, vector-in-order}
-use Rattle.voice.specs.Call.{sendingEnd, receivingEnd, Standing, standing, isBad, stands, endRefusals}
+use Rattle.voice.specs.Call.{sendingEnd, receivingEnd, byDefault, termsRight, Standing, standing, isBad, stands, endRefusals}
 use Rattle.voice.specs.Opening.{joinRefusals, begunRefusals}
 use Rattle.voice.specs.Slot.{lostRefusals, voiceRefusals}
 use Rattle.voice.specs.Vector.{announceRefusals, nextRefusals}
@@ -32,10 +31,10 @@ use Rattle.demands.specs.Device.{Device, Open, Start, Join, Voice, Lost,
 use Rattle.demands.specs.Refusals.{refusalsOf, withoutCall, voiceOrder, orderOf}
 
 -- open and start
-begun-in-order : (end : ℕ) (s : Standing) (c i r : ℕ) (w b : List ℕ)
-    → inOrder (pick (eqb end sendingEnd) refusalOrder withoutZeros) (numbersOf (begunRefusals end s c i r w b)) ≡ true
+begun-in-order : (end : ℕ) (s : Standing) (c i r m : ℕ) (w b : List ℕ)
+    → inOrder (pick (eqb end sendingEnd) refusalOrder withoutZeros) (numbersOf (begunRefusals end s c i r m w b)) ≡ true
 unfolding begunRefusals
-begun-in-order end s c i r w b = vector-in-order (isRate r) (isBad s) (stands s) c i b w (eqb end sendingEnd)
+begun-in-order end s c i r m w b = vector-in-order (termsRight end r m) (isBad s) (stands s) c i b w (eqb end sendingEnd)
 
 pub in-order : (d : Device) (o : Operation) → inOrder (orderOf o) (numbersOf (refusalsOf d o)) ≡ true
 unfolding beginRefusals addRefusals finishRefusals eraseRefusals bookRefusals extendRefusals completeRefusals joinRefusals voiceRefusals lostRefusals
@@ -44,11 +43,11 @@ in-order d (OfBook (book.Begin c i)) = refl
 in-order d (OfBook (book.Add c i xs)) = refl
 in-order d (OfBook (book.Finish c i)) = refl
 in-order d (OfBook (book.Erase c i)) = refl
-in-order d (OfCall n (Open c i r w)) = begun-in-order receivingEnd (standing (d .calls n)) c i r w (d .book)
-in-order d (OfCall n (Start c i r w)) = begun-in-order sendingEnd (standing (d .calls n)) c i r w (d .book)
-in-order d (OfCall n (Join c i r)) =
+in-order d (OfCall n (Open c i r m w)) = begun-in-order receivingEnd (standing (d .calls n)) c i r m w (d .book)
+in-order d (OfCall n (Start c i r w)) = begun-in-order sendingEnd (standing (d .calls n)) c i r byDefault w (d .book)
+in-order d (OfCall n (Join c i r m)) =
     let s = standing (d .calls n) in
-    key-in-order (isRate r) (isBad s) (stands s) c i (d .book)
+    key-in-order (termsRight receivingEnd r m) (isBad s) (stands s) c i (d .book)
 in-order d (OfCall n (Voice mask frame)) = refl
 in-order d (OfCall n Lost) = refl
 in-order d (OfCall n End) = refl
@@ -62,14 +61,14 @@ in-order d (OfPacket n LostMessage) = refl
 in-order d (OfPacket n EndPacket) = refl
 
 -- the openings with a vector and announce, in full: 8 is a sender's alone
-pub vector-orders : (d : Device) (n kind c i r : ℕ) (w : List ℕ)
-    → (numbersOf (refusalsOf d (OfCall n (Open c i r w))) ≡ 2 ∷ 2 ∷ 3 ∷ 4 ∷ 9 ∷ 4 ∷ 5 ∷ 6 ∷ [])
+pub vector-orders : (d : Device) (n kind c i r m : ℕ) (w : List ℕ)
+    → (numbersOf (refusalsOf d (OfCall n (Open c i r m w))) ≡ 2 ∷ 2 ∷ 3 ∷ 4 ∷ 9 ∷ 4 ∷ 5 ∷ 6 ∷ [])
     × (numbersOf (refusalsOf d (OfCall n (Start c i r w))) ≡ 2 ∷ 2 ∷ 3 ∷ 4 ∷ 9 ∷ 4 ∷ 5 ∷ 6 ∷ 8 ∷ [])
     × (numbersOf (refusalsOf d (OfCall n (Announce w))) ≡ 2 ∷ 4 ∷ 9 ∷ [])
     × (numbersOf (refusalsOf d (OfPacket n (OpenPacket 0 kind c i w))) ≡ 2 ∷ 2 ∷ 3 ∷ 4 ∷ 9 ∷ 4 ∷ 5 ∷ 6 ∷ [])
     × (numbersOf (refusalsOf d (OfPacket n (OpenPacket 1 kind c i w))) ≡ 2 ∷ 2 ∷ 3 ∷ 4 ∷ 9 ∷ 4 ∷ 5 ∷ 6 ∷ 8 ∷ [])
 unfolding begunRefusals opening.openRefusals vectorRefusals keyRefusals zeroRefusals announceRefusals
-vector-orders d n kind c i r w = (refl, refl, refl, refl, refl)
+vector-orders d n kind c i r m w = (refl, refl, refl, refl, refl)
 
 -- the two exceptions are all of their own lists
 pub voice-order : (d : Device) (n mask : ℕ) (frame : List ℕ) → numbersOf (refusalsOf d (OfCall n (Voice mask frame))) ≡ 10 ∷ 4 ∷ 9 ∷ 2 ∷ []
@@ -89,14 +88,14 @@ ready-in-order b c i = refl
 
 -- the test is of numbers, and an opening has 4 twice: with 9 between them, the one after it is the book's. What stands is 9, whatever the book holds
 module _ (c i : ℕ) (b : List ℕ) (long : length b ≡ 576) (in-range : inRange c i ≡ true) where
-  module _ (r : ℕ) (rate : isRate r ≡ true) (s : Standing) (good : isBad s ≡ false) (there : stands s ≡ true) where
-    pub busy-join : (a : Answer) → answered (joinRefusals s c i r b) a ≡ NotNow
+  module _ (r m : ℕ) (s : Standing) (good : isBad s ≡ false) (there : stands s ≡ true) where
+    pub busy-join : termsRight receivingEnd r m ≡ true → (a : Answer) → answered (joinRefusals s c i r m b) a ≡ NotNow
     unfolding joinRefusals keyRefusals
-    busy-join a = rw (eq-eqb (length b) bookOctets long, rate, in-range, good, there)
+    busy-join right a = rw (eq-eqb (length b) bookOctets long, right, in-range, good, there)
 
-    pub busy-begun : (end : ℕ) (w : List ℕ) → length w ≡ 8 → (a : Answer) → answered (begunRefusals end s c i r w b) a ≡ NotNow
+    pub busy-begun : (end : ℕ) → termsRight end r m ≡ true → (w : List ℕ) → length w ≡ 8 → (a : Answer) → answered (begunRefusals end s c i r m w b) a ≡ NotNow
     unfolding begunRefusals vectorRefusals keyRefusals
-    busy-begun end w l a = rw (eq-eqb (length w) vectorOctets l, eq-eqb (length b) bookOctets long, rate, in-range, good, there)
+    busy-begun end right w l a = rw (eq-eqb (length w) vectorOctets l, eq-eqb (length b) bookOctets long, right, in-range, good, there)
 
   pub busy-packet : (p : Packet) → packet.goodPacket p ≡ true → packet.isClosed p ≡ false → (end kind : ℕ) → (opening.isEnd end && isKind kind) ≡ true → (w : List ℕ)
       → length w ≡ 8 → (a : Answer) → answered (opening.openRefusals p end kind c i w b) a ≡ NotNow

@@ -26,7 +26,7 @@ use Rattle.sizes.specs.Frame.{isRate}
 use Rattle.sizes.proofs.SizeLaws.{by-rate}
 use Rattle.openings.specs.Ladder as ladder
 use Rattle.voice.specs.declared.call.Call.{Call}
-use Rattle.voice.specs.Call.{sendingEnd, receivingEnd, unknownVector, goodCall, standing, knows, endRefusals}
+use Rattle.voice.specs.Call.{sendingEnd, receivingEnd, unknownVector, byDefault, strict, termsRight, goodCall, standing, knows, endRefusals}
 use Rattle.voice.specs.Opening.{joinRefusals, begunRefusals}
 use Rattle.voice.specs.Slot.{lostRefusals, voiceRefusals, streamOf, voiceOf}
 use Rattle.voice.specs.Vector.{announceRefusals, following, nextRefusals, nextVectorOf}
@@ -81,17 +81,25 @@ sender-not-zeros : (c : ℕ) (w : List ℕ) → NoneHolds (ladder.zeroRefusals t
 unfolding ladder.zeroRefusals ladder.zeroFor
 sender-not-zeros c w n s = not-zeros w (sym (ap (λ (t : Bool). not t && allZero w) (ne-eqb c 1 s)) ∙ n .0)
 
--- a rate that is asked for
-rate-range : (c i r : ℕ) → not (isRate r && inRange c i) ≡ false → r ≤ 1
-rate-range c i r n = by-rate (λ r. r ≤ 1) (omega arith) (omega arith) r (and-left (isRate r) (inRange c i) (not-false (isRate r && inRange c i) n))
+-- a rate and a strictness that are asked for
+ways-range : (end c i r s : ℕ) → not (termsRight end r s && inRange c i) ≡ false → (r ≤ 1) × (s ≤ 1)
+unfolding termsRight
+ways-range end c i r s n =
+    let right = and-left (termsRight end r s) (inRange c i) (not-false (termsRight end r s && inRange c i) n) in
+    let low = and-right (isRate r) _ right in
+    (by-rate (λ r. r ≤ 1) (omega arith) (omega arith) r (and-left (isRate r) _ right), go (eqb s byDefault) refl low)
+  where
+    go : (t : Bool) → eqb s byDefault ≡ t → (t || (eqb s strict && eqb end receivingEnd)) ≡ true → s ≤ 1
+    go true e h = omega (arith, eqb-true s byDefault e)
+    go false e h = omega (arith, eqb-true s strict (and-left (eqb s strict) _ h))
 
 -- open and start
-begun-right : (end : ℕ) (b : List ℕ) (c : Call) (m i r : ℕ) (w : List ℕ) → NoneHolds (begunRefusals end (standing c) m i r w b)
-    → Keyed b m i × (r ≤ 1) × (length w ≡ 8) × (goodCall c ≡ true) × NoneHolds (ladder.zeroRefusals (eqb end sendingEnd) m w)
+begun-right : (end : ℕ) (b : List ℕ) (c : Call) (m i r s : ℕ) (w : List ℕ) → NoneHolds (begunRefusals end (standing c) m i r s w b)
+    → Keyed b m i × ((r ≤ 1) × (s ≤ 1)) × (length w ≡ 8) × (goodCall c ≡ true) × NoneHolds (ladder.zeroRefusals (eqb end sendingEnd) m w)
 unfolding begunRefusals ladder.vectorRefusals ladder.keyRefusals
-begun-right end b c m i r w n = (
-  keyed b m i (isRate r) (n .1 .0) (n .1 .1 .0) (n .1 .1 .1 .1 .1 .0),
-  rate-range m i r (n .1 .1 .0),
+begun-right end b c m i r s w n = (
+  keyed b m i (termsRight end r s) (n .1 .0) (n .1 .1 .0) (n .1 .1 .1 .1 .1 .0),
+  ways-range end m i r s (n .1 .1 .0),
   sized (length w) vectorOctets (n .0),
   good-by c (n .1 .1 .1 .0),
   n .1 .1 .1 .1 .1 .1 .1 .1,
@@ -99,9 +107,11 @@ begun-right end b c m i r w n = (
 
 call-right : (b : List ℕ) (c : Call) (o : CallOperation) → NoneHolds (callRefusals b c o) → RightCall b c o
 unfolding joinRefusals ladder.keyRefusals voiceRefusals lostRefusals endRefusals announceRefusals nextRefusals
-call-right b c (Open m i r w) n = let q = begun-right receivingEnd b c m i r w n in (q .0, q .1, q .2, q .3)
-call-right b c (Start m i r w) n = let q = begun-right sendingEnd b c m i r w n in (q .0, q .1, q .2, sender-not-zeros m w (q .4), q .3)
-call-right b c (Join m i r) n = (keyed b m i (isRate r) (n .0) (n .1 .0) (n .1 .1 .1 .1 .0), rate-range m i r (n .1 .0), good-by c (n .1 .1 .0))
+call-right b c (Open m i r s w) n = let q = begun-right receivingEnd b c m i r s w n in (q .0, q .1 .0, q .1 .1, q .2, q .3)
+call-right b c (Start m i r w) n = let q = begun-right sendingEnd b c m i r byDefault w n in (q .0, q .1 .0, q .2, sender-not-zeros m w (q .4), q .3)
+call-right b c (Join m i r s) n =
+    let q = ways-range receivingEnd m i r s (n .1 .0) in
+    (keyed b m i (termsRight receivingEnd r s) (n .0) (n .1 .0) (n .1 .1 .1 .1 .0), q .0, q .1, good-by c (n .1 .1 .0))
 call-right b c (Voice mask frame) n = (
   ltb-false 15 mask (n .0),
   good-by c (n .1 .0),
@@ -160,9 +170,9 @@ undone before after rs n = refusal-keeps before rs (Done, after) (λ e. n (ap nu
 
 call-untouched : (b : List ℕ) (c : Call) (o : CallOperation) → (numberOf (callStep b c o .0) ≡ 0 → ⊥) → callStep b c o .1 .1 ≡ lentCall o
 unfolding callStep nextVectorOf
-call-untouched b c (Open m i r w) n = refl
+call-untouched b c (Open m i r s w) n = refl
 call-untouched b c (Start m i r w) n = refl
-call-untouched b c (Join m i r) n = refl
+call-untouched b c (Join m i r s) n = refl
 call-untouched b c (Voice mask frame) n = undone-stays streamOf c mask frame n
 call-untouched b c Lost n = refl
 call-untouched b c End n = refl
@@ -195,9 +205,9 @@ slot-held c mask frame z =
 
 call-held : (d : Device) (n : ℕ) (o : CallOperation) → numberOf (callStep (d .book) (d .calls n) o .0) ≡ 1 → Unknown d (OfCall n o)
 unfolding callStep
-call-held d n (Open c i r w) z = absurd (not-held (call-settles (d .book) (d .calls n) (Open c i r w)) z)
+call-held d n (Open c i r s w) z = absurd (not-held (call-settles (d .book) (d .calls n) (Open c i r s w)) z)
 call-held d n (Start c i r w) z = absurd (not-held (call-settles (d .book) (d .calls n) (Start c i r w)) z)
-call-held d n (Join c i r) z = absurd (not-held (call-settles (d .book) (d .calls n) (Join c i r)) z)
+call-held d n (Join c i r s) z = absurd (not-held (call-settles (d .book) (d .calls n) (Join c i r s)) z)
 call-held d n (Voice mask frame) z = let h = slot-held (d .calls n) mask frame z in slot n mask frame (h .0) (h .1)
 call-held d n Lost z = absurd (not-held (call-settles (d .book) (d .calls n) Lost) z)
 call-held d n End z = absurd (not-held (call-settles (d .book) (d .calls n) End) z)

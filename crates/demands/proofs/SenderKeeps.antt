@@ -15,7 +15,7 @@ use Rattle.generator.proofs.OwnNext.{own-next-zero}
 use Rattle.octets.specs.Tests.{pick}
 use Rattle.octets.specs.Lists.{allZero, Each}
 use Rattle.generator.specs.Generator.{IsVector, nextVector}
-use Rattle.sizes.specs.Frame.{isRate, width, frameOctets, slotBits}
+use Rattle.sizes.specs.Frame.{width, frameOctets, slotBits}
 use Rattle.sizes.specs.Ciphers.{keyOctets, sessionSlots, noVector, scrambles}
 use Rattle.ciphers.specs.Keystream.{stream}
 use Rattle.answers.specs.declared.Answer.{Answer}
@@ -26,14 +26,14 @@ use Rattle.voice.specs.declared.call.Call.{Call}
 use Rattle.voice.specs.Frame.{ofSlot, protect}
 use Rattle.openings.specs.Ladder.{sessionVector, keyFor, keyRefusals, zeroRefusals, vectorRefusals}
 use Rattle.openings.proofs.LadderLaws.{not-zero-for}
-use Rattle.voice.specs.Call.{sending, standing, termsOf, noCall, written}
+use Rattle.voice.specs.Call.{sendingEnd, byDefault, sending, standing, termsOf, noCall, written}
 use Rattle.voice.specs.Opening.{begunRefusals, startOf}
 use Rattle.voice.specs.Slot.{goingOn, slotOn, streamOf, voiceOf}
 use Rattle.voice.specs.Vector.{nextVectorOf}
 use Rattle.voice.proofs.FrameLaws.{protect-same, protect-frame}
 use Rattle.sizes.proofs.SizeLaws.{no-vector-zero}
 use Rattle.voice.proofs.CallLaws.{is-sender}
-use Rattle.voice.proofs.GoodLaws.{sentRight, good-sender, read-written, sender-some, going-right}
+use Rattle.voice.proofs.GoodLaws.{sentRight, Placed, good-sender, read-written, sender-some, going-right}
 use Rattle.voice.proofs.OpeningGood.{sent-right}
 use Rattle.voice.proofs.Exactly.{next-given}
 use Rattle.voice.proofs.NeverZero.{Sends, zeros-vector, going-vector, voice-sends}
@@ -41,12 +41,13 @@ use Rattle.voice.proofs.SlotSteps.{voice-at}
 use Rattle.demands.specs.Rates.{Layout, layout}
 use Rattle.demands.specs.Talk.{Slot, Session, SlotKept, SlotsKept, SessionKept, Full, slotCounts, Kept, HasKey, WayIn}
 use Rattle.demands.specs.Log.{talkLog}
+use Rattle.demands.specs.Demand3Default.{defaultLog, Successive, Generated, handset}
 use Rattle.demands.specs.Demand3.{Right, ours}
 use Rattle.demands.specs.OurSender.{Said, Saying, slotsMade, afterwards, sessionsMade, talkMade, StartVector, SaidKept, AllSaid, Follows}
-use Rattle.demands.proofs.Layouts.{layoutBy, layout-is, rate-is}
+use Rattle.demands.proofs.Layouts.{layoutBy, layout-is, sender-right}
 use Rattle.demands.proofs.AirLaws.{frame-at, protected-air}
 use Rattle.demands.proofs.Standing.{pair-in-range, key-ranged, has-key-right, slots-some, closed-read, same-stream}
-use Rattle.demands.proofs.ReceiverMeets.{ours-meets-3}
+use Rattle.demands.proofs.ReceiverMeets.{ours-meets-3, handset-meets-3}
 
 -- a sender's vector: eight octets, and for DES and AES not zeros
 pub record Sound (c : ℕ) (v : List ℕ) : Type 0 where
@@ -72,18 +73,27 @@ going-next c v = go (scrambles c)
     go true = refl
     go false = refl
 
+-- vectors that follow one another are the generator's
+follows-generated : (c : ℕ) → scrambles c ≡ false → (v : List ℕ) (xs : List Session) → Follows c v xs → Successive Generated xs
+follows-generated c e v [] f = tt
+follows-generated c e v (x ∷ []) f = tt
+follows-generated c e v (x ∷ y ∷ ys) f = (
+  f .1 .0 ∙ ap (λ (t : Bool). pick t noVector (nextVector v)) e ∙ ap nextVector (sym (f .0 ∙ ap (λ (t : Bool). pick t noVector v) e)),
+  follows-generated c e (nextVector v) (y ∷ ys) (f .1),
+)
+
 module _ (b : List ℕ) (c i : ℕ) (key : List ℕ) (h : HasKey b c i key) (long : length key ≡ keyOctets c) (rt : ℕ) (low : rt ≤ 1) where
   abbrev k : List ℕ
   k = keyFor b c i
 
   abbrev t : Terms
-  t = termsOf c k rt
+  t = termsOf c k rt byDefault
 
   abbrev its : Layout
   its = layoutBy (width rt)
 
-  rate : isRate rt ≡ true
-  rate = rate-is rt low
+  placed : {p : ℕ} → p < sessionSlots c → Placed sendingEnd t p
+  placed l = record { key = has-key-right b c i key h; terms = sender-right rt low; place = l }
 
   -- after p slots of a session; after the last it is in the next one, with the next vector
   abbrev spot : List ℕ → ℕ → Call
@@ -102,7 +112,7 @@ module _ (b : List ℕ) (c i : ℕ) (key : List ℕ) (h : HasKey b c i key) (lon
   spot-read v kept p l =
       ap standing (spot-in v p l)
       ∙ read-written (sending t p v) refl
-      (good-sender t p (has-key-right b c i key h) rate l v (kept .right))
+      (good-sender t p (placed l) v (kept .right))
 
   -- ---- the slots of a session
 
@@ -186,7 +196,7 @@ module _ (b : List ℕ) (c i : ℕ) (key : List ℕ) (h : HasKey b c i key) (lon
   next-announced v a e p l lent h8 x f s =
       let g : goingOn c v ≡ nextVector v = rw e in
       next-given (written (sending t p v)) lent
-      (record { long = h8; good = good-sender t p (has-key-right b c i key h) rate l v (a .right); sends = refl; vectored = e })
+      (record { long = h8; good = good-sender t p (placed l) v (a .right); sends = refl; vectored = e })
       ∙ ap (λ (w : List ℕ). (Done, w)) (sym g)
       ∙ ap (λ (d : Call). (Done, d .vector)) (sym (session-after v a x f s))
 
@@ -195,7 +205,7 @@ module _ (b : List ℕ) (c i : ℕ) (key : List ℕ) (h : HasKey b c i key) (lon
   started-at : (v : List ℕ) → StartVector c v → startOf noCall c i rt v b ≡ (Done, from (sessionVector c v))
   unfolding startOf begunRefusals vectorRefusals keyRefusals zeroRefusals
   started-at v s =
-      rw (closed-read, eq-eqb _ _ (s .vector .long), eq-eqb _ _ (good-sized b (h .good)), rate, pair-in-range b c i key h, h .good, h .there, h .ready, not-zero-for c v (s .some))
+      rw (closed-read, eq-eqb _ _ (s .vector .long), eq-eqb _ _ (good-sized b (h .good)), sender-right rt low, pair-in-range b c i key h, h .good, h .there, h .ready, not-zero-for c v (s .some))
 
   said-by : (said : List Saying) → Each (λ x. Each (SaidKept (layout rt)) (x .slots)) said → Each (λ x. Each (SaidKept its) (x .slots)) said
   said-by said a = rw (layout-is rt) at a
@@ -215,6 +225,11 @@ module _ (b : List ℕ) (c i : ℕ) (key : List ℕ) (h : HasKey b c i key) (lon
       let e = ap (λ (r : Answer × Call). r .1) (started-at v s) in
       rw e (sessions-follow v (starts-sound c v s) said (said-by said (a .each)) (a .full))
 
+  -- so with DES or AES each next vector is the generator's
+  pub ours-generated : (v : List ℕ) → StartVector c v → (said : List Saying) → AllSaid c rt said → scrambles c ≡ false
+      → Successive Generated (talkMade c key i rt v b said .sessions)
+  ours-generated v s said a e = follows-generated c e v (talkMade c key i rt v b said .sessions) (ours-follows v s said a)
+
   -- with DES or AES no vector is its own next, so a sender that uses one vector for every session is not ours
   pub one-vector-not-ours : (v : List ℕ) → StartVector c v → scrambles c ≡ false → (said : List Saying) → AllSaid c rt said
       → (x y : Session) (zs : List Session) → talkMade c key i rt v b said .sessions ≡ x ∷ y ∷ zs → x .vector ≡ y .vector → ⊥
@@ -228,6 +243,11 @@ module _ (b : List ℕ) (c i : ℕ) (key : List ℕ) (h : HasKey b c i key) (lon
   pub ours-to-ours : (v : List ℕ) → StartVector c v → (said : List Saying) → AllSaid c rt said
       → (b′ : List ℕ) (i′ : ℕ) → HasKey b′ c i′ key → (e : WayIn) → Each Right (talkLog ours b′ i′ (talkMade c key i rt v b said) e)
   ours-to-ours v s said a = ours-meets-3 (talkMade c key i rt v b said) (ours-keeps v s said a)
+
+  -- and to our receiver in the default way
+  pub ours-to-handset : (v : List ℕ) → StartVector c v → (said : List Saying) → AllSaid c rt said
+      → (b′ : List ℕ) (i′ : ℕ) → HasKey b′ c i′ key → (e : WayIn) → Each Right (defaultLog handset b′ i′ (talkMade c key i rt v b said) e)
+  ours-to-handset v s said a = handset-meets-3 (talkMade c key i rt v b said) (ours-keeps v s said a) (ours-generated v s said a)
 
   -- ---- whatever slots it was given, done or refused
 
@@ -244,7 +264,7 @@ module _ (b : List ℕ) (c i : ℕ) (key : List ℕ) (h : HasKey b c i key) (lon
         let sound = starts-sound c v s in
         let first : Sends t (from (sessionVector c v)) =
         record {
-          good = good-sender t 0 (has-key-right b c i key h) rate some (sessionVector c v) (sound .right);
+          good = good-sender t 0 (placed some) (sessionVector c v) (sound .right);
           sends = refl;
           terms = refl;
           vector = λ e d. sound .vector;

@@ -1,15 +1,17 @@
--- Demand 3 settles every answer: 0 to whatever a receiver is told, but 1 to a slot of a session that does not count as reached.
-use mathlib.Core.Path.{_≡_, refl, ap₂}
+-- Demand 3, in either way, settles every answer: 0 to whatever a receiver is told, but 1 to a slot that does not count as reached.
+use mathlib.Core.Path.{_≡_, refl, sym, ap, ap₂, _∙_}
 use mathlib.Core.List.{List, [], _∷_, map}
 use mathlib.Core.Bool.{Bool, true, false}
 use Prim.Native.Nat.{ℕ}
 use Rattle.octets.specs.Tests.{pick}
 use Rattle.octets.specs.Lists.{Each}
 use Rattle.answers.specs.Numbers.{numberOf}
-use Rattle.demands.specs.Talk.{Talk, WayIn, Kept, HasKey}
+use Rattle.sizes.specs.Ciphers.{scrambles}
+use Rattle.demands.specs.Talk.{Talk, WayIn}
 use Rattle.demands.specs.Notices.{Notice, hear, join, announce, lost, voice, noticesOf}
 use Rattle.demands.specs.Log.{Receiver, Report, Event, answered, arrived, event, events, talkLog}
-use Rattle.demands.specs.Demand3.{RightSlot, Right, Meets3}
+use Rattle.demands.specs.Demand3.{RightSlot, Right}
+use Rattle.demands.specs.Demand3Default.{sinceKnown, defaultNotices, defaultLog}
 
 abbrev number : Event → ℕ
 number (answered a) = numberOf a
@@ -44,6 +46,30 @@ module _ (R : Receiver) (b : List ℕ) (c i r : ℕ) where
   right-events s [] h = refl
   right-events s (n ∷ ns) h = ap₂ _∷_ (right-event n s (h .0)) (right-events (event R b c i r n s .1) ns (h .1))
 
-pub answers-settled : (R : Receiver) → Meets3 R → (t : Talk) → Kept t → (b : List ℕ) (i : ℕ) → HasKey b (t .cipher) i (t .key) → (e : WayIn)
-    → answers (talkLog R b i t e) ≡ map due (noticesOf t e)
-answers-settled R m t k b i h e = right-events R b (t .cipher) i (t .rate) (R .idle) (noticesOf t e) (m t k b i h e)
+-- of a log that is right
+module _ (R : Receiver) (b : List ℕ) (i : ℕ) (t : Talk) (e : WayIn) where
+  pub strict-settled : Each Right (talkLog R b i t e) → answers (talkLog R b i t e) ≡ map due (noticesOf t e)
+  strict-settled = right-events R b (t .cipher) i (t .rate) (R .idle) (noticesOf t e)
+
+  pub default-settled : Each Right (defaultLog R b i t e) → answers (defaultLog R b i t e) ≡ map due (defaultNotices t e)
+  default-settled = right-events R b (t .cipher) i (t .rate) (R .idle) (defaultNotices t e)
+
+-- ---- the two ways
+
+module _ (R : Receiver) (b : List ℕ) (c i r : ℕ) where
+  -- what is answered doesn't depend on what counts as reached
+  answers-since : (known : Bool) (s : R .State) (ns : List Notice) → answers (events R b c i r s (sinceKnown known ns)) ≡ answers (events R b c i r s ns)
+  answers-since known s [] = refl
+  answers-since known s (hear v ∷ ns) = ap (λ (rest : List ℕ). number (event R b c i r (hear v) s .0) ∷ rest) (answers-since true (event R b c i r (hear v) s .1) ns)
+  answers-since known s (join ∷ ns) = ap (λ (rest : List ℕ). number (event R b c i r join s .0) ∷ rest) (answers-since known (event R b c i r join s .1) ns)
+  answers-since known s (announce v ∷ ns) =
+      ap (λ (rest : List ℕ). number (event R b c i r (announce v) s .0) ∷ rest) (answers-since true (event R b c i r (announce v) s .1) ns)
+  answers-since known s (lost ∷ ns) = ap (λ (rest : List ℕ). number (event R b c i r lost s .0) ∷ rest) (answers-since known (event R b c i r lost s .1) ns)
+  answers-since known s (voice reached x ∷ ns) =
+      ap (λ (rest : List ℕ). number (event R b c i r (voice reached x) s .0) ∷ rest) (answers-since known (event R b c i r (voice reached x) s .1) ns)
+
+-- so a log is right in both ways only where the same slots count as reached
+pub both-settled : (R : Receiver) (b : List ℕ) (i : ℕ) (t : Talk) (e : WayIn) → Each Right (talkLog R b i t e) → Each Right (defaultLog R b i t e)
+    → map due (noticesOf t e) ≡ map due (defaultNotices t e)
+both-settled R b i t e s d =
+    sym (strict-settled R b i t e s) ∙ sym (answers-since R b (t .cipher) i (t .rate) (scrambles (t .cipher)) (R .idle) (noticesOf t e)) ∙ default-settled R b i t e d

@@ -17,15 +17,15 @@ use Rattle.sizes.specs.Ciphers.{keyOctets, sessionSlots, vectorOctets, noVector
 use Rattle.ciphers.specs.Keystream.{stream}
 use Rattle.keyentry.specs.Entry.{inRange}
 use Rattle.keybook.proofs.GoodLaws.{good-sized}
-use Rattle.sizes.specs.Frame.{isRate, width, frameOctets, slotBits}
+use Rattle.sizes.specs.Frame.{width, frameOctets, slotBits}
 use Rattle.voice.specs.declared.call.Terms.{Terms}
 use Rattle.voice.specs.declared.call.Call.{Call}
 use Rattle.voice.specs.Frame.{ofSlot, protect}
 use Rattle.openings.specs.Ladder.{sessionVector, keyFor, keyRefusals, zeroRefusals, vectorRefusals}
 use Rattle.ciphers.specs.Keys.{keyRight}
-use Rattle.voice.specs.Call.{goodCall, Known, unknown, told, isKnown, untold, Standing, closed, receiving, standing, termsOf, widthOf, noCall, written, isBad}
+use Rattle.voice.specs.Call.{receivingEnd, termsRight, goodCall, Known, told, isKnown, isTold, knownVector, untold, Standing, closed, receiving, standing, termsOf, widthOf, noCall, written, isBad}
 use Rattle.voice.specs.Opening.{superframeSlots, joinRefusals, begunRefusals, openOf, joined, joinOf}
-use Rattle.voice.specs.Slot.{slotOn, lostOf, topMask, streamOf, inSlot, voiceOf}
+use Rattle.voice.specs.Slot.{ridden, slotOn, lostOf, topMask, streamOf, inSlot, voiceOf}
 use Rattle.voice.specs.Vector.{announceRefusals, announceOf}
 use Rattle.voice.proofs.FrameLaws.{protect-same}
 use Rattle.openings.proofs.ReadyLaws.{key-in-range, key-right}
@@ -34,7 +34,6 @@ use Rattle.voice.proofs.GoodLaws.{closed-good, read-written, slot-stands, annou
 use Rattle.voice.proofs.OpeningGood.{open-good, join-good}
 use Rattle.voice.proofs.SlotSteps.{voice-at, lost-at}
 use Rattle.demands.specs.Talk.{HasKey}
-use Rattle.demands.specs.Notices.{isReached}
 
 -- ---- a book that has the key
 
@@ -70,27 +69,23 @@ session-stream key v n = by-range (λ c. stream c key (sessionVector c v) n ≡ 
 
 -- ---- where the receiver stands
 
--- what it knows of a session's vector, where the session counts as reached or doesn't
-abbrev pub knowing : ℕ → Bool → List ℕ → Known
-knowing c reached v = pick reached (told (sessionVector c v)) unknown
-
--- at the start of a session of which it was told nothing
-abbrev pub fresh : Terms → Standing
-fresh t = receiving t 0 (untold (t .cipher))
+-- as a session starts of which it was told nothing, after one of whose vector it knew k
+abbrev pub fresh : Terms → Known → Standing
+fresh t k = receiving t 0 (ridden t k)
 
 -- after p slots of a session of whose vector it knows k; after the last it is in the next one
 abbrev pub place : Terms → Known → ℕ → Standing
-place t k p = pick (ltb p (sessionSlots (t .cipher))) (receiving t p k) (fresh t)
+place t k p = pick (ltb p (sessionSlots (t .cipher))) (receiving t p k) (fresh t k)
 
--- joining stands where a receiver is after a superframe: scramble's session is over
-joined-at : (k v : List ℕ) (r c : ℕ) → (1 ≤ c) × (c ≤ 3) → joined (termsOf c k r) ≡ place (termsOf c k r) (knowing c (isReached c false) v) superframeSlots
-joined-at k v r = by-range (λ c. joined (termsOf c k r) ≡ place (termsOf c k r) (knowing c (isReached c false) v) superframeSlots) refl refl refl
+-- joining stands where a receiver is after a superframe of a session of which it was told nothing: scramble's is over
+joined-at : (k : List ℕ) (r m c : ℕ) → (1 ≤ c) × (c ≤ 3) → joined (termsOf c k r m) ≡ place (termsOf c k r m) (untold c) superframeSlots
+joined-at k r m = by-range (λ c. joined (termsOf c k r m) ≡ place (termsOf c k r m) (untold c) superframeSlots) refl refl refl
 
 module _ (t : Terms) (k : Known) where
   pub place-in : (p : ℕ) → p < sessionSlots (t .cipher) → place t k p ≡ receiving t p k
   place-in p l = rw (lt-ltb _ _ l)
 
-  pub place-end : (p : ℕ) → p ≡ sessionSlots (t .cipher) → place t k p ≡ fresh t
+  pub place-end : (p : ℕ) → p ≡ sessionSlots (t .cipher) → place t k p ≡ fresh t k
   place-end p l = rw (le-ltb p (sessionSlots (t .cipher)) (omega arith))
 
   -- ---- a slot
@@ -110,17 +105,20 @@ module _ (t : Terms) (k : Known) where
     unfolding slotOn
     place-on = slot-stands s (e ∙ place-in p l)
 
-module _ (b : List ℕ) (c i : ℕ) (key : List ℕ) (h : HasKey b c i key) (r : ℕ) (rate : isRate r ≡ true) where
+module _ (b : List ℕ) (c i : ℕ) (key : List ℕ) (h : HasKey b c i key) (r m : ℕ) (right : termsRight receivingEnd r m ≡ true) where
   abbrev t : Terms
-  t = termsOf c (keyFor b c i) r
+  t = termsOf c (keyFor b c i) r m
 
   -- a slot is turned by the sender's key and vector
   module _ (long : length key ≡ keyOctets c) where
-    pub same-slot : (v : List ℕ) (p mask : ℕ) (frame : List ℕ)
-        → inSlot streamOf mask frame (written (receiving t p (told (sessionVector c v)))) ≡ protect (width r) (ofSlot (width r) (stream c key v) p) mask frame
-    same-slot v p mask frame =
-        protect-same (width r) (ofSlot (width r) (stream c (keyFor b c i) (sessionVector c v)) p) (ofSlot (width r) (stream c key v) p) mask
-        (λ n l. session-stream (keyFor b c i) v (slotBits (width r) * p + n) c (key-ranged b c i key h) ∙ same-stream b c i key h long v (slotBits (width r) * p + n)) frame
+    pub same-slot : (k : Known) (v : List ℕ) → knownVector k ≡ sessionVector c v → (p mask : ℕ) (frame : List ℕ)
+        → inSlot streamOf mask frame (written (receiving t p k)) ≡ protect (width r) (ofSlot (width r) (stream c key v) p) mask frame
+    same-slot k v e p mask frame =
+        protect-same (width r) (ofSlot (width r) (stream c (keyFor b c i) (knownVector k)) p) (ofSlot (width r) (stream c key v) p) mask
+        (λ n l.
+        ap (λ (w : List ℕ). stream c (keyFor b c i) w (slotBits (width r) * p + n)) e
+        ∙ session-stream (keyFor b c i) v (slotBits (width r) * p + n) c (key-ranged b c i key h)
+        ∙ same-stream b c i key h long v (slotBits (width r) * p + n)) frame
 
   -- ---- how it comes in, and what it is told
 
@@ -131,37 +129,33 @@ module _ (b : List ℕ) (c i : ℕ) (key : List ℕ) (h : HasKey b c i key) (r :
   stood : {o : Answer × Call} {s u : Standing} → o ≡ (Done, written s) → goodCall (o .1) ≡ true → isBad s ≡ false → s ≡ u → standing (written s) ≡ u
   stood e g n q = read-written _ n (sym (ap (λ (o : Answer × Call). goodCall (o .1)) e) ∙ g) ∙ q
 
-  pub place-opened : (v : List ℕ) → length v ≡ vectorOctets → openOf noCall c i r v b ≡ (Done, written (receiving t 0 (told (sessionVector c v))))
+  pub place-opened : (v : List ℕ) → length v ≡ vectorOctets → openOf noCall c i r m v b ≡ (Done, written (receiving t 0 (told (sessionVector c v))))
   unfolding openOf begunRefusals vectorRefusals keyRefusals zeroRefusals
   place-opened v l =
-      rw (closed-read, eq-eqb _ _ l, eq-eqb _ _ (good-sized b (h .good)), rate, pair-in-range b c i key h, h .good, h .there, h .ready)
+      rw (closed-read, eq-eqb _ _ l, eq-eqb _ _ (good-sized b (h .good)), right, pair-in-range b c i key h, h .good, h .there, h .ready)
 
-  pub opened-stands : (v : List ℕ) → length v ≡ vectorOctets → standing (written (receiving t 0 (told (sessionVector c v)))) ≡ place t (knowing c true v) 0
+  pub opened-stands : (v : List ℕ) → length v ≡ vectorOctets → standing (written (receiving t 0 (told (sessionVector c v)))) ≡ place t (told (sessionVector c v)) 0
   opened-stands v l =
-      stood (place-opened v l) (open-good noCall closed-good c i r b v) refl (sym (place-in t (knowing c true v) 0 some))
+      stood (place-opened v l) (open-good noCall closed-good c i r b m v) refl (sym (place-in t (told (sessionVector c v)) 0 some))
 
-  pub place-joined : joinOf noCall c i r b ≡ (Done, written (joined t))
+  pub place-joined : joinOf noCall c i r m b ≡ (Done, written (joined t))
   unfolding joinOf joinRefusals keyRefusals
-  place-joined = rw (closed-read, eq-eqb _ _ (good-sized b (h .good)), rate, pair-in-range b c i key h, h .good, h .there, h .ready)
+  place-joined = rw (closed-read, eq-eqb _ _ (good-sized b (h .good)), right, pair-in-range b c i key h, h .good, h .there, h .ready)
 
-  pub joined-stands : (v : List ℕ) → standing (written (joined t)) ≡ place t (knowing c (isReached c false) v) superframeSlots
-  joined-stands v = stood place-joined (join-good noCall closed-good c i r b) refl (joined-at (keyFor b c i) v r c (key-ranged b c i key h))
+  pub joined-stands : standing (written (joined t)) ≡ place t (untold c) superframeSlots
+  joined-stands = stood place-joined (join-good noCall closed-good c i r b m) refl (joined-at (keyFor b c i) r m c (key-ranged b c i key h))
 
-  module _ (s : Call) (e : standing s ≡ fresh t) (v : List ℕ) where
-    -- as a session starts: told of its vector
-    pub place-announced : length v ≡ vectorOctets → scrambles c ≡ false → announceOf s v ≡ (Done, written (receiving t 0 (told v)))
-    unfolding announceOf announceRefusals
-    place-announced l n = rw (e, eq-eqb _ _ l, n)
+  -- as a session starts
+  module _ (s : Call) (k : Known) (e : standing s ≡ receiving t 0 k) where
+    -- told of its vector
+    module _ (v : List ℕ) (l : length v ≡ vectorOctets) (n : scrambles c ≡ false) (u : isTold k ≡ false) where
+      pub place-announced : announceOf s v ≡ (Done, written (receiving t 0 (told v)))
+      unfolding announceOf announceRefusals
+      place-announced = rw (e, eq-eqb _ _ l, n, u)
 
-    pub announced-stands : length v ≡ vectorOctets → scrambles c ≡ false → standing (written (receiving t 0 (told v))) ≡ place t (knowing c true v) 0
-    announced-stands l n =
-        stood (place-announced l n) (announce-good s (good-by s (ap isBad e)) v) refl
-        (ap (λ (u : Bool). receiving t 0 (told (pick u noVector v))) (sym n) ∙ sym (place-in t (knowing c true v) 0 some))
+      pub announced-stands : standing (written (receiving t 0 (told v))) ≡ place t (told v) 0
+      announced-stands = stood place-announced (announce-good s (good-by s (ap isBad e)) v) refl (sym (place-in t (told v) 0 some))
 
-    -- or not; scramble needs none
-    pub place-untold : (u : Bool) → scrambles c ≡ u → standing s ≡ place t (knowing c u v) 0
-    place-untold u n = e ∙ ap (receiving t 0) (same u n) ∙ sym (place-in t (knowing c u v) 0 some)
-      where
-        same : (u : Bool) → scrambles c ≡ u → untold c ≡ knowing c u v
-        same true n = rw n
-        same false n = rw n
+    -- or not
+    pub place-untold : standing s ≡ place t k 0
+    place-untold = e ∙ sym (place-in t k 0 some)

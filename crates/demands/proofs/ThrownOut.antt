@@ -1,6 +1,8 @@
--- Receivers that do not meet demand 3, already by the calls of any one cipher at any one rate; and senders that do not keep its rules.
+-- Receivers that do not meet demand 3, already by the calls of any one cipher at any one rate, nor, where they open no slot right, the demand in the default
+-- way; and senders that do not keep its rules.
 use mathlib.Core.Path.{_≡_, refl, sym, ap, subst, _∙_}
 use mathlib.Core.Bool.{Bool, true, false, _&&_, _||_, not, or-true}
+use mathlib.Core.Logic.{inl, inr}
 use mathlib.Core.List.{List, [], _∷_, _++_}
 use Prim.Native.Nat.{ℕ, zero, suc, _+_, _*_, _≤_, _<_}
 use native.Mathlib.Nat.{mul-zero}
@@ -20,11 +22,11 @@ use Rattle.ciphers.proofs.KeystreamLaws.{bits-stream}
 use Rattle.answers.specs.declared.Answer.{Answer}
 use Rattle.answers.specs.declared.Answer.the-variants.{Done}
 use Rattle.answers.specs.Numbers.{numberOf}
-use Rattle.openings.specs.Ladder.{keyFor}
+use Rattle.openings.specs.Ladder.{sessionVector, keyFor}
 use Rattle.voice.specs.declared.call.Terms.{Terms}
 use Rattle.voice.specs.declared.call.Call.{Call}
 use Rattle.voice.specs.Frame.{inMask, ofSlot, wordTurned, protect}
-use Rattle.voice.specs.Call.{Standing, standing, termsOf, noCall}
+use Rattle.voice.specs.Call.{receivingEnd, strict, termsRight, Known, told, Standing, standing, termsOf, noCall}
 use Rattle.voice.specs.Opening.{openOf}
 use Rattle.voice.specs.Slot.{lostOf, voiceOf}
 use Rattle.voice.proofs.FrameLaws.{protect-frame}
@@ -34,11 +36,11 @@ use Rattle.demands.specs.Rates.{Layout, layout, FrameAt, wordAt}
 use Rattle.demands.specs.Talk.{Slot, Session, Talk, opening, joining, SlotKept, SessionKept, Full, slotCounts, Kept}
 use Rattle.demands.specs.Notices.{Notice, isReached, slotNotices, startNotices, sessionNotices}
 use Rattle.demands.specs.Log.{Receiver, events}
-use Rattle.demands.specs.Demand3.{Right, Meets3}
-use Rattle.demands.specs.Others.{SameSpeech, MeetsIn, Handing, upTo, upToSlots, upToSession, fourOn, atOnce, Sending, turning, identity, restarting, saving}
-use Rattle.demands.proofs.Layouts.{layout-is, layout-some, rate-is}
+use Rattle.demands.specs.Demand3.{RightSlot, Right, Meets3}
+use Rattle.demands.specs.Others.{SameSpeech, MeetsIn, MeetsEither, Handing, upTo, upToSlots, upToSession, fourOn, atOnce, Sending, turning, identity, restarting, saving}
+use Rattle.demands.proofs.Layouts.{layout-is, layout-some, rate-is, ways-right}
 use Rattle.demands.proofs.AirLaws.{word-bits}
-use Rattle.demands.proofs.Standing.{slots-some, eight-slots, knowing, place, place-lost, place-voice, place-on, place-opened, opened-stands}
+use Rattle.demands.proofs.Standing.{slots-some, eight-slots, place, place-lost, place-voice, place-on, place-opened, opened-stands}
 use Rattle.demands.proofs.Samples.{silence, silence-frame, silent-long, loud, loud-frame, first-bits, saying, quiet, saying-kept, quiet-kept, quiet-long, seed-vector}
 use Rattle.demands.proofs.SampleKeys.{keyOf, bookOfThree, has-key, key-long}
 use Rattle.demands.proofs.Ones.{all-words, unturned, first-some}
@@ -49,7 +51,7 @@ meets-in c r R m t e f = m t
 abbrev SameWords : Layout → ℕ → List ℕ → List ℕ → Type 0
 SameWords l mask f g = (w : ℕ) → w < 4 → inMask mask w ≡ true → wordAt l w f ≡ wordAt l w g
 
-word-speech : (rt mask : ℕ) (f g : List ℕ) → SameWords (layout rt) mask f g → SameSpeech (layout rt) mask f g
+pub word-speech : (rt mask : ℕ) (f g : List ℕ) → SameWords (layout rt) mask f g → SameSpeech (layout rt) mask f g
 word-speech rt mask f g =
     subst (λ (l : Layout). SameWords l mask f g → SameSpeech l mask f g) (sym (layout-is rt))
     (λ h w j lw lj e. word-bits (width rt) w f g (h w lw e) j (omega arith))
@@ -85,25 +87,36 @@ module _ (c : ℕ) (r : (1 ≤ c) × (c ≤ 3)) (rt : ℕ) (lt : rt ≤ 1) where
     abbrev begun : R .State
     begun = R .hear c 0 rt seed bookOfThree (R .idle) .1
 
-    one-slot : MeetsIn c rt R → (frame : List ℕ) → FrameAt (layout rt) frame
-        → (numberOf (R .voice 15 (came frame) begun .0) ≡ 0) × SameSpeech (layout rt) 15 (R .voice 15 (came frame) begun .1 .1) frame
-    one-slot m frame f =
-        let kept : Kept (one frame) = record {
-          rate = lt;
-          key = key-long c r;
-          each = (record { vector = refl; slots = (saying-kept rt frame f under 0 true, tt) }, tt);
-          full = omega (arith, slots-some c r);
-        } in
-        let h = m (one frame) refl refl kept bookOfThree 0 (has-key c r) opening .1 .0 in
-        let z = h .handed (or-true (scrambles c)) in
-        (z, word-speech rt 15 (R .voice 15 (came frame) begun .1 .1) frame (h .opened z))
+    -- by either demand its slot is opened
+    abbrev Opened : List ℕ → Type 0
+    Opened frame = (numberOf (R .voice 15 (came frame) begun .0) ≡ 0) × SameSpeech (layout rt) 15 (R .voice 15 (came frame) begun .1 .1) frame
+
+    one-slot : MeetsEither c rt R → (frame : List ℕ) → FrameAt (layout rt) frame → Opened frame
+    one-slot m frame f = go m
+      where
+        kept : Kept (one frame)
+        kept =
+            record {
+              rate = lt;
+              key = key-long c r;
+              each = (record { vector = refl; slots = (saying-kept rt frame f under 0 true, tt) }, tt);
+              full = omega (arith, slots-some c r);
+            }
+
+        right : {reached : Bool} → reached ≡ true → RightSlot (record { rate = rt; reached = reached; mask = 15; spoken = frame; came = came frame; answer = R .voice 15 (came frame) begun .0; frame = R .voice 15 (came frame) begun .1 .1 })
+            → Opened frame
+        right e h = let z = h .handed e in (z, word-speech rt 15 (R .voice 15 (came frame) begun .1 .1) frame (h .opened z))
+
+        go : MeetsEither c rt R → Opened frame
+        go (inl m) = right (or-true (scrambles c)) (m (one frame) refl refl kept bookOfThree 0 (has-key c r) opening .1 .0)
+        go (inr m) = right refl (m (one frame) refl refl kept (λ z. tt) bookOfThree 0 (has-key c r) opening .1 .0)
 
     -- it opens no slot: it refuses all, or holds all
-    pub never-opens-fails : ((mask : ℕ) (frame : List ℕ) (s : R .State) → 1 ≤ numberOf (R .voice mask frame s .0)) → MeetsIn c rt R → ⊥
+    pub never-opens-fails : ((mask : ℕ) (frame : List ℕ) (s : R .State) → 1 ≤ numberOf (R .voice mask frame s .0)) → MeetsEither c rt R → ⊥
     never-opens-fails h m = omega (arith, one-slot m (silence rt) (silence-frame rt) .0, h 15 (came (silence rt)) begun)
 
     -- its answer 0 comes with one frame's speech, whatever came
-    pub fixed-fails : (g : List ℕ) → Handing rt R (λ frame. g) → MeetsIn c rt R → ⊥
+    pub fixed-fails : (g : List ℕ) → Handing rt R (λ frame. g) → MeetsEither c rt R → ⊥
     fixed-fails g h m =
         let a = one-slot m (silence rt) (silence-frame rt) in
         let b = one-slot m (loud rt) (loud-frame rt) in
@@ -115,7 +128,7 @@ module _ (c : ℕ) (r : (1 ≤ c) × (c ≤ 3)) (rt : ℕ) (lt : rt ≤ 1) where
         omega arith
 
     -- or with speech as it came
-    pub leaves-fails : Handing rt R (λ frame. frame) → MeetsIn c rt R → ⊥
+    pub leaves-fails : Handing rt R (λ frame. frame) → MeetsEither c rt R → ⊥
     leaves-fails h m =
         let a = one-slot m (silence rt) (silence-frame rt) in
         not-silent (λ w j lw lj e. sym (h 15 (came (silence rt)) begun (a .0) w j lw lj e) ∙ a .1 w j lw lj e)
@@ -212,29 +225,35 @@ module _ (c : ℕ) (r : (1 ≤ c) × (c ≤ 3)) (n : scrambles c ≡ false) (rt 
       record { rate = lt; key = key-long c r; each = (half-kept seed refl, (half-kept w k, tt)); full = (sym (eight-slots c r n), omega (arith, eight-slots c r n)) }
 
   abbrev t : Terms
-  t = termsOf c (keyFor bookOfThree c 0) rt
+  t = termsOf c (keyFor bookOfThree c 0) rt strict
+
+  abbrev known : Known
+  known = told (sessionVector c w)
+
+  right : termsRight receivingEnd rt strict ≡ true
+  right = ways-right rt strict lt (omega arith)
 
   abbrev at : ℕ → Standing
-  at = place t (knowing c true w)
+  at = place t known
 
   lost-once : (p : ℕ) → p < 8 → (s : Call) → standing s ≡ at p → standing (lostOf s .1) ≡ at (p + 1)
   lost-once p l s e =
       let l′ : p < sessionSlots c = omega (arith, eight-slots c r n) in
-      ap (λ (o : Answer × Call). standing (o .1)) (place-lost t (knowing c true w) p l′ s e) ∙ place-on t (knowing c true w) p l′ s e
+      ap (λ (o : Answer × Call). standing (o .1)) (place-lost t known p l′ s e) ∙ place-on t known p l′ s e
 
-  four-on : standing (fourOn (openOf noCall c 0 rt w bookOfThree .1)) ≡ at 4
+  four-on : standing (fourOn (openOf noCall c 0 rt strict w bookOfThree .1)) ≡ at 4
   four-on =
       lost-once 3 (omega arith) _
       (lost-once 2 (omega arith) _
       (lost-once 1 (omega arith) _
       (lost-once 0 (omega arith) _
-      (ap (λ (o : Answer × Call). standing (o .1)) (place-opened bookOfThree c 0 (keyOf c) (has-key c r) rt (rate-is rt lt) w k)
-      ∙ opened-stands bookOfThree c 0 (keyOf c) (has-key c r) rt (rate-is rt lt) w k))))
+      (ap (λ (o : Answer × Call). standing (o .1)) (place-opened bookOfThree c 0 (keyOf c) (has-key c r) rt strict right w k)
+      ∙ opened-stands bookOfThree c 0 (keyOf c) (has-key c r) rt strict right w k))))
 
   opens : (s : Call) → standing s ≡ at 4 → (frame : List ℕ) → length frame ≡ frameOctets (width rt) → voiceOf s 15 frame .0 ≡ Done
   opens s e frame l =
       ap (λ (o : Answer × (Call × List ℕ)). o .0)
-      (place-voice t (knowing c true w) 4 (omega (arith, eight-slots c r n)) s e 15 frame (omega arith) l)
+      (place-voice t known 4 (omega (arith, eight-slots c r n)) s e 15 frame (omega arith) l)
 
   -- it hands out the rest of the session that it joined, which counts as not reached
   pub atOnce-fails : MeetsIn c rt (atOnce w) → ⊥

@@ -1,5 +1,5 @@
 -- What demand 1 throws out: every key but one, histories in which no finish was done (version one began while the key loader was still sending),
--- keys that were erased before the opening, and a call whose rate changes.
+-- keys that were erased before the opening, and a call whose rate or strictness changes.
 use mathlib.Core.Path.{_≡_, refl, sym, ap, subst, _∙_}
 use mathlib.Core.Bool.{Bool, true, false, _&&_, true≢false}
 use mathlib.Core.List.{List, [], _∷_, _++_}
@@ -11,6 +11,7 @@ use Rattle.octets.specs.Lists.{Each}
 use Rattle.answers.specs.declared.Answer.{Answer}
 use Rattle.answers.specs.declared.Answer.the-variants.{Done, NotReady}
 use Rattle.answers.specs.Numbers.{numberOf, isDone}
+use Rattle.voice.specs.Call.{byDefault}
 use Rattle.keybook.specs.History as book
 use Rattle.keybook.proofs.HistoryLaws.{one-told}
 use Rattle.demands.specs.Device.{CallOperation, Open, Start, Join, Voice, Lost, End, Announce, NextVector, PacketOperation, OpenPacket, Message, LostMessage, EndPacket, Operation, OfBook, OfCall, OfPacket, Step, History, deviceAfter, history, keyOperations}
@@ -61,7 +62,7 @@ after : (renews : Operation → Bool) (since before : History) → NoneDone rene
 after renews [] before n = n
 after renews (x ∷ since) before n = after renews since before (n .1)
 
-pub unfinished-loads-none : (opens : ℕ → ℕ → ℕ → Operation → Type 0) (renews : Operation → Bool) (h : History) (f c : ℕ) (k : List ℕ) → NoneDone finishing h
+pub unfinished-loads-none : {F : Type 0} (opens : F → ℕ → ℕ → Operation → Type 0) (renews : Operation → Bool) (h : History) (f : F) (c : ℕ) (k : List ℕ) → NoneDone finishing h
     → Loaded opens renews h f c k → ⊥
 unfinished-loads-none opens renews h f c k n l =
     let m : NoneDone finishing (l .since ++ ((l .opening, Done) ∷ l .before)) = rw (l .is-history) at n in
@@ -72,7 +73,7 @@ module _ (st : Step) (os : List Operation) (none : NoneDone finishing (history s
   pub no-word : (mask : ℕ) (frame : List ℕ) → numberOf (st (deviceAfter st os) (OfCall n (Voice mask frame)) .0) ≡ 0 → ⊥
   no-word mask frame z =
       let t = meets .words os n mask frame z in
-      unfinished-loads-none (OpensCall n) (renewsCall n) (history st os) (deviceAfter st os .calls n .terms .rate) (deviceAfter st os .calls n .terms .cipher) (deviceAfter st os .calls n .terms .key) none (t .loaded)
+      unfinished-loads-none (OpensCall n) (renewsCall n) (history st os) (deviceAfter st os .calls n .terms .rate, deviceAfter st os .calls n .terms .strictness) (deviceAfter st os .calls n .terms .cipher) (deviceAfter st os .calls n .terms .key) none (t .loaded)
 
   pub no-message : (message : List ℕ) → numberOf (st (deviceAfter st os) (OfPacket n (Message message)) .0) ≡ 0 → ⊥
   no-message message z =
@@ -84,19 +85,20 @@ module _ (st : Step) (os : List Operation) (none : NoneDone finishing (history s
 abbrev pub tooEarly : ℕ → ℕ → List ℕ → Operation → History
 tooEarly c i half o = (o, Done) ∷ (OfBook (book.Finish c i), NotReady) ∷ (OfBook (book.Add c i half), Done) ∷ (OfBook (book.Begin c i), Done) ∷ []
 
-module _ (n f c i e d : ℕ) (half k : List ℕ) where
-  pub version-one : (o : Operation) → OpensCall n f c i o → Loaded (OpensCall n) (renewsCall n) (tooEarly c i half o) e d k → ⊥
-  version-one _ (by-open w) = unfinished-loads-none (OpensCall n) (renewsCall n) _ e d k (refl, (refl, (refl, (refl, tt))))
-  version-one _ (by-start w) = unfinished-loads-none (OpensCall n) (renewsCall n) _ e d k (refl, (refl, (refl, (refl, tt))))
-  version-one _ by-join = unfinished-loads-none (OpensCall n) (renewsCall n) _ e d k (refl, (refl, (refl, (refl, tt))))
+module _ (n c i d : ℕ) (half k : List ℕ) where
+  pub version-one : (f e : ℕ × ℕ) (o : Operation) → OpensCall n f c i o → Loaded (OpensCall n) (renewsCall n) (tooEarly c i half o) e d k → ⊥
+  version-one f e _ (by-open w) = unfinished-loads-none (OpensCall n) (renewsCall n) _ e d k (refl, (refl, (refl, (refl, tt))))
+  version-one f e _ (by-start w z) = unfinished-loads-none (OpensCall n) (renewsCall n) _ e d k (refl, (refl, (refl, (refl, tt))))
+  version-one f e _ by-join = unfinished-loads-none (OpensCall n) (renewsCall n) _ e d k (refl, (refl, (refl, (refl, tt))))
 
-  pub version-one-packet : (o : Operation) → OpensPacket n f c i o → Loaded (OpensPacket n) (renewsPacket n) (tooEarly c i half o) e d k → ⊥
-  version-one-packet _ (by-opening end w) = unfinished-loads-none (OpensPacket n) (renewsPacket n) _ e d k (refl, (refl, (refl, (refl, tt))))
+  pub version-one-packet : (f e : ℕ) (o : Operation) → OpensPacket n f c i o → Loaded (OpensPacket n) (renewsPacket n) (tooEarly c i half o) e d k → ⊥
+  version-one-packet f e _ (by-opening end w) = unfinished-loads-none (OpensPacket n) (renewsPacket n) _ e d k (refl, (refl, (refl, (refl, tt))))
 
 -- ---- one opening stands, and so one key is loaded
 
-module _ (opens : ℕ → ℕ → ℕ → Operation → Type 0) (renews : Operation → Bool) (names : Operation → ℕ × ℕ × ℕ)
-    (renewing : (f c i : ℕ) (o : Operation) → opens f c i o → renews o ≡ true) (naming : (f c i : ℕ) (o : Operation) → opens f c i o → (f, c, i) ≡ names o) where
+module _ {F : Type 0} (opens : F → ℕ → ℕ → Operation → Type 0) (renews : Operation → Bool) (names : Operation → F × ℕ × ℕ)
+    (renewing : (f : F) (c i : ℕ) (o : Operation) → opens f c i o → renews o ≡ true)
+    (naming : (f : F) (c i : ℕ) (o : Operation) → opens f c i o → (f, c, i) ≡ names o) where
   -- what is done and renews is not among what came since
   not-since : (x : Operation × Answer) (o : Operation) → renews o ≡ true → (o, Done) ≡ x → (isDone (x .1) && renews (x .0)) ≡ false → ⊥
   not-since x o r q e = true≢false (sym r ∙ (rw (← q) at e))
@@ -111,7 +113,7 @@ module _ (opens : ℕ → ℕ → ℕ → Operation → Type 0) (renews : Operat
   one-opening (x ∷ since) (y ∷ since′) before before′ o o′ r r′ n n′ e = one-opening since since′ before before′ o o′ r r′ (n .1) (n′ .1) (cc)
 
   -- the key is the one that was told of when the opening that stands was done
-  module _ (h : History) (f c : ℕ) (k : List ℕ) (l : Loaded opens renews h f c k) where
+  module _ (h : History) (f : F) (c : ℕ) (k : List ℕ) (l : Loaded opens renews h f c k) where
     told-at : (since before : History) (o : Operation) → renews o ≡ true → NoneDone renews since → h ≡ since ++ ((o, Done) ∷ before)
         → (f ≡ names o .0) × (c ≡ names o .1) × book.Told (keyOperations before) (names o .1) (names o .2) k
     told-at since before o r n e =
@@ -119,9 +121,9 @@ module _ (opens : ℕ → ℕ → ℕ → Operation → Type 0) (renews : Operat
         (sym (l .is-history) ∙ e) in
         let m : (f, c, l .id) ≡ names o = naming f c (l .id) (l .opening) (l .opens-it) ∙ ap names (q .0) in
         let t : book.Told (keyOperations before) c (l .id) k = rw (q .1) at (l .told) in
-        (ap (λ (p : ℕ × ℕ × ℕ). p .0) m, ap (λ (p : ℕ × ℕ × ℕ). p .1) m, subst (λ (p : ℕ × ℕ × ℕ). book.Told (keyOperations before) (p .1) (p .2) k) m t)
+        (ap (λ (p : F × ℕ × ℕ). p .0) m, ap (λ (p : F × ℕ × ℕ). p .1) m, subst (λ (p : F × ℕ × ℕ). book.Told (keyOperations before) (p .1) (p .2) k) m t)
 
-  one-key : (h : History) (f f′ c c′ : ℕ) (k k′ : List ℕ) → Loaded opens renews h f c k → Loaded opens renews h f′ c′ k′ → (f ≡ f′) × (c ≡ c′) × (k ≡ k′)
+  one-key : (h : History) (f f′ : F) (c c′ : ℕ) (k k′ : List ℕ) → Loaded opens renews h f c k → Loaded opens renews h f′ c′ k′ → (f ≡ f′) × (c ≡ c′) × (k ≡ k′)
   one-key h f f′ c c′ k k′ l l′ =
       let r = renewing f′ c′ (l′ .id) (l′ .opening) (l′ .opens-it) in
       let a = told-at h f c k l (l′ .since) (l′ .before) (l′ .opening) r (l′ .still-stands) (l′ .is-history) in
@@ -129,24 +131,29 @@ module _ (opens : ℕ → ℕ → ℕ → Operation → Type 0) (renews : Operat
       (a .0 ∙ sym (b .0), a .1 ∙ sym (b .1), one-told (a .2) (b .2))
 
   -- an opening right after its key was erased, whatever came before
-  erased-loads-none : (f c i e d : ℕ) (k : List ℕ) (o : Operation) (h : History) → opens f c i o
+  erased-loads-none : (f : F) (c i : ℕ) (e : F) (d : ℕ) (k : List ℕ) (o : Operation) (h : History) → opens f c i o
       → Loaded opens renews ((o, Done) ∷ (OfBook (book.Erase c i), Done) ∷ h) e d k → ⊥
   unfolding keyOperations book.telling
   erased-loads-none f c i e d k o h p l =
       let t = told-at _ e d k l [] ((OfBook (book.Erase c i), Done) ∷ h) o (renewing f c i o p) tt refl .2 in
-      let u = subst (λ (q : ℕ × ℕ × ℕ). book.Told (keyOperations ((OfBook (book.Erase c i), Done) ∷ h)) (q .1) (q .2) k) (sym (naming f c i o p)) t in
+      let u = subst (λ (q : F × ℕ × ℕ). book.Told (keyOperations ((OfBook (book.Erase c i), Done) ∷ h)) (q .1) (q .2) k) (sym (naming f c i o p)) t in
       true≢false (ap isFinished (sym (u .is-finished)) ∙ rw (eq-eqb c c refl, eq-eqb i i refl))
 
--- the rate or kind, the cipher and the key ID that an opening names
-abbrev callNames : CallOperation → ℕ × ℕ × ℕ
-callNames (Open c i r w) = (r, c, i)
-callNames (Start c i r w) = (r, c, i)
-callNames (Join c i r) = (r, c, i)
-callNames (Voice mask frame) = (0, 0, 0)
-callNames Lost = (0, 0, 0)
-callNames End = (0, 0, 0)
-callNames (Announce w) = (0, 0, 0)
-callNames (NextVector out) = (0, 0, 0)
+-- what an opening fixes, the cipher and the key ID that it names
+abbrev callNames : CallOperation → (ℕ × ℕ) × ℕ × ℕ
+callNames (Open c i r s w) = ((r, s), c, i)
+callNames (Start c i r w) = ((r, byDefault), c, i)
+callNames (Join c i r s) = ((r, s), c, i)
+callNames (Voice mask frame) = ((0, 0), 0, 0)
+callNames Lost = ((0, 0), 0, 0)
+callNames End = ((0, 0), 0, 0)
+callNames (Announce w) = ((0, 0), 0, 0)
+callNames (NextVector out) = ((0, 0), 0, 0)
+
+abbrev ofCall : Operation → (ℕ × ℕ) × ℕ × ℕ
+ofCall (OfBook o) = ((0, 0), 0, 0)
+ofCall (OfCall n o) = callNames o
+ofCall (OfPacket n o) = ((0, 0), 0, 0)
 
 abbrev packetNames : PacketOperation → ℕ × ℕ × ℕ
 packetNames (OpenPacket end kind c i w) = (kind, c, i)
@@ -154,52 +161,52 @@ packetNames (Message octets) = (0, 0, 0)
 packetNames LostMessage = (0, 0, 0)
 packetNames EndPacket = (0, 0, 0)
 
-abbrev openingNames : Operation → ℕ × ℕ × ℕ
-openingNames (OfBook o) = (0, 0, 0)
-openingNames (OfCall n o) = callNames o
-openingNames (OfPacket n o) = packetNames o
+abbrev ofPacket : Operation → ℕ × ℕ × ℕ
+ofPacket (OfBook o) = (0, 0, 0)
+ofPacket (OfCall n o) = (0, 0, 0)
+ofPacket (OfPacket n o) = packetNames o
 
 module _ (n : ℕ) where
   own : eqb n n ≡ true
   own = eq-eqb n n refl
 
-  call-renews : (f c i : ℕ) (o : Operation) → OpensCall n f c i o → renewsCall n o ≡ true
+  call-renews : (f : ℕ × ℕ) (c i : ℕ) (o : Operation) → OpensCall n f c i o → renewsCall n o ≡ true
   call-renews f c i _ (by-open w) = rw own
-  call-renews f c i _ (by-start w) = rw own
+  call-renews f c i _ (by-start w z) = rw own
   call-renews f c i _ by-join = rw own
 
-  call-names : (f c i : ℕ) (o : Operation) → OpensCall n f c i o → (f, c, i) ≡ openingNames o
+  call-names : (f : ℕ × ℕ) (c i : ℕ) (o : Operation) → OpensCall n f c i o → (f, c, i) ≡ ofCall o
   call-names f c i _ (by-open w) = refl
-  call-names f c i _ (by-start w) = refl
+  call-names f c i _ (by-start w z) = ap (λ (s : ℕ). ((f .0, s), c, i)) z
   call-names f c i _ by-join = refl
 
   packet-renews : (f c i : ℕ) (o : Operation) → OpensPacket n f c i o → renewsPacket n o ≡ true
   packet-renews f c i _ (by-opening end w) = rw own
 
-  packet-names : (f c i : ℕ) (o : Operation) → OpensPacket n f c i o → (f, c, i) ≡ openingNames o
+  packet-names : (f c i : ℕ) (o : Operation) → OpensPacket n f c i o → (f, c, i) ≡ ofPacket o
   packet-names f c i _ (by-opening end w) = refl
 
-  pub one-key-call : (h : History) (r r′ c c′ : ℕ) (k k′ : List ℕ) → Loaded (OpensCall n) (renewsCall n) h r c k → Loaded (OpensCall n) (renewsCall n) h r′ c′ k′
-      → (r ≡ r′) × (c ≡ c′) × (k ≡ k′)
-  one-key-call = one-key (OpensCall n) (renewsCall n) openingNames call-renews call-names
+  pub one-key-call : (h : History) (f f′ : ℕ × ℕ) (c c′ : ℕ) (k k′ : List ℕ) → Loaded (OpensCall n) (renewsCall n) h f c k
+      → Loaded (OpensCall n) (renewsCall n) h f′ c′ k′ → (f ≡ f′) × (c ≡ c′) × (k ≡ k′)
+  one-key-call = one-key (OpensCall n) (renewsCall n) ofCall call-renews call-names
 
   pub one-key-packet : (h : History) (kind kind′ c c′ : ℕ) (k k′ : List ℕ) → Loaded (OpensPacket n) (renewsPacket n) h kind c k
       → Loaded (OpensPacket n) (renewsPacket n) h kind′ c′ k′ → (kind ≡ kind′) × (c ≡ c′) × (k ≡ k′)
-  one-key-packet = one-key (OpensPacket n) (renewsPacket n) openingNames packet-renews packet-names
+  one-key-packet = one-key (OpensPacket n) (renewsPacket n) ofPacket packet-renews packet-names
 
   -- an opening of any kind, right after its key was erased
-  pub erased : (r c i e d : ℕ) (k : List ℕ) (o : Operation) (h : History) → OpensCall n r c i o
+  pub erased : (f : ℕ × ℕ) (c i : ℕ) (e : ℕ × ℕ) (d : ℕ) (k : List ℕ) (o : Operation) (h : History) → OpensCall n f c i o
       → Loaded (OpensCall n) (renewsCall n) ((o, Done) ∷ (OfBook (book.Erase c i), Done) ∷ h) e d k → ⊥
-  erased = erased-loads-none (OpensCall n) (renewsCall n) openingNames call-renews call-names
+  erased = erased-loads-none (OpensCall n) (renewsCall n) ofCall call-renews call-names
 
   pub erased-packet : (kind c i e d : ℕ) (k : List ℕ) (o : Operation) (h : History) → OpensPacket n kind c i o
       → Loaded (OpensPacket n) (renewsPacket n) ((o, Done) ∷ (OfBook (book.Erase c i), Done) ∷ h) e d k → ⊥
-  erased-packet = erased-loads-none (OpensPacket n) (renewsPacket n) openingNames packet-renews packet-names
+  erased-packet = erased-loads-none (OpensPacket n) (renewsPacket n) ofPacket packet-renews packet-names
 
--- ---- a call keeps the rate that it was opened for
+-- ---- a call keeps the rate and the strictness that it was opened with
 
 -- what neither opens nor ends call n leaves what was loaded for it
-kept-on : (st : Step) (n : ℕ) {r c : ℕ} {k : List ℕ} (os more : List Operation) → Each (λ o. renewsCall n o ≡ false) more
+kept-on : (st : Step) (n : ℕ) {r : ℕ × ℕ} {c : ℕ} {k : List ℕ} (os more : List Operation) → Each (λ o. renewsCall n o ≡ false) more
     → Loaded (OpensCall n) (renewsCall n) (history st os) r c k → Loaded (OpensCall n) (renewsCall n) (history st (more ++ os)) r c k
 unfolding history
 kept-on st n os [] e l = l
@@ -208,11 +215,14 @@ kept-on st n os (o ∷ more) e l =
     still-loaded (OpensCall n) (renewsCall n) (history st (more ++ os)) o a (ap (λ (t : Bool). isDone a && t) (e .0) ∙ and-false-r (isDone a))
     (kept-on st n os more (e .1) l)
 
--- so on any device that meets the demand two slots of one call that are done have one rate, whatever came between them but an opening or an end of the call
-pub rate-stays : (st : Step) → Demand1 st → (n : ℕ) (os more : List Operation) → Each (λ o. renewsCall n o ≡ false) more
+-- so on any device that meets the demand two slots of one call that are done have one rate and one strictness, whatever came between them but an opening or an end of the call
+pub ways-stay : (st : Step) → Demand1 st → (n : ℕ) (os more : List Operation) → Each (λ o. renewsCall n o ≡ false) more
     → (mask : ℕ) (frame : List ℕ) → numberOf (st (deviceAfter st os) (OfCall n (Voice mask frame)) .0) ≡ 0
     → (mask′ : ℕ) (frame′ : List ℕ) → numberOf (st (deviceAfter st (more ++ os)) (OfCall n (Voice mask′ frame′)) .0) ≡ 0
-    → deviceAfter st os .calls n .terms .rate ≡ deviceAfter st (more ++ os) .calls n .terms .rate
-rate-stays st meets n os more e mask frame z mask′ frame′ z′ =
-    one-key-call n (history st (more ++ os)) _ _ _ _ _ _ (kept-on st n os more e (meets .words os n mask frame z .loaded))
-    (meets .words (more ++ os) n mask′ frame′ z′ .loaded) .0
+    → let before = deviceAfter st os .calls n .terms in
+    let after = deviceAfter st (more ++ os) .calls n .terms in
+    (before .rate ≡ after .rate) × (before .strictness ≡ after .strictness)
+ways-stay st meets n os more e mask frame z mask′ frame′ z′ =
+    let q = one-key-call n (history st (more ++ os)) _ _ _ _ _ _ (kept-on st n os more e (meets .words os n mask frame z .loaded))
+    (meets .words (more ++ os) n mask′ frame′ z′ .loaded) .0 in
+    (ap (λ (f : ℕ × ℕ). f .0) q, ap (λ (f : ℕ × ℕ). f .1) q)

@@ -14,7 +14,7 @@ use Rattle.sizes.specs.Ciphers.{sessionSlots, noVector, scrambles}
 use Rattle.ciphers.proofs.KeystreamLaws.{bits-stream}
 use Rattle.voice.specs.declared.call.Call.{Call}
 use Rattle.voice.specs.Frame.{inMask}
-use Rattle.voice.specs.Call.{told, Standing, receiving, standing, termsOf, written}
+use Rattle.voice.specs.Call.{strict, told, Standing, receiving, standing, termsOf, written}
 use Rattle.voice.specs.Slot.{voiceRefusals, streamOf, voiceOf}
 use Rattle.voice.proofs.GoodLaws.{good-receiver, read-written}
 use Rattle.voice.proofs.OpeningGood.{heard-right}
@@ -29,7 +29,7 @@ use Rattle.demands.specs.Others.{SameSpeech, Fixed, AsItCame, fixing, on
 use Rattle.demands.proofs.MarkedVoice.{example-2}
 use Rattle.octets.proofs.Zeros.{zeros-octets}
 use Rattle.demands.proofs.Standing.{has-key-right, slots-some, same-stream}
-use Rattle.demands.proofs.Layouts.{layout-is, layout-some, rate-is}
+use Rattle.demands.proofs.Layouts.{layout-is, layout-some, ways-right}
 use Rattle.demands.proofs.Samples.{silence, silence-frame, silent-long, loud, loud-frame, first-bits, seed-vector}
 use Rattle.demands.proofs.SampleKeys.{keyOf, bookOfThree, has-key, key-long}
 use Rattle.demands.proofs.Ones.{all-words, unturned, last-some}
@@ -72,10 +72,10 @@ module _ (voice : OnSlot) (send : OnMessage) where
       unturned rt (streamOf call) (bits-stream (call .terms .cipher) (call .terms .key) (call .vector)) (layout rt .slot * call .position) (silence rt)
       (λ w j lw lj. sym (m .voice call 15 (silence rt) .turned (q .0) w j lw lj (all-words w lw)) ∙ q .1 w j lw lj (all-words w lw))
 
-  module _ (c : ℕ) (r : (1 ≤ c) × (c ≤ 3)) (rt : ℕ) (lt : rt ≤ 1) (v : List ℕ) (o : Octets v) where
+  module _ (c : ℕ) (r : (1 ≤ c) × (c ≤ 3)) (rt st : ℕ) (lt : rt ≤ 1) (ls : st ≤ 1) (v : List ℕ) (o : Octets v) where
     -- our receiver at the last slot of a session of this vector
     abbrev at-last : Standing
-    at-last = receiving (termsOf c (keyFor bookOfThree c 0) rt) (sessionSlots c - 1) (told (sessionVector c v))
+    at-last = receiving (termsOf c (keyFor bookOfThree c 0) rt st) (sessionSlots c - 1) (told (sessionVector c v))
 
     abbrev last : Call
     last = written at-last
@@ -84,22 +84,22 @@ module _ (voice : OnSlot) (send : OnMessage) where
     last-stands =
         let l : sessionSlots c - 1 < sessionSlots c = let s = slots-some c r in omega arith in
         read-written at-last refl
-        (good-receiver (termsOf c (keyFor bookOfThree c 0) rt) (sessionSlots c - 1) (has-key-right bookOfThree c 0 (keyOf c) (has-key c r)) (rate-is rt lt) l (told (sessionVector c v))
-        (heard-right c v))
+        (good-receiver (termsOf c (keyFor bookOfThree c 0) rt st) (sessionSlots c - 1)
+        (record { key = has-key-right bookOfThree c 0 (keyOf c) (has-key c r); terms = ways-right rt st lt ls; place = l }) (told (sessionVector c v)) (heard-right c st v))
 
     vector-octets : (t : Bool) → Octets (pick t noVector v)
     vector-octets true = zeros-octets 8
     vector-octets false = o
 
-    -- in the sessions of one vector at one rate, from slot n on: so are all slots but the first, and all sessions but the first
+    -- in the sessions of one vector at one rate and of one strictness, from slot n on: so are all slots but the first, and all sessions but the first
     pub leaves-fails-2 : (n : ℕ) → n < sessionSlots c
-        → ((call : Call) (mask : ℕ) → call .terms .cipher ≡ c → call .terms .rate ≡ rt → call .vector ≡ sessionVector c v → n ≤ call .position → AsItCame voice call mask)
+        → ((call : Call) (mask : ℕ) → call .terms .cipher ≡ c → call .terms .rate ≡ rt → call .terms .strictness ≡ st → call .vector ≡ sessionVector c v → n ≤ call .position → AsItCame voice call mask)
         → Demand2 voice send → ⊥
     leaves-fails-2 n l left m =
         last-some (sessionVector c v) (vector-octets (scrambles c)) rt c r
         (λ k h.
         sym (same-stream bookOfThree c 0 (keyOf c) (has-key c r) (key-long c r) (sessionVector c v) (layout rt .slot * (sessionSlots c - 1) + k))
-        ∙ left-zeros last opened (left last 15 refl refl refl (omega arith)) m k h)
+        ∙ left-zeros last opened (left last 15 refl refl refl refl (omega arith)) m k h)
       where
         opened : numberOf (voiceOf last 15 (silence rt) .0) ≡ 0
         opened =
@@ -110,10 +110,10 @@ module _ (voice : OnSlot) (send : OnMessage) where
 
 pub fixing-fails-2 : (g : List ℕ) (send : OnMessage) → Demand2 (fixing g) send → ⊥
 fixing-fails-2 g send =
-    fixed-fails-2 (fixing g) send (scrambling 0) 3 0 (omega arith) refl (silence 0) (ap (λ (o : Answer × (Call × List ℕ)). numberOf (o .0)) example-2) g
+    fixed-fails-2 (fixing g) send (scrambling strict 0) 3 0 (omega arith) refl (silence 0) (ap (λ (o : Answer × (Call × List ℕ)). numberOf (o .0)) (example-2 strict (omega arith))) g
     (λ frame z. (z, λ w j lw lj h. refl))
 
 pub onlyMoves-fails-2 : (n : ℕ) → n < 8 → (send : OnMessage) → Demand2 (onlyMoves n) send → ⊥
 onlyMoves-fails-2 n l send =
-    leaves-fails-2 (onlyMoves n) send 2 (omega arith, omega arith) 0 (omega arith) seed (seed-vector .octets) n l
-    (λ call mask c r v at frame z. rw (le-ltb (call .position) n at) (z, λ w j lw lj h. refl))
+    leaves-fails-2 (onlyMoves n) send 2 (omega arith, omega arith) 0 strict (omega arith) (omega arith) seed (seed-vector .octets) n l
+    (λ call mask c r s v at frame z. rw (le-ltb (call .position) n at) (z, λ w j lw lj h. refl))

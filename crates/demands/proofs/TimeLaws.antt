@@ -1,20 +1,21 @@
 -- What an operation is not refused came in its time.
 use mathlib.Core.Path.{_≡_, refl, sym, ap, _∙_}
-use mathlib.Core.Bool.{Bool, true, false, _&&_, _||_, not, true≢false}
+use mathlib.Core.Bool.{Bool, true, false, _||_, not, true≢false}
 use mathlib.Core.List.{List}
 use Prim.Native.Nat.{ℕ, _<_}
 use lib.Dec.{leb, eqb}
 use borrow.Author.Tests.{eq-eqb, eqb-true, leb-false, not-false}
-use Rattle.octets.proofs.TestLaws.{and-left, and-right, or-neither}
+use Rattle.octets.proofs.TestLaws.{or-neither}
 use Rattle.answers.proofs.OutcomeLaws.{NoneHolds}
 use Rattle.sizes.specs.Ciphers.{scrambles}
 use Rattle.openings.specs.Ladder as ladder
 use Rattle.voice.specs.declared.call.Call.{Call}
-use Rattle.voice.specs.Call.{closedEnd, sendingEnd, receivingEnd, unknownVector, isKnown, knownBy, Standing, standing, isBad, stands, receives, endRefusals}
+use Rattle.voice.specs.Call.{closedEnd, sendingEnd, receivingEnd, Standing, standing, isBad, stands, receives, endRefusals}
 use Rattle.voice.specs.Opening.{joinRefusals, begunRefusals}
 use Rattle.voice.specs.Slot.{lostRefusals, voiceRefusals}
-use Rattle.voice.specs.Vector.{awaits, announceRefusals, generates, nextRefusals}
-use Rattle.voice.proofs.CallLaws.{is-known, by-stands, good-by, stands-none}
+use Rattle.voice.specs.Vector.{announceRefusals, generates, nextRefusals}
+use Rattle.voice.proofs.CallLaws.{by-stands, good-by, stands-none}
+use Rattle.voice.proofs.Exactly.{timely}
 use Rattle.data.specs.declared.packet.Packet.{Packet}
 use Rattle.data.specs.Packet as packet
 use Rattle.data.specs.Opening as opening
@@ -46,19 +47,6 @@ module _ (c : Call) (good : isBad (standing c) ≡ false) where
       let r = not-false (receives (standing c)) f in
       by-stands c (good-by c good) (λ o e s. absurd (unlike receives r s refl)) (λ o e s. absurd (unlike receives r s refl)) (λ o e s. e)
 
-  announce-time : not (awaits (standing c)) ≡ false → (c .end ≡ receivingEnd) × (c .terms .cipher ≡ 1 → ⊥) × (c .position ≡ 0) × (c .known ≡ unknownVector)
-  announce-time f =
-      let r = not-false (awaits (standing c)) f in
-      by-stands c (good-by c good) (λ o e s. absurd (unlike awaits r s refl)) (λ o e s. absurd (unlike awaits r s refl))
-      (λ o e s.
-      let q : (not (scrambles (c .terms .cipher)) && (eqb (c .position) 0 && not (isKnown (knownBy (c .known) (c .vector))))) ≡ true = sym (ap awaits s) ∙ r in
-      let p = and-right (not (scrambles (c .terms .cipher))) _ q in (
-        e,
-        not-scramble (c .terms .cipher) (and-left (not (scrambles (c .terms .cipher))) _ q),
-        eqb-true (c .position) 0 (and-left (eqb (c .position) 0) _ p),
-        eqb-true (c .known) unknownVector (sym (is-known (c .known) (c .vector) .1) ∙ and-right (eqb (c .position) 0) _ p),
-      ))
-
   next-time : not (generates (standing c)) ≡ false → (c .end ≡ sendingEnd) × (c .terms .cipher ≡ 1 → ⊥)
   next-time f =
       let r = not-false (generates (standing c)) f in
@@ -67,13 +55,15 @@ module _ (c : Call) (good : isBad (standing c) ≡ false) where
 
 call-time : (b : List ℕ) (c : Call) (o : CallOperation) → NoneHolds (callRefusals b c o) → TimeOfCall c o
 unfolding begunRefusals joinRefusals ladder.vectorRefusals ladder.keyRefusals voiceRefusals lostRefusals endRefusals announceRefusals nextRefusals
-call-time b c (Open m i r w) n = closed-time c (n .1 .1 .1 .0) (n .1 .1 .1 .1 .0)
+call-time b c (Open m i r s w) n = closed-time c (n .1 .1 .1 .0) (n .1 .1 .1 .1 .0)
 call-time b c (Start m i r w) n = closed-time c (n .1 .1 .1 .0) (n .1 .1 .1 .1 .0)
-call-time b c (Join m i r) n = closed-time c (n .1 .1 .0) (n .1 .1 .1 .0)
+call-time b c (Join m i r s) n = closed-time c (n .1 .1 .0) (n .1 .1 .1 .0)
 call-time b c (Voice mask frame) n = standing-time c (n .1 .0) (n .1 .1 .0)
 call-time b c Lost n = receiving-time c (n .0) (n .1 .0)
 call-time b c End n = standing-time c (n .0) (n .1 .0)
-call-time b c (Announce w) n = announce-time c (n .1 .0) (n .1 .1 .0)
+call-time b c (Announce w) n =
+    let t = timely c w n in
+    (t .receives, λ z. true≢false (sym (eq-eqb _ _ z) ∙ t .vectored), t .starts, t .untold)
 call-time b c (NextVector out) n = next-time c (n .1 .0) (n .1 .1 .0)
 
 -- ---- a packet

@@ -4,6 +4,7 @@
 use mathlib.Core.Path.{_≡_}
 use mathlib.Core.List.{List, [], _∷_, _++_}
 use mathlib.Core.Bool.{Bool, true, false, _&&_}
+use mathlib.Core.Logic.{_⊎_}
 use Prim.Native.Nat.{ℕ, _≤_, _<_}
 use lib.Dec.{eqb}
 use lib.ListN.{length, replicate}
@@ -14,7 +15,7 @@ use Rattle.keybook.specs.History as book
 use Rattle.keybook.specs.History.{Told}
 use Rattle.voice.specs.declared.call.Call.{Call}
 use Rattle.voice.specs.Slot.{streamOf, inSlot}
-use Rattle.voice.specs.Call.{closedEnd, sendingEnd, receivingEnd, unknownVector, goodCall}
+use Rattle.voice.specs.Call.{closedEnd, sendingEnd, receivingEnd, unknownVector, carriedVector, byDefault, goodCall}
 use Rattle.data.specs.declared.packet.Packet.{Packet}
 use Rattle.data.specs.Kinds.{messageOctets}
 use Rattle.data.specs.Packet.{goodPacket}
@@ -42,11 +43,11 @@ RightBook b (book.Erase c i) = Keyed b c i
 abbrev pub NotZeros : ℕ → List ℕ → Type 0
 NotZeros c w = (c ≡ 1 → ⊥) → w ≡ replicate 8 0 → ⊥
 
--- a rate is 0 or 1, a vector has 8 octets, a mask is at most 15, and a frame has 28 octets, or at full rate 36
+-- a rate is 0 or 1, and so is a strictness, a vector has 8 octets, a mask is at most 15, and a frame has 28 octets, or at full rate 36
 abbrev pub RightCall : List ℕ → Call → CallOperation → Type 0
-RightCall b c (Open cipher i rate w) = Keyed b cipher i × (rate ≤ 1) × (length w ≡ 8) × (goodCall c ≡ true)
+RightCall b c (Open cipher i rate strictness w) = Keyed b cipher i × (rate ≤ 1) × (strictness ≤ 1) × (length w ≡ 8) × (goodCall c ≡ true)
 RightCall b c (Start cipher i rate w) = Keyed b cipher i × (rate ≤ 1) × (length w ≡ 8) × NotZeros cipher w × (goodCall c ≡ true)
-RightCall b c (Join cipher i rate) = Keyed b cipher i × (rate ≤ 1) × (goodCall c ≡ true)
+RightCall b c (Join cipher i rate strictness) = Keyed b cipher i × (rate ≤ 1) × (strictness ≤ 1) × (goodCall c ≡ true)
 RightCall b c (Voice mask frame) = (mask ≤ 15) × (goodCall c ≡ true) × (length frame ≡ layout (c .terms .rate) .frame)
 RightCall b c Lost = goodCall c ≡ true
 RightCall b c End = goodCall c ≡ true
@@ -68,16 +69,20 @@ RightInput d (OfPacket n o) = RightPacket (d .book) (d .packets n) o
 
 -- ---- when it is time for it, or it is refused
 
+-- a receiver was told no vector of its session: a strict one's is unknown, and one's by default is unknown or carried
+abbrev pub NotTold : Call → Type 0
+NotTold c = (c .known ≡ unknownVector) ⊎ ((c .known ≡ carriedVector) × (c .terms .strictness ≡ byDefault))
+
 -- open, join and start while no call stands, the others while one does; a lost slot and announce are a receiver's, and announce is right only for DES or
--- AES at position 0 with the vector unknown; next vector is a sender's, for DES or AES
+-- AES at position 0, where no vector was told; next vector is a sender's, for DES or AES
 abbrev pub TimeOfCall : Call → CallOperation → Type 0
-TimeOfCall c (Open cipher i rate w) = c .end ≡ closedEnd
+TimeOfCall c (Open cipher i rate strictness w) = c .end ≡ closedEnd
 TimeOfCall c (Start cipher i rate w) = c .end ≡ closedEnd
-TimeOfCall c (Join cipher i rate) = c .end ≡ closedEnd
+TimeOfCall c (Join cipher i rate strictness) = c .end ≡ closedEnd
 TimeOfCall c (Voice mask frame) = c .end ≡ closedEnd → ⊥
 TimeOfCall c Lost = c .end ≡ receivingEnd
 TimeOfCall c End = c .end ≡ closedEnd → ⊥
-TimeOfCall c (Announce w) = (c .end ≡ receivingEnd) × (c .terms .cipher ≡ 1 → ⊥) × (c .position ≡ 0) × (c .known ≡ unknownVector)
+TimeOfCall c (Announce w) = (c .end ≡ receivingEnd) × (c .terms .cipher ≡ 1 → ⊥) × (c .position ≡ 0) × NotTold c
 TimeOfCall c (NextVector out) = (c .end ≡ sendingEnd) × (c .terms .cipher ≡ 1 → ⊥)
 
 -- opening while there is no packet, the others with one, and no message past the 1,000th
@@ -115,20 +120,20 @@ pub data Unknown (d : Device) : Operation → Type 0 where
 
 -- ---- which key it is
 
--- the operation opens call n at rate r, or packet n for a kind, with cipher c and key ID i
-pub data OpensCall (n r c i : ℕ) : Operation → Type 0 where
-  by-open : (w : List ℕ) → OpensCall n r c i (OfCall n (Open c i r w))
-  by-start : (w : List ℕ) → OpensCall n r c i (OfCall n (Start c i r w))
-  by-join : OpensCall n r c i (OfCall n (Join c i r))
+-- the operation opens call n at a rate and with a strictness, which a sender's is 0, or packet n for a kind, with cipher c and key ID i
+pub data OpensCall (n : ℕ) (ways : ℕ × ℕ) (c i : ℕ) : Operation → Type 0 where
+  by-open : (w : List ℕ) → OpensCall n ways c i (OfCall n (Open c i (ways .0) (ways .1) w))
+  by-start : (w : List ℕ) → ways .1 ≡ byDefault → OpensCall n ways c i (OfCall n (Start c i (ways .0) w))
+  by-join : OpensCall n ways c i (OfCall n (Join c i (ways .0) (ways .1)))
 
 pub data OpensPacket (n kind c i : ℕ) : Operation → Type 0 where
   by-opening : (end : ℕ) (w : List ℕ) → OpensPacket n kind c i (OfPacket n (OpenPacket end kind c i w))
 
 -- it opens or ends call n, or packet n
 abbrev pub opensOrEnds : CallOperation → Bool
-opensOrEnds (Open c i r w) = true
+opensOrEnds (Open c i r s w) = true
 opensOrEnds (Start c i r w) = true
-opensOrEnds (Join c i r) = true
+opensOrEnds (Join c i r s) = true
 opensOrEnds (Voice mask frame) = false
 opensOrEnds Lost = false
 opensOrEnds End = true
@@ -156,10 +161,10 @@ abbrev pub NoneDone : (Operation → Bool) → History → Type 0
 NoneDone renews [] = Unit {0}
 NoneDone renews (h ∷ hs) = ((isDone (h .1) && renews (h .0)) ≡ false) × NoneDone renews hs
 
--- the history has an opening that was done, for a call's rate or a packet's kind f, by cipher c and some key ID, and that still stands; when it was done, the key operations told of key k: exactly
--- the octets that were added to that cipher and key ID since the begin that took its entry, in order, as many as the cipher's key length, allowed, and
--- a finish was done. What key operations came since does not matter
-pub record Loaded (opens : ℕ → ℕ → ℕ → Operation → Type 0) (renews : Operation → Bool) (h : History) (f c : ℕ) (k : List ℕ) : Type 0 where
+-- the history has an opening that was done, for what it fixed, a call's rate and strictness or a packet's kind, by cipher c and some key ID, and that still
+-- stands; when it was done, the key operations told of key k: exactly the octets that were added to that cipher and key ID since the begin that took its
+-- entry, in order, as many as the cipher's key length, allowed, and a finish was done. What key operations came since does not matter
+pub record Loaded {F : Type 0} (opens : F → ℕ → ℕ → Operation → Type 0) (renews : Operation → Bool) (h : History) (f : F) (c : ℕ) (k : List ℕ) : Type 0 where
   pub id : ℕ
   pub opening : Operation
   pub since : History
@@ -169,10 +174,10 @@ pub record Loaded (opens : ℕ → ℕ → ℕ → Operation → Type 0) (renews
   pub still-stands : NoneDone renews since
   pub told : Told (keyOperations before) c id k
 
--- a word: the frame after a slot that was done is turned by the keystream of the call as it stood, and its key was loaded, for its rate
+-- a word: the frame after a slot that was done is turned by the keystream of the call as it stood, and its key was loaded, for its rate and strictness
 pub record WordsTurned (h : History) (n : ℕ) (c : Call) (mask : ℕ) (frame after : List ℕ) : Type 0 where
   pub turned : after ≡ inSlot streamOf mask frame c
-  pub loaded : Loaded (OpensCall n) (renewsCall n) h (c .terms .rate) (c .terms .cipher) (c .terms .key)
+  pub loaded : Loaded (OpensCall n) (renewsCall n) h (c .terms .rate, c .terms .strictness) (c .terms .cipher) (c .terms .key)
 
 -- a message, and its packet's kind
 pub record MessageTurned (h : History) (n : ℕ) (p : Packet) (message after : List ℕ) : Type 0 where

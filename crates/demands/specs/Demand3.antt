@@ -1,4 +1,5 @@
--- Demand 3, of any receiver; and our receiver, by the definitions that the operations' contracts cite.
+-- Demand 3, of any receiver that holds where no vector was told; and our receiver, by the definitions that the operations' contracts cite: the strict one,
+-- which the recorder and slotcheck are.
 use mathlib.Core.Path.{_≡_}
 use mathlib.Core.List.{List}
 use mathlib.Core.Bool.{true, false}
@@ -6,7 +7,7 @@ use Prim.Native.Nat.{ℕ, _<_}
 use Rattle.answers.specs.Numbers.{numberOf}
 use Rattle.voice.specs.declared.call.Call.{Call}
 use Rattle.voice.specs.Frame.{inMask}
-use Rattle.voice.specs.Call.{noCall}
+use Rattle.voice.specs.Call.{strict, noCall}
 use Rattle.voice.specs.Opening.{openOf, joinOf}
 use Rattle.voice.specs.Slot.{lostOf, voiceOf}
 use Rattle.voice.specs.Vector.{announceOf}
@@ -36,14 +37,17 @@ MeetsTalk R t = Kept t → (b : List ℕ) (i : ℕ) → HasKey b (t .cipher) i (
 abbrev pub Meets3 : Receiver → Type 0
 Meets3 R = (t : Talk) → MeetsTalk R t
 
-abbrev pub ours : Receiver
-ours =
+abbrev pub oursIn : ℕ → Receiver
+oursIn strictness =
     record {
       State = Call;
       idle = noCall;
-      hear = λ c i rate v b s. openOf s c i rate v b;
-      join = λ c i rate b s. joinOf s c i rate b;
+      hear = λ c i rate v b s. openOf s c i rate strictness v b;
+      join = λ c i rate b s. joinOf s c i rate strictness b;
       voice = λ mask frame s. voiceOf s mask frame;
       lost = lostOf;
       announce = λ v s. announceOf s v;
     }
+
+abbrev pub ours : Receiver
+ours = oursIn strict

@@ -36,10 +36,12 @@ atFirst = record { book = replicate bookOctets 0; calls = λ n. noCall; packets 
 
 -- on a call
 pub data CallOperation : Type 0 where
+  -- cipher, key ID, rate, strictness and vector
+  Open : ℕ → ℕ → ℕ → ℕ → List ℕ → CallOperation
   -- cipher, key ID, rate and vector
-  Open Start : ℕ → ℕ → ℕ → List ℕ → CallOperation
-  -- cipher, key ID and rate
-  Join : ℕ → ℕ → ℕ → CallOperation
+  Start : ℕ → ℕ → ℕ → List ℕ → CallOperation
+  -- cipher, key ID, rate and strictness
+  Join : ℕ → ℕ → ℕ → ℕ → CallOperation
   -- mask and frame
   Voice : ℕ → List ℕ → CallOperation
   Lost End : CallOperation
@@ -50,9 +52,9 @@ pub data CallOperation : Type 0 where
 
 module _ (b : List ℕ) (c : Call) where
   unfoldable pub callStep : CallOperation → Answer × (Call × List ℕ)
-  callStep (Open cipher i rate w) = withNone (openOf c cipher i rate w b)
+  callStep (Open cipher i rate strictness w) = withNone (openOf c cipher i rate strictness w b)
   callStep (Start cipher i rate w) = withNone (startOf c cipher i rate w b)
-  callStep (Join cipher i rate) = withNone (joinOf c cipher i rate b)
+  callStep (Join cipher i rate strictness) = withNone (joinOf c cipher i rate strictness b)
   callStep (Voice mask frame) = voiceOf c mask frame
   callStep Lost = withNone (lostOf c)
   callStep End = withNone (endOf c)
@@ -60,9 +62,9 @@ module _ (b : List ℕ) (c : Call) where
   callStep (NextVector out) = let o = nextVectorOf c out in (o .0, (c, o .1))
 
 abbrev pub lentCall : CallOperation → List ℕ
-lentCall (Open c i r w) = []
+lentCall (Open c i r s w) = []
 lentCall (Start c i r w) = []
-lentCall (Join c i r) = []
+lentCall (Join c i r s) = []
 lentCall (Voice mask frame) = frame
 lentCall Lost = []
 lentCall End = []

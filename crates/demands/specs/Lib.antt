@@ -5,6 +5,7 @@ pub mod Notices
 pub mod Log
 pub mod Arrivals
 pub mod Demand3
+pub mod Demand3Default
 pub mod Others
 pub mod OurSender
 pub mod Device

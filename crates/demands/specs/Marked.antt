@@ -1,4 +1,4 @@
--- The build paper's marked examples in one table, each as a statement about the definitions; calls are at half rate.
+-- The build paper's marked examples in one table, each as a statement about the definitions; calls are at half rate, of either strictness m.
 use mathlib.Core.Path.{_≡_}
 use mathlib.Core.List.{List, [], _∷_, _++_}
 use Prim.Native.Nat.{ℕ, _-_, _*_, _≤_}
@@ -43,11 +43,11 @@ abbrev pub bookOfTwo : List ℕ
 bookOfTwo = (1 ∷ 0 ∷ 2 ∷ 1 ∷ scramble0001) ++ ((2 ∷ 0 ∷ 8 ∷ 1 ∷ desABCD) ++ replicate (14 * entryOctets) 0)
 
 -- at half rate a scramble receiver at position p, and a DES receiver at position p that does not know its session's vector
-abbrev pub scrambling : ℕ → Call
-scrambling p = written (receiving (termsOf 1 scramble0001 halfRate) p (told noVector))
+abbrev pub scrambling : ℕ → ℕ → Call
+scrambling m p = written (receiving (termsOf 1 scramble0001 halfRate m) p (told noVector))
 
-abbrev pub waiting : ℕ → Call
-waiting p = written (receiving (termsOf 2 desABCD halfRate) p unknown)
+abbrev pub waiting : ℕ → ℕ → Call
+waiting m p = written (receiving (termsOf 2 desABCD halfRate m) p unknown)
 
 -- 8001000600140000F002200CC0000000000000000000000000000000
 abbrev pub frame8001 : List ℕ
@@ -71,7 +71,7 @@ pub record Marked : Type 0 where
   -- scramble key 0001: P0 to P31 are 80010006
   pub example-1 : octetsFrom 4 (P key0001) ≡ 0x80 ∷ 0x01 ∷ 0x00 ∷ 0x06 ∷ []
   -- an all-zero frame, mask 3, that key, slot 0: the frame above
-  pub example-2 : voiceOf (scrambling 0) 3 (replicate 28 0) ≡ (Done, (scrambling 1, frame8001))
+  pub example-2 : (m : ℕ) → m ≤ 1 → voiceOf (scrambling m 0) 3 (replicate 28 0) ≡ (Done, (scrambling m 1, frame8001))
   -- "ABCDEFGHIJKLMNOPQRST", that key: C143434245524730485A4D2C580E30D150545540. Whatever the two octets before them
   pub example-3 : (h0 h1 : ℕ) → messageOf dcalls (h0 ∷ h1 ∷ letters) ≡ (Done, (counted dcalls, h0 ∷ h1 ∷ lettersTurned))
   -- L(ABCDEF1234567890) = 8B8DDEEB890F4CF1
@@ -94,15 +94,17 @@ pub record Marked : Type 0 where
       → (ofMessage (stream 2 key vector) 2 1 0 ≡ bit (usedBlock (des key) vector 1) 48)
       × (ofMessage (stream 2 key vector) 3 1 0 ≡ bit (usedBlock (des key) vector 1) 48)
   -- a DES join, then four voice slots: 1 each; then announce: 0. Announce after three: 9. With any mask, any frame and any vector
-  pub example-11 : (joinOf noCall 2 0 halfRate bookOfTwo ≡ (Done, waiting 4))
+  pub example-11 : (m : ℕ) → m ≤ 1
+      → (joinOf noCall 2 0 halfRate m bookOfTwo ≡ (Done, waiting m 4))
       × ((mask : ℕ) (frame : List ℕ) → mask ≤ topMask → length frame ≡ 28
-      → (voiceOf (waiting 4) mask frame ≡ (Held, (waiting 5, frame)))
-      × (voiceOf (waiting 5) mask frame ≡ (Held, (waiting 6, frame)))
-      × (voiceOf (waiting 6) mask frame ≡ (Held, (waiting 7, frame)))
-      × (voiceOf (waiting 7) mask frame ≡ (Held, (waiting 0, frame))))
-      × ((w : List ℕ) → length w ≡ vectorOctets → announceOf (waiting 0) w ≡ (Done, written (receiving (termsOf 2 desABCD halfRate) 0 (told w))))
-      × ((w : List ℕ) → length w ≡ vectorOctets → announceOf (waiting 7) w ≡ (NotNow, waiting 7))
+      → (voiceOf (waiting m 4) mask frame ≡ (Held, (waiting m 5, frame)))
+      × (voiceOf (waiting m 5) mask frame ≡ (Held, (waiting m 6, frame)))
+      × (voiceOf (waiting m 6) mask frame ≡ (Held, (waiting m 7, frame)))
+      × (voiceOf (waiting m 7) mask frame ≡ (Held, (waiting m 0, frame))))
+      × ((w : List ℕ) → length w ≡ vectorOctets → announceOf (waiting m 0) w ≡ (Done, written (receiving (termsOf 2 desABCD halfRate m) 0 (told w))))
+      × ((w : List ℕ) → length w ≡ vectorOctets → announceOf (waiting m 7) w ≡ (NotNow, waiting m 7))
   -- vector zero, as document 02 has it: DES open 0, DES start 8; scramble open 0
-  pub example-12 : (openOf noCall 2 0 halfRate noVector bookOfTwo ≡ (Done, written (receiving (termsOf 2 desABCD halfRate) 0 (told noVector))))
+  pub example-12 : (m : ℕ) → m ≤ 1
+      → (openOf noCall 2 0 halfRate m noVector bookOfTwo ≡ (Done, written (receiving (termsOf 2 desABCD halfRate m) 0 (told noVector))))
       × (startOf noCall 2 0 halfRate noVector bookOfTwo ≡ (ZeroVector, noCall))
-      × (openOf noCall 1 0 halfRate noVector bookOfTwo ≡ (Done, scrambling 0))
+      × (openOf noCall 1 0 halfRate m noVector bookOfTwo ≡ (Done, scrambling m 0))

@@ -12,7 +12,7 @@ use Rattle.answers.specs.Outcomes.{Refusals, outcome}
 use Rattle.keybook.specs.Book.{bookOctets, goodBook}
 use Rattle.openings.specs.Ladder.{sessionVector, keyFor}
 use Rattle.voice.specs.declared.call.Call.{Call}
-use Rattle.voice.specs.Call.{sendingEnd, receivingEnd, standing, termsOf, noCall, written}
+use Rattle.voice.specs.Call.{sendingEnd, receivingEnd, byDefault, standing, termsOf, noCall, written}
 use Rattle.voice.specs.Opening.{begun, joined}
 use Rattle.voice.specs.Slot.{streamOf, inSlot}
 use Rattle.voice.specs.Vector.{withVector}
@@ -29,9 +29,9 @@ noisy d o = let r = step d o in (r .0, (r .1 .0, pick (eqb (numberOf (r .0)) 1) 
 
 -- ours, but a slot whose vector is unknown is answered 0 and turned all the same, by the zeros that stand in the vector's place
 abbrev turnedAt : Call → CallOperation → List ℕ
-turnedAt c (Open cipher i rate w) = []
+turnedAt c (Open cipher i rate s w) = []
 turnedAt c (Start cipher i rate w) = []
-turnedAt c (Join cipher i rate) = []
+turnedAt c (Join cipher i rate s) = []
 turnedAt c (Voice mask frame) = inSlot streamOf mask frame c
 turnedAt c Lost = []
 turnedAt c End = []
@@ -93,9 +93,9 @@ module _ (isHasty : CallOperation → Bool) where
   hastily b c o after = withNone (outcome c (pick (isHasty o) (unasked (numberOf NotReady) (callRefusals b c o)) (callRefusals b c o)) after)
 
   abbrev pub hastyCall : List ℕ → Call → CallOperation → Answer × (Call × List ℕ)
-  hastyCall b c (Open cipher i rate w) = hastily b c (Open cipher i rate w) (written (begun receivingEnd (termsOf cipher (keyFor b cipher i) rate) (sessionVector cipher w)))
-  hastyCall b c (Start cipher i rate w) = hastily b c (Start cipher i rate w) (written (begun sendingEnd (termsOf cipher (keyFor b cipher i) rate) (sessionVector cipher w)))
-  hastyCall b c (Join cipher i rate) = hastily b c (Join cipher i rate) (written (joined (termsOf cipher (keyFor b cipher i) rate)))
+  hastyCall b c (Open cipher i rate s w) = hastily b c (Open cipher i rate s w) (written (begun receivingEnd (termsOf cipher (keyFor b cipher i) rate s) (sessionVector cipher w)))
+  hastyCall b c (Start cipher i rate w) = hastily b c (Start cipher i rate w) (written (begun sendingEnd (termsOf cipher (keyFor b cipher i) rate byDefault) (sessionVector cipher w)))
+  hastyCall b c (Join cipher i rate s) = hastily b c (Join cipher i rate s) (written (joined (termsOf cipher (keyFor b cipher i) rate s)))
   hastyCall b c (Voice mask frame) = callStep b c (Voice mask frame)
   hastyCall b c Lost = callStep b c Lost
   hastyCall b c End = callStep b c End
@@ -105,16 +105,18 @@ module _ (isHasty : CallOperation → Bool) where
   abbrev pub hasty : Step
   hasty = byCalls hastyCall
 
--- version three applied an announced vector at once: it does not ask whether it is the time for one
-abbrev eagerCall : List ℕ → Call → CallOperation → Answer × (Call × List ℕ)
-eagerCall b c (Open cipher i rate w) = callStep b c (Open cipher i rate w)
-eagerCall b c (Start cipher i rate w) = callStep b c (Start cipher i rate w)
-eagerCall b c (Join cipher i rate) = callStep b c (Join cipher i rate)
-eagerCall b c (Voice mask frame) = callStep b c (Voice mask frame)
-eagerCall b c Lost = callStep b c Lost
-eagerCall b c End = callStep b c End
-eagerCall b c (Announce w) = withNone (outcome c (unasked (numberOf NotNow) (callRefusals b c (Announce w))) (written (withVector w (standing c))))
-eagerCall b c (NextVector out) = callStep b c (NextVector out)
+-- version three applied an announced vector at once: in the calls that are eager it does not ask whether it is the time for one
+module _ (isEager : Call → Bool) where
+  abbrev eagerCall : List ℕ → Call → CallOperation → Answer × (Call × List ℕ)
+  eagerCall b c (Open cipher i rate s w) = callStep b c (Open cipher i rate s w)
+  eagerCall b c (Start cipher i rate w) = callStep b c (Start cipher i rate w)
+  eagerCall b c (Join cipher i rate s) = callStep b c (Join cipher i rate s)
+  eagerCall b c (Voice mask frame) = callStep b c (Voice mask frame)
+  eagerCall b c Lost = callStep b c Lost
+  eagerCall b c End = callStep b c End
+  eagerCall b c (Announce w) =
+      withNone (outcome c (pick (isEager c) (unasked (numberOf NotNow) (callRefusals b c (Announce w))) (callRefusals b c (Announce w))) (written (withVector w (standing c))))
+  eagerCall b c (NextVector out) = callStep b c (NextVector out)
 
-abbrev pub eager : Step
-eager = byCalls eagerCall
+  abbrev pub eager : Step
+  eager = byCalls eagerCall

@@ -1,27 +1,31 @@
 -- Slot operations that demand 2 throws out, receivers that demand 3 throws out, and senders that do not keep its rules (document 01, "How tight
 -- each statement is" and "Readings to shut out"; versions two and three of the user's words).
 use mathlib.Core.Path.{_≡_}
-use mathlib.Core.Bool.{true}
+use mathlib.Core.Bool.{true, _&&_}
+use mathlib.Core.Logic.{_⊎_}
 use mathlib.Core.List.{List}
 use Prim.Native.Nat.{ℕ, zero, suc, _+_, _*_, _/_, _%_, _<_}
-use lib.Dec.{ltb}
+use lib.Dec.{ltb, eqb}
 use Rattle.octets.specs.Tests.{pick}
 use Rattle.octets.specs.Bits.{bit}
 use Rattle.answers.specs.declared.Answer.{Answer}
+use Rattle.answers.specs.declared.Answer.the-variants.{Done}
 use Rattle.answers.specs.Numbers.{numberOf}
+use Rattle.generator.specs.Generator.{nextVector}
 use Rattle.sizes.specs.Ciphers.{sessionSlots}
 use Rattle.voice.specs.declared.call.Call.{Call}
 use Rattle.sizes.specs.Frame.{width}
 use Rattle.voice.specs.Frame.{inMask, ofSlot, protect}
-use Rattle.voice.specs.Call.{noCall}
+use Rattle.voice.specs.Call.{carriedVector, strict, callAt, noCall}
 use Rattle.voice.specs.Opening.{openOf}
 use Rattle.voice.specs.Slot.{lostOf, voiceOf}
 use Rattle.voice.specs.Vector.{announceOf}
 use Rattle.demands.specs.Demand2.{OnSlot}
 use Rattle.demands.specs.Rates.{Layout, layout}
-use Rattle.demands.specs.Talk.{Talk}
+use Rattle.demands.specs.Talk.{Session, Talk}
 use Rattle.demands.specs.Log.{Receiver}
 use Rattle.demands.specs.Demand3.{MeetsTalk}
+use Rattle.demands.specs.Demand3Default.{Generated, MeetsTalkDefault, handset}
 
 -- two frames have the same speech, spare bits and other words aside
 abbrev pub SameSpeech : Layout → ℕ → List ℕ → List ℕ → Type 0
@@ -100,12 +104,45 @@ atOnce w =
     record {
       State = Call;
       idle = noCall;
-      hear = λ c i r v b s. openOf s c i r v b;
-      join = λ c i r b s. (openOf s c i r w b .0, fourOn (openOf s c i r w b .1));
+      hear = λ c i r v b s. openOf s c i r strict v b;
+      join = λ c i r b s. (openOf s c i r strict w b .0, fourOn (openOf s c i r strict w b .1));
       voice = λ mask frame s. voiceOf s mask frame;
       lost = lostOf;
       announce = λ v s. announceOf s v;
     }
+
+-- ---- the demand in the default way, of the calls of one cipher at one rate
+
+abbrev pub MeetsDefaultIn : (Session → Session → Type 0) → ℕ → ℕ → Receiver → Type 0
+MeetsDefaultIn P c r R = (t : Talk) → t .cipher ≡ c → t .rate ≡ r → MeetsTalkDefault P R t
+
+-- either demand
+abbrev pub MeetsEither : ℕ → ℕ → Receiver → Type 0
+MeetsEither c r R = MeetsIn c r R ⊎ MeetsDefaultIn Generated c r R
+
+-- ours in the default way, but that it goes on with f of the last vector, and takes an announcement so
+abbrev pub wentOn : (List ℕ → List ℕ) → Call → Call → Call
+wentOn f s d = pick (eqb (d .position) 0 && eqb (d .known) carriedVector) (callAt (d .end) (d .terms) 0 carriedVector (f (s .vector))) d
+
+abbrev pub goingOnWith : (List ℕ → List ℕ) → (List ℕ → Call → Answer × Call) → Receiver
+goingOnWith f announce =
+    record {
+      State = Call;
+      idle = noCall;
+      hear = handset .hear;
+      join = handset .join;
+      voice = λ mask frame s. let o = voiceOf s mask frame in (o .0, (wentOn f s (o .1 .0), o .1 .1));
+      lost = λ s. let o = lostOf s in (o .0, wentOn f s (o .1));
+      announce = announce;
+    }
+
+-- on S, and not L(S)
+abbrev pub staying : Receiver
+staying = goingOnWith (λ v. v) (handset .announce)
+
+-- an announcement is done, but the carried vector wins
+abbrev pub stubborn : Receiver
+stubborn = goingOnWith nextVector (λ v s. pick (eqb (s .known) carriedVector) (Done, s) (announceOf s v))
 
 -- ---- senders: what goes on the air, of the rate, a session's keystream, the slot, the mask and the spoken frame
 

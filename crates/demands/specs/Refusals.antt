@@ -10,7 +10,7 @@ use Rattle.answers.specs.Order.{ofGiven, ofCall, ofBook, withoutZeros, refusalO
 use Rattle.keybook.specs.Operations.{beginRefusals, addRefusals, finishRefusals, eraseRefusals}
 use Rattle.keybook.specs.History as book
 use Rattle.voice.specs.declared.call.Call.{Call}
-use Rattle.voice.specs.Call.{sendingEnd, receivingEnd, standing, knows, endRefusals}
+use Rattle.voice.specs.Call.{sendingEnd, receivingEnd, byDefault, standing, knows, endRefusals}
 use Rattle.voice.specs.Opening.{joinRefusals, begunRefusals}
 use Rattle.voice.specs.Slot.{lostRefusals, voiceRefusals}
 use Rattle.voice.specs.Vector.{announceRefusals, nextRefusals}
@@ -27,9 +27,9 @@ keyRefusals b (book.Finish c i) = finishRefusals b c i
 keyRefusals b (book.Erase c i) = eraseRefusals b c i
 
 abbrev pub callRefusals : List ℕ → Call → CallOperation → Refusals
-callRefusals b c (Open cipher i rate w) = begunRefusals receivingEnd (standing c) cipher i rate w b
-callRefusals b c (Start cipher i rate w) = begunRefusals sendingEnd (standing c) cipher i rate w b
-callRefusals b c (Join cipher i rate) = joinRefusals (standing c) cipher i rate b
+callRefusals b c (Open cipher i rate s w) = begunRefusals receivingEnd (standing c) cipher i rate s w b
+callRefusals b c (Start cipher i rate w) = begunRefusals sendingEnd (standing c) cipher i rate byDefault w b
+callRefusals b c (Join cipher i rate s) = joinRefusals (standing c) cipher i rate s b
 callRefusals b c (Voice mask frame) = voiceRefusals (standing c) mask frame
 callRefusals b c Lost = lostRefusals (standing c)
 callRefusals b c End = endRefusals (standing c)
@@ -50,9 +50,9 @@ refusalsOf d (OfPacket n o) = packetRefusals (d .book) (d .packets n) o
 -- what is answered where none of these holds: the operation is done, but a slot in a receiving call whose vector is unknown is held (a closed or a bad call
 -- was refused before)
 abbrev pub callUnrefused : Call → CallOperation → Answer
-callUnrefused c (Open cipher i rate w) = Done
+callUnrefused c (Open cipher i rate s w) = Done
 callUnrefused c (Start cipher i rate w) = Done
-callUnrefused c (Join cipher i rate) = Done
+callUnrefused c (Join cipher i rate s) = Done
 callUnrefused c (Voice mask frame) = pick (knows (standing c)) Done Held
 callUnrefused c Lost = Done
 callUnrefused c End = Done
@@ -80,9 +80,9 @@ abbrev pub messageOrder : List ℕ
 messageOrder = 4 ∷ 9 ∷ 2 ∷ []
 
 abbrev callOrder : CallOperation → List ℕ
-callOrder (Open cipher i rate w) = withoutZeros
+callOrder (Open cipher i rate s w) = withoutZeros
 callOrder (Start cipher i rate w) = refusalOrder
-callOrder (Join cipher i rate) = withoutZeros
+callOrder (Join cipher i rate s) = withoutZeros
 callOrder (Voice mask frame) = voiceOrder
 callOrder Lost = withoutBook
 callOrder End = withoutBook

@@ -19,7 +19,7 @@ numberBit n k = n / 2 ^ (63 - k) % 2
 abbrev pub octets : ℕ → List ℕ
 octets n = octetsFrom 8 (numberBit n)
 
-abbrev bits : ℕ → List ℕ
+abbrev pub bits : ℕ → List ℕ
 bits n = tab (numberBit n) 64
 
 -- key, block and enciphered block
@@ -47,7 +47,8 @@ bits-work = (refl, (refl, (refl, (refl, (refl, (refl, (refl, (refl, (refl, (refl
 octets-bits : (n : ℕ) → tab (bit (octets n)) 64 ≡ bits n
 octets-bits n = tab-same _ _ 64 (λ k h. bit-octetsFrom 8 (numberBit n) (λ i. omega arith) k (omega arith))
 
-octets-work : (key block out : ℕ) → enciphered (roundKey (bits key)) (bits block) ≡ bits out → des (octets key) (octets block) ≡ octets out
+-- so a block that its bits work out
+pub octets-work : (key block out : ℕ) → enciphered (roundKey (bits key)) (bits block) ≡ bits out → des (octets key) (octets block) ≡ octets out
 unfolding des tab octet octetsFrom
 octets-work key block out e = rw (octets-bits key, octets-bits block, e) refl
 

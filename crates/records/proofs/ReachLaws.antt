@@ -20,7 +20,7 @@ use Rattle.keybook.specs.Operations.{hasEntry, entryFor, beginRefusals, beginAf
 use Rattle.keybook.proofs.GoodLaws.{good-sized, found-for}
 use Rattle.openings.specs.Ladder.{keyRefusals, zeroRefusals, vectorRefusals}
 use Rattle.voice.specs.declared.call.Call.{Call}
-use Rattle.voice.specs.Call.{receivingEnd, standing, isBad, widthIn, stands, knows, endRefusals, endOf}
+use Rattle.voice.specs.Call.{receivingEnd, strict, termsRight, standing, isBad, widthIn, stands, knows, endRefusals, endOf}
 use Rattle.voice.specs.Opening.{joinRefusals, begunRefusals, openOf, joinOf}
 use Rattle.sizes.specs.Frame.{halfRate, isRate, width, frameOctets}
 use Rattle.voice.specs.Slot.{lostRefusals, lostOf, voiceRefusals, streamOf, voiceAfter, voiceBy, voiceOf}
@@ -98,8 +98,8 @@ module _ (book : List ℕ) (call : Call) (s : Sound book call) where
 
   -- what the opening asks of the key, of a record that can get 0, 3, 5 and 9
   key-can : (r : Record) → isOneOf 3 (answersTo r) ≡ true → isOneOf 5 (answersTo r) ≡ true → isOneOf 9 (answersTo r) ≡ true → (c i : ℕ)
-      → Gives (Can r) (keyRefusals (isRate halfRate) (isBad (standing call)) (stands (standing call)) c i book)
-  unfolding keyRefusals isRate
+      → Gives (Can r) (keyRefusals (termsRight receivingEnd halfRate strict) (isBad (standing call)) (stands (standing call)) c i book)
+  unfolding keyRefusals termsRight isRate
   key-can r three five nine c i = (
     book-sized book (s .book-good),
     λ _. (
@@ -108,16 +108,16 @@ module _ (book : List ℕ) (call : Call) (s : Sound book call) where
     ),
   )
 
-  open-can : (c i : ℕ) (w : List ℕ) → length w ≡ vectorOctets → Can (Open c i w) (openOf call c i halfRate w book .0)
+  open-can : (c i : ℕ) (w : List ℕ) → length w ≡ vectorOctets → Can (Open c i w) (openOf call c i halfRate strict w book .0)
   unfolding openOf begunRefusals vectorRefusals zeroRefusals
   open-can c i w l =
       let r = Open c i w in
-      gives (Can r) call (begunRefusals receivingEnd (standing call) c i halfRate w book) _
-      (never-not (eq-eqb (length w) vectorOctets l), λ _. gives-more (Can r) (keyRefusals (isRate halfRate) (isBad (standing call)) (stands (standing call)) c i book) _ (key-can r refl refl refl c i) tt) refl
+      gives (Can r) call (begunRefusals receivingEnd (standing call) c i halfRate strict w book) _
+      (never-not (eq-eqb (length w) vectorOctets l), λ _. gives-more (Can r) (keyRefusals (termsRight receivingEnd halfRate strict) (isBad (standing call)) (stands (standing call)) c i book) _ (key-can r refl refl refl c i) tt) refl
 
-  join-can : (c i : ℕ) → Can (Join c i) (joinOf call c i halfRate book .0)
+  join-can : (c i : ℕ) → Can (Join c i) (joinOf call c i halfRate strict book .0)
   unfolding joinOf joinRefusals
-  join-can c i = gives (Can (Join c i)) call (joinRefusals (standing call) c i halfRate book) _ (key-can (Join c i) refl refl refl c i) refl
+  join-can c i = gives (Can (Join c i)) call (joinRefusals (standing call) c i halfRate strict book) _ (key-can (Join c i) refl refl refl c i) refl
 
   -- a V record's frame is as long as a call that stands asks
   as-long : (frame : List ℕ) → length frame ≡ recordFrame → not (stands (standing call)) ≡ false → length frame ≡ frameOctets (widthIn (standing call))

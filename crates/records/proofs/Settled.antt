@@ -9,6 +9,7 @@ use Rattle.answers.specs.Numbers.{numberOf}
 use Rattle.answers.proofs.OutcomeLaws.{Refusal}
 use Rattle.sizes.specs.Frame.{halfRate}
 use Rattle.voice.specs.declared.call.Call.{Call}
+use Rattle.voice.specs.Call.{strict}
 use Rattle.voice.specs.Slot.{voiceOf}
 use Rattle.voice.proofs.Settled.{end-keeps, lost-keeps, announce-keeps, voice-keeps, join-keeps, open-keeps}
 use Rattle.lines.specs.Record.{Record, Load, Open, Join, Voice, Announce, Lost, End, Malformed}
@@ -38,8 +39,8 @@ pub step-keeps : (r : Record) (book : List ℕ) (call : Call) → Refusal (stepO
 unfolding stepOf
 step-keeps (Load c i key) book call h =
     ap (λ (x : List ℕ). asEffect (loadOf book c i key .0) x call []) (load-keeps book c i key (λ e. omega (arith, ap numberOf e)))
-step-keeps (Open c i w) book call h = rw (open-keeps call c i halfRate book w h)
-step-keeps (Join c i) book call h = rw (join-keeps call c i halfRate book h)
+step-keeps (Open c i w) book call h = rw (open-keeps call c i halfRate book strict w h)
+step-keeps (Join c i) book call h = rw (join-keeps call c i halfRate book strict h)
 step-keeps (Voice mask frame) book call h =
     rw (voice-keeps call mask frame h, ne-eqb (numberOf (voiceOf call mask frame .0)) 0 (λ e. omega arith))
 step-keeps (Announce w) book call h = rw (announce-keeps call w h)

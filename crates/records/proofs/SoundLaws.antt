@@ -1,4 +1,5 @@
--- From an all-zero book and no call, book and call stay good through any lines: no half key is left in the book, there is no sender, and the rate is half.
+-- From an all-zero book and no call, book and call stay good through any lines: no half key is left in the book, there is no sender, the rate is half, and
+-- a receiver is strict.
 use mathlib.Core.Path.{_≡_, refl, _∙_}
 use mathlib.Core.Bool.{Bool, true, false}
 use mathlib.Core.List.{List, [], _∷_}
@@ -23,11 +24,11 @@ use Rattle.keybook.proofs.HoldLaws.{always-good}
 use Rattle.openings.specs.Ladder.{sessionVector, keyFor}
 use Rattle.voice.specs.declared.call.Terms.{Terms}
 use Rattle.voice.specs.declared.call.Call.{Call}
-use Rattle.voice.specs.Call.{sendingEnd, receivingEnd, goodCall, Known, knownBy, untold, Standing, closed, receiving, standing, termsOf, noCall, written, endRefusals, endOf}
+use Rattle.voice.specs.Call.{sendingEnd, receivingEnd, carriedVector, strict, goodCall, Known, knownBy, Standing, closed, receiving, standing, termsOf, noCall, written, endRefusals, endOf}
 use Rattle.voice.specs.Opening.{joinRefusals, begunRefusals, begun, openOf, joined, joinOf}
-use Rattle.voice.specs.Slot.{slotOn, lostRefusals, lostOf, voiceRefusals, streamOf, voiceAfter, voiceBy, voiceOf}
+use Rattle.voice.specs.Slot.{ridden, slotOn, lostRefusals, lostOf, voiceRefusals, streamOf, voiceAfter, voiceBy, voiceOf}
 use Rattle.voice.specs.Vector.{withVector, announceRefusals, announceOf}
-use Rattle.voice.proofs.CallLaws.{by-stands}
+use Rattle.voice.proofs.CallLaws.{by-stands, carries}
 use Rattle.voice.proofs.GoodLaws.{closed-good, end-good, lost-good, voice-good, announce-good}
 use Rattle.voice.proofs.OpeningGood.{open-good, join-good}
 use Rattle.lines.specs.Record.{Record, Load, Open, Join, Voice, Announce, Lost, End, Malformed, lineOf}
@@ -45,13 +46,14 @@ use Rattle.keybook.proofs.LoadLaws.{load-ways, load-stays-good}
 abbrev pub AllReady : List ℕ → Type 0
 AllReady b = (k : ℕ) → k < entries → (cipherIn (entryOf b k) ≡ 0 → ⊥) → isReady (entryOf b k) ≡ true
 
--- a good book without half a key, and a good call that is not a sender's, at half rate
+-- a good book without half a key, and a good call that is not a sender's, at half rate and, where it receives, strict
 pub record Sound (book : List ℕ) (call : Call) : Type 0 where
   pub book-good : goodBook book ≡ true
   pub all-ready : AllReady book
   pub call-good : goodCall call ≡ true
   pub no-sender : call .end ≡ sendingEnd → ⊥
   pub half-rate : call .terms .rate ≡ halfRate
+  pub strictly : call .end ≡ receivingEnd → call .terms .strictness ≡ strict
 
 -- before any line
 pub first-sound : Sound (replicate bookOctets 0) noCall
@@ -63,7 +65,12 @@ first-sound =
       call-good = closed-good;
       no-sender = λ e. absurd (omega arith);
       half-rate = refl;
+      strictly = λ e. absurd (omega arith);
     }
+
+-- its call never carries a vector over from the session before
+pub never-carries : {book : List ℕ} {call : Call} → Sound book call → call .known ≡ carriedVector → ⊥
+never-carries {call = call} s k = let d = carries call (s .call-good) k in omega (arith, s .strictly (d .0), d .2)
 
 -- ---- a K
 
@@ -78,70 +85,79 @@ module _ (b : List ℕ) (c i : ℕ) (key : List ℕ) where
   load-ready : AllReady b → AllReady (loadOf b c i key .1)
   load-ready all = load-ways b c i key (λ o. AllReady (o .1)) (λ y. all) (λ k e begun m z. all) (λ k e added m w. all) (λ k e after m r. begun-ready all m r)
 
--- ---- no operation of a record makes a sender, or a call at full rate
+-- ---- no operation of a record makes a sender, or a call at full rate or by default
 
--- a receiver's at half rate, or none
-abbrev HalfHeard : Call → Type 0
-HalfHeard c = (c .end ≡ sendingEnd → ⊥) × (c .terms .rate ≡ halfRate)
+-- a strict receiver's at half rate, or none: by its end and terms
+abbrev HeardBy : ℕ → Terms → Type 0
+HeardBy end t = (end ≡ sendingEnd → ⊥) × (t .rate ≡ halfRate) × (end ≡ receivingEnd → t .strictness ≡ strict)
 
-one-of-two : (t : Bool) (x y : Standing) → HalfHeard (written x) → HalfHeard (written y) → HalfHeard (written (pick t x y))
+abbrev Heard : Call → Type 0
+Heard c = HeardBy (c .end) (c .terms)
+
+none-heard : Heard noCall
+none-heard = (λ e. omega arith, refl, λ e. absurd (omega arith))
+
+one-of-two : (t : Bool) (x y : Standing) → Heard (written x) → Heard (written y) → Heard (written (pick t x y))
 one-of-two true x y p q = p
 one-of-two false x y p q = q
 
-module _ (c : Call) (good : goodCall c ≡ true) (h : HalfHeard c) where
+module _ (c : Call) (good : goodCall c ≡ true) (h : Heard c) where
   -- by what it stands for, closed or receiving
-  by-receiver : (f : Standing → Standing) → HalfHeard (written (f closed))
-      → ((t : Terms) → t .rate ≡ halfRate → (p : ℕ) (k : Known) → HalfHeard (written (f (receiving t p k)))) → HalfHeard (written (f (standing c)))
-  by-receiver f p q = by-stands c good (λ o e s. rw s p) (λ o e s. absurd (h .0 e)) (λ o e s. rw s (q (c .terms) (h .1) (c .position) (knownBy (c .known) (c .vector))))
+  by-receiver : (f : Standing → Standing) → Heard (written (f closed))
+      → ((t : Terms) → HeardBy receivingEnd t → (p : ℕ) (k : Known) → Heard (written (f (receiving t p k)))) → Heard (written (f (standing c)))
+  by-receiver f p q = by-stands c good (λ o e s. rw s p) (λ o e s. absurd (h .0 e)) (λ o e s. rw s (q (c .terms) (rw e at h) (c .position) (knownBy (c .known) (c .vector))))
 
-  slot-ends : HalfHeard (written (slotOn (standing c)))
+  slot-ends : Heard (written (slotOn (standing c)))
   unfolding slotOn
   slot-ends =
-      by-receiver slotOn (λ e. omega arith, refl)
-      (λ t half p k. one-of-two (ltb (p + 1) (sessionSlots (t .cipher))) (receiving t (p + 1) k) (receiving t 0 (untold (t .cipher))) (λ e. omega arith, half) (λ e. omega arith, half))
+      by-receiver slotOn none-heard
+      (λ t r p k. one-of-two (ltb (p + 1) (sessionSlots (t .cipher))) (receiving t (p + 1) k) (receiving t 0 (ridden t k)) r r)
 
-  unless : {S : Type 0} (f : S → Call) (before : S) (rs : Refusals) (last : Answer × S) → HalfHeard (f before) → HalfHeard (f (last .1)) → HalfHeard (f (settled before rs last .1))
-  unless f before rs last p q = by-refusals (λ o. HalfHeard (f (o .1))) before rs last (λ a m. p) (λ n. q)
+  unless : {S : Type 0} (f : S → Call) (before : S) (rs : Refusals) (last : Answer × S) → Heard (f before) → Heard (f (last .1)) → Heard (f (settled before rs last .1))
+  unless f before rs last p q = by-refusals (λ o. Heard (f (o .1))) before rs last (λ a m. p) (λ n. q)
 
-  end-ends : HalfHeard (endOf c .1)
+  end-ends : Heard (endOf c .1)
   unfolding endOf
-  end-ends = unless (λ d. d) c (endRefusals (standing c)) (Done, written closed) h (λ e. omega arith, refl)
+  end-ends = unless (λ d. d) c (endRefusals (standing c)) (Done, written closed) h none-heard
 
-  lost-ends : HalfHeard (lostOf c .1)
+  lost-ends : Heard (lostOf c .1)
   unfolding lostOf
   lost-ends = unless (λ d. d) c (lostRefusals (standing c)) (Done, written (slotOn (standing c))) h slot-ends
 
-  voice-ends : (mask : ℕ) (frame : List ℕ) → HalfHeard (voiceOf c mask frame .1 .0)
+  voice-ends : (mask : ℕ) (frame : List ℕ) → Heard (voiceOf c mask frame .1 .0)
   unfolding voiceBy
   voice-ends mask frame =
       unless (λ (d : Call × List ℕ). d .0) (c, frame) (voiceRefusals (standing c) mask frame) (voiceAfter streamOf mask frame (standing c)) h slot-ends
 
-  announce-ends : (w : List ℕ) → HalfHeard (announceOf c w .1)
+  announce-ends : (w : List ℕ) → Heard (announceOf c w .1)
   unfolding announceOf
   announce-ends w =
       unless (λ d. d) c (announceRefusals (standing c) w) (Done, written (withVector w (standing c))) h
-      (by-receiver (withVector w) (λ e. omega arith, refl) (λ t half p k. (λ e. omega arith, half)))
+      (by-receiver (withVector w) none-heard (λ t r p k. r))
 
   module _ (n i : ℕ) (b : List ℕ) where
     abbrev terms : Terms
-    terms = termsOf n (keyFor b n i) halfRate
+    terms = termsOf n (keyFor b n i) halfRate strict
 
-    open-ends : (w : List ℕ) → HalfHeard (openOf c n i halfRate w b .1)
+    asked : HeardBy receivingEnd terms
+    asked = (λ e. omega arith, refl, λ e. refl)
+
+    open-ends : (w : List ℕ) → Heard (openOf c n i halfRate strict w b .1)
     unfolding openOf
-    open-ends w = unless (λ d. d) c (begunRefusals receivingEnd (standing c) n i halfRate w b) (Done, written (begun receivingEnd terms (sessionVector n w))) h (λ e. omega arith, refl)
+    open-ends w = unless (λ d. d) c (begunRefusals receivingEnd (standing c) n i halfRate strict w b) (Done, written (begun receivingEnd terms (sessionVector n w))) h asked
 
-    join-ends : HalfHeard (joinOf c n i halfRate b .1)
+    join-ends : Heard (joinOf c n i halfRate strict b .1)
     unfolding joinOf
-    join-ends = unless (λ d. d) c (joinRefusals (standing c) n i halfRate b) (Done, written (joined terms)) h (λ e. omega arith, refl)
+    join-ends = unless (λ d. d) c (joinRefusals (standing c) n i halfRate strict b) (Done, written (joined terms)) h asked
 
 -- ---- so each record keeps them
 
 -- the book stays
-with-call : {book : List ℕ} {call after : Call} → Sound book call → goodCall after ≡ true → HalfHeard after → Sound book after
-with-call s g h = record { book-good = s .book-good; all-ready = s .all-ready; call-good = g; no-sender = h .0; half-rate = h .1 }
+with-call : {book : List ℕ} {call after : Call} → Sound book call → goodCall after ≡ true → Heard after → Sound book after
+with-call s g h = record { book-good = s .book-good; all-ready = s .all-ready; call-good = g; no-sender = h .0; half-rate = h .1; strictly = h .2 }
 
-heard : {book : List ℕ} {call : Call} → Sound book call → HalfHeard call
-heard s = (s .no-sender, s .half-rate)
+heard : {book : List ℕ} {call : Call} → Sound book call → Heard call
+heard s = (s .no-sender, s .half-rate, s .strictly)
 
 pub step-sound : (r : Record) {book : List ℕ} {call : Call} → Sound book call → Sound (stepOf r book call .book) (stepOf r book call .call)
 unfolding stepOf
@@ -152,9 +168,10 @@ step-sound (Load c i key) {book} {call} s =
       call-good = s .call-good;
       no-sender = s .no-sender;
       half-rate = s .half-rate;
+      strictly = s .strictly;
     }
-step-sound (Open c i w) {book} {call} s = with-call s (open-good call (s .call-good) c i halfRate book w) (open-ends call (s .call-good) (heard s) c i book w)
-step-sound (Join c i) {book} {call} s = with-call s (join-good call (s .call-good) c i halfRate book) (join-ends call (s .call-good) (heard s) c i book)
+step-sound (Open c i w) {book} {call} s = with-call s (open-good call (s .call-good) c i halfRate book strict w) (open-ends call (s .call-good) (heard s) c i book w)
+step-sound (Join c i) {book} {call} s = with-call s (join-good call (s .call-good) c i halfRate book strict) (join-ends call (s .call-good) (heard s) c i book)
 step-sound (Voice mask frame) {book} {call} s =
     with-call s (voice-good call (s .call-good) (λ e d. absurd (s .no-sender e)) mask frame) (voice-ends call (s .call-good) (heard s) mask frame)
 step-sound (Announce w) {book} {call} s = with-call s (announce-good call (s .call-good) w) (announce-ends call (s .call-good) (heard s) w)

@@ -16,7 +16,7 @@ use Rattle.answers.specs.Numbers.{numberOf, isDone}
 use Rattle.answers.proofs.OutcomeLaws.{Refusal, NoneHolds, refused-alike}
 use Rattle.sizes.specs.Ciphers.{vectorOctets, scrambles}
 use Rattle.voice.specs.declared.call.Call.{Call}
-use Rattle.voice.specs.Call.{unknownVector, goodCall, standing, knows, endOf}
+use Rattle.voice.specs.Call.{unknownVector, strict, goodCall, standing, knows, endOf}
 use Rattle.sizes.specs.Frame.{halfRate, isRate}
 use Rattle.sizes.proofs.SizeLaws.{same-rate}
 use Rattle.voice.specs.Opening.{openOf, joinOf}
@@ -132,11 +132,11 @@ module _ (p : Parsed) (octets book : List ℕ) (call : Call) where
   unfolding stepOf
   load-is e = rw e
 
-  pub open-is : {c i : ℕ} → p ≡ code.Open c i → stepOf (recordIn p octets) book call ≡ callStep book (openOf call c i halfRate (take vectorOctets octets) book)
+  pub open-is : {c i : ℕ} → p ≡ code.Open c i → stepOf (recordIn p octets) book call ≡ callStep book (openOf call c i halfRate strict (take vectorOctets octets) book)
   unfolding stepOf
   open-is e = rw e
 
-  pub join-is : {c i : ℕ} → p ≡ code.Join c i → stepOf (recordIn p octets) book call ≡ callStep book (joinOf call c i halfRate book)
+  pub join-is : {c i : ℕ} → p ≡ code.Join c i → stepOf (recordIn p octets) book call ≡ callStep book (joinOf call c i halfRate strict book)
   unfolding stepOf
   join-is e = rw e
 

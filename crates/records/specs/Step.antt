@@ -7,7 +7,7 @@ use Rattle.answers.specs.Numbers.{isDone}
 use Rattle.answers.specs.declared.Answer.the-variants as answer
 use Rattle.sizes.specs.Frame.{halfRate}
 use Rattle.voice.specs.declared.call.Call.{Call}
-use Rattle.voice.specs.Call.{endOf}
+use Rattle.voice.specs.Call.{strict, endOf}
 use Rattle.voice.specs.Opening.{openOf, joinOf}
 use Rattle.voice.specs.Slot.{lostOf, voiceOf}
 use Rattle.voice.specs.Vector.{announceOf}
@@ -32,11 +32,11 @@ callStep book o = record { answer = o .0; book = book; call = o .1; frame = [] }
 abbrev pub slotStep : List ℕ → Answer × (Call × List ℕ) → Effect
 slotStep book o = record { answer = o .0; book = book; call = o .1 .0; frame = pick (isDone (o .0)) (o .1 .1) [] }
 
--- a call of the receiver program is at half rate
+-- a call of the receiver program is at half rate, and strict: a recorder files nothing that wasn't announced (document 02, W-206)
 unfoldable pub stepOf : Record → List ℕ → Call → Effect
 stepOf (Load c i key) book call = bookStep call (loadOf book c i key)
-stepOf (Open c i vector) book call = callStep book (openOf call c i halfRate vector book)
-stepOf (Join c i) book call = callStep book (joinOf call c i halfRate book)
+stepOf (Open c i vector) book call = callStep book (openOf call c i halfRate strict vector book)
+stepOf (Join c i) book call = callStep book (joinOf call c i halfRate strict book)
 stepOf (Voice mask frame) book call = slotStep book (voiceOf call mask frame)
 stepOf (Announce vector) book call = callStep book (announceOf call vector)
 stepOf Lost book call = callStep book (lostOf call)

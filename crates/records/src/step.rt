@@ -20,6 +20,7 @@ use sizes::cipher::VECTOR_OCTETS;
 use sizes::frame::HALF_FRAME_OCTETS;
 use sizes::frame::Half;
 use voice::call::Call;
+use voice::call::STRICT;
 use voice::call::UNKNOWN;
 use voice::call::end;
 use voice::call::good_call;
@@ -160,10 +161,18 @@ pub fn step(
             made,
         ),
         Parsed::Open { cipher, id } => anew(
-            open(call, cipher, id, Half::RATE, &octets[..VECTOR_OCTETS], book),
+            open(
+                call,
+                cipher,
+                id,
+                Half::RATE,
+                STRICT,
+                &octets[..VECTOR_OCTETS],
+                book,
+            ),
             made,
         ),
-        Parsed::Join { cipher, id } => anew(join(call, cipher, id, Half::RATE, book), made),
+        Parsed::Join { cipher, id } => anew(join(call, cipher, id, Half::RATE, STRICT, book), made),
         Parsed::Voice { mask } => voice_slot(
             call,
             mask,

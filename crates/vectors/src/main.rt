@@ -182,7 +182,7 @@ fn main() {
     run_both(
         Set::HeardSlots,
         b"voice-slots.tsv",
-        b"The same, heard",
+        b"The same, heard with no announcement past the first session",
         b"voice-slots-one-bit-wrong.tsv",
     );
     run_both(

@@ -1,4 +1,5 @@
-// Voice slots at both rates, turned by a sender that went through the slots before them, or by a receiver that stands where it stood.
+// Voice slots at both rates, turned by a sender or a receiver that went through the slots before them itself. The receiver is told the first session's vector
+// alone: by default it goes on over each announcement that does not come.
 use crate::row::field;
 use crate::row::first_octets_of;
 use crate::row::has_octets;
@@ -6,6 +7,7 @@ use crate::row::number;
 use crate::row::octets_of;
 use answers::Answer;
 use voice::call::Call;
+use voice::call::DEFAULT;
 use voice::call::RECEIVING;
 use voice::call::SENDING;
 use voice::call::Stepped;
@@ -15,33 +17,20 @@ use voice::slot::voice;
 
 // The call after so many slots in which no word is turned, or the first answer that is not 0.
 fn go_through(call: Call, slots: u8, frame: &mut [u8]) -> Stepped {
-    let mut sender = call;
+    let mut gone = call;
     let mut k = 0;
     while k < slots {
-        let sent = voice(sender, 0, frame);
-        let answer = sent.answer;
+        let stepped = voice(gone, 0, frame);
+        let answer = stepped.answer;
         if answer.number() != 0 {
-            return sent;
+            return stepped;
         }
-        sender = sent.call;
+        gone = stepped.call;
         k += 1;
     }
     Stepped {
         answer: Answer::Done,
-        call: sender,
-    }
-}
-
-// A receiver of the same session at the same position.
-fn receiver_of(sender: Call) -> Call {
-    let terms = sender.terms;
-    let vector = sender.vector;
-    Call {
-        end: RECEIVING,
-        terms,
-        position: sender.position,
-        known: TOLD,
-        vector,
+        call: gone,
     }
 }
 
@@ -58,27 +47,30 @@ fn turns(row: &[u8], call: Call, mask: u8, frame: &mut [u8]) -> bool {
     has_octets(row, 7, frame)
 }
 
-// Whether one of the ends does, after the slots that come before. The lent frame is zeros.
-fn end_turns(row: &[u8], heard: bool, call: Call, mask: u8, frame: &mut [u8]) -> bool {
+// Whether it does after the slots that come before. The lent frame is zeros.
+fn turns_after(row: &[u8], call: Call, mask: u8, frame: &mut [u8]) -> bool {
     let gone = go_through(call, number(row, 4), frame);
     let answer = gone.answer;
     if answer.number() != 0 {
         return false;
     }
-    let sender = gone.call;
-    if heard {
-        return turns(row, receiver_of(sender), mask, frame);
-    }
-    turns(row, sender, mask, frame)
+    turns(row, gone.call, mask, frame)
 }
 
 // The same in as many of the lent octets as the frame of the row has. A call refuses a frame that has another length than its rate's.
-fn end_turns_in(row: &[u8], heard: bool, call: Call, mask: u8, room: &mut [u8]) -> bool {
+fn turns_in(row: &[u8], call: Call, mask: u8, room: &mut [u8]) -> bool {
     let length = field(row, 6).len() / 2;
     if length > room.len() {
         return false;
     }
-    end_turns(row, heard, call, mask, &mut room[0..length])
+    turns_after(row, call, mask, &mut room[0..length])
+}
+
+fn end_of(heard: bool) -> u8 {
+    if heard {
+        return RECEIVING;
+    }
+    SENDING
 }
 
 // A row has the cipher type, the rate, the key, the vector of the call's first session, how many slots come before, the mask, the frame and the turned frame:
@@ -97,16 +89,17 @@ pub fn holds(row: &[u8], heard: bool) -> bool {
         return false;
     }
     let call = Call {
-        end: SENDING,
+        end: end_of(heard),
         terms: Terms {
             cipher: number(row, 0),
             key,
             rate: number(row, 1),
+            strictness: DEFAULT,
         },
         position: 0,
         known: TOLD,
         vector,
     };
     let mut frame = [0u8; 36];
-    end_turns_in(row, heard, call, mask[0], &mut frame)
+    turns_in(row, call, mask[0], &mut frame)
 }

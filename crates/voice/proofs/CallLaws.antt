@@ -10,7 +10,7 @@ use borrow.Author.Tests.{eq-eqb, ne-eqb, eqb-true, leb-true, ltb-true}
 use Rattle.octets.specs.Tests.{pick}
 use Rattle.octets.specs.Lists.{allZero}
 use Rattle.octets.proofs.ListLaws.{zeros-are}
-use Rattle.octets.proofs.TestLaws.{or-right, or-left, not-so, every-at}
+use Rattle.octets.proofs.TestLaws.{and-left, or-right, or-left, not-so, every-at}
 use Rattle.sizes.specs.Ciphers.{sessionSlots, vectorOctets, noVector, scrambles}
 use Rattle.sizes.specs.Frame.{isRate}
 use Rattle.answers.specs.declared.Answer.{Answer}
@@ -19,31 +19,39 @@ use Rattle.answers.proofs.OutcomeLaws.{NoneHolds, none-settles, Refuses, answer
 use Rattle.voice.specs.declared.call.Terms.{Terms}
 use Rattle.voice.specs.declared.call.Call.{Call}
 use Rattle.ciphers.specs.Keys.{keyRight}
-use Rattle.voice.specs.Call.{closedEnd, sendingEnd, receivingEnd, unknownVector, toldVector, vectorRight, closedTests, openTests, isClosed, isOpen, goodCall, Known, isKnown, knownNumber, knownVector, knownBy, unknown, told, untold, Standing, closed, bad, sending, receiving, standing, callAt, widthOf, written, isBad, widthIn, stands, receives, knows, endRefusals, endOf}
+use Rattle.voice.specs.Call.{closedEnd, sendingEnd, receivingEnd, unknownVector, toldVector, carriedVector, byDefault, termsRight, vectorRight, closedTests, openTests, isClosed, isOpen, goodCall, Known, isKnown, knownNumber, knownVector, knownBy, unknown, told, carried, isTold, untold, Standing, closed, bad, sending, receiving, standing, callAt, widthOf, written, isBad, widthIn, stands, receives, knows, endRefusals, endOf}
 
 -- ---- what is known of a vector
 
 -- a sender's vector is told
-pub sender-told : (c known : ℕ) (zeros : Bool) → vectorRight sendingEnd c known zeros ≡ true → known ≡ toldVector
+pub sender-told : (c m known : ℕ) (zeros : Bool) → vectorRight sendingEnd c m known zeros ≡ true → known ≡ toldVector
 unfolding vectorRight
-sender-told c known zeros = go (scrambles c) (eqb known toldVector) refl
+sender-told c m known zeros = go (scrambles c) (eqb known toldVector) refl
   where
     go : (s t : Bool) → eqb known toldVector ≡ t → pick s (t && zeros) (t && not zeros) ≡ true → known ≡ toldVector
     go s true q e = eqb-true _ _ q
     go true false q e = absurd (false≢true e)
     go false false q e = absurd (false≢true e)
 
-module _ (c known : ℕ) (zeros : Bool) (right : vectorRight receivingEnd c known zeros ≡ true) where
-  -- a receiver's is told or unknown
-  pub or-told : (known ≡ unknownVector → ⊥) → known ≡ toldVector
+module _ (c m known : ℕ) (zeros : Bool) (right : vectorRight receivingEnd c m known zeros ≡ true) where
+  -- a receiver's is unknown, carried, which is no strict one's, or told
+  pub or-told : (known ≡ unknownVector → ⊥) → (known ≡ carriedVector → ⊥) → known ≡ toldVector
   unfolding vectorRight
-  or-told n = go (scrambles c) (eqb known toldVector) (ne-eqb _ _ n) refl right
+  or-told n k = go (scrambles c) (eqb known toldVector) (ne-eqb _ _ n) (ne-eqb _ _ k) refl right
     where
-      go : (s t : Bool) → eqb known unknownVector ≡ false → eqb known toldVector ≡ t
-          → pick s (t && zeros) (pick (eqb known unknownVector) zeros t) ≡ true → known ≡ toldVector
-      go s true u q e = eqb-true _ _ q
-      go true false u q e = absurd (false≢true e)
-      go false false u q e = absurd (false≢true (rw u at e))
+      go : (s t : Bool) → eqb known unknownVector ≡ false → eqb known carriedVector ≡ false → eqb known toldVector ≡ t
+          → pick s (t && zeros) (pick (eqb known unknownVector) zeros (pick (eqb known carriedVector) (eqb m byDefault) t)) ≡ true → known ≡ toldVector
+      go s true u w q e = eqb-true _ _ q
+      go true false u w q e = absurd (false≢true e)
+      go false false u w q e = absurd (false≢true (rw (u, w) at e))
+
+  pub carried-default : known ≡ carriedVector → (scrambles c ≡ false) × (m ≡ byDefault)
+  unfolding vectorRight
+  carried-default k = go (scrambles c) refl (rw k at right)
+    where
+      go : (s : Bool) → scrambles c ≡ s → pick s false (eqb m byDefault) ≡ true → (scrambles c ≡ false) × (m ≡ byDefault)
+      go true q e = absurd (false≢true e)
+      go false q e = (q, eqb-true _ _ e)
 
   -- and unknown it is zeros
   pub unknown-zeros : known ≡ unknownVector → zeros ≡ true
@@ -55,31 +63,50 @@ module _ (c known : ℕ) (zeros : Bool) (right : vectorRight receivingEnd c know
       go false e = e
 
 -- by the number in the struct
-pub by-known : (P : ℕ → Type 0) (c known : ℕ) (zeros : Bool) → vectorRight receivingEnd c known zeros ≡ true
-    → ((zeros ≡ true) → P unknownVector) → P toldVector → P known
-by-known P c zero zeros right u t = u (unknown-zeros c zero zeros right refl)
-by-known P c (suc zero) zeros right u t = t
-by-known P c (suc (suc n)) zeros right u t =
-    let e : suc (suc n) ≡ toldVector = or-told c (suc (suc n)) zeros right (λ z. omega arith) in
+pub by-known : (P : ℕ → Type 0) (c m known : ℕ) (zeros : Bool) → vectorRight receivingEnd c m known zeros ≡ true
+    → ((zeros ≡ true) → P unknownVector) → P toldVector → P carriedVector → P known
+by-known P c m zero zeros right u t k = u (unknown-zeros c m zero zeros right refl)
+by-known P c m (suc zero) zeros right u t k = t
+by-known P c m (suc (suc zero)) zeros right u t k = k
+by-known P c m (suc (suc (suc n))) zeros right u t k =
+    let e : suc (suc (suc n)) ≡ toldVector = or-told c m (suc (suc (suc n))) zeros right (λ z. omega arith) (λ z. omega arith) in
     absurd (omega arith)
 
 pub known-back : (k : Known) → knownBy (knownNumber k) (knownVector k) ≡ k
 known-back unknown = refl
 known-back (told v) = refl
+known-back (carried v) = refl
 
 pub is-known : (n : ℕ) (v : List ℕ) → (isKnown (knownBy n v) ≡ not (eqb n unknownVector)) × (not (isKnown (knownBy n v)) ≡ eqb n unknownVector)
-is-known n v = go (eqb n unknownVector)
+is-known n v = go (eqb n unknownVector) (eqb n toldVector)
   where
-    go : (t : Bool) → (isKnown (pick t unknown (told v)) ≡ not t) × (not (isKnown (pick t unknown (told v))) ≡ t)
-    go true = (refl, refl)
-    go false = (refl, refl)
+    go : (t u : Bool) → (isKnown (pick t unknown (pick u (told v) (carried v))) ≡ not t) × (not (isKnown (pick t unknown (pick u (told v) (carried v)))) ≡ t)
+    go true u = (refl, refl)
+    go false true = (refl, refl)
+    go false false = (refl, refl)
+
+pub known-vector : (n : ℕ) (v : List ℕ) → eqb n unknownVector ≡ false → knownVector (knownBy n v) ≡ v
+known-vector n v e = rw e (go (eqb n toldVector))
+  where
+    go : (u : Bool) → knownVector (pick u (told v) (carried v)) ≡ v
+    go true = refl
+    go false = refl
+
+pub is-told : (n : ℕ) (v : List ℕ) → isTold (knownBy n v) ≡ eqb n toldVector
+is-told n v = go (eqb n unknownVector) (eqb n toldVector) refl refl
+  where
+    go : (t u : Bool) → eqb n unknownVector ≡ t → eqb n toldVector ≡ u → isTold (pick t unknown (pick u (told v) (carried v))) ≡ u
+    go true true p q = absurd (let a = eqb-true n unknownVector p in let b = eqb-true n toldVector q in omega arith)
+    go true false p q = refl
+    go false true p q = refl
+    go false false p q = refl
 
 -- a receiver's struct, by what is known of its vector
-pub receiver-is : (t : Terms) (p known : ℕ) (v : List ℕ) → length v ≡ vectorOctets → vectorRight receivingEnd (t .cipher) known (allZero v) ≡ true
+pub receiver-is : (t : Terms) (p known : ℕ) (v : List ℕ) → length v ≡ vectorOctets → vectorRight receivingEnd (t .cipher) (t .strictness) known (allZero v) ≡ true
     → callAt receivingEnd t p known v ≡ written (receiving t p (knownBy known v))
 receiver-is t p known v l right =
-    by-known (λ n. callAt receivingEnd t p n v ≡ written (receiving t p (knownBy n v))) (t .cipher) known (allZero v) right
-    (λ z. ap (callAt receivingEnd t p unknownVector) (zeros-are v vectorOctets l z)) refl
+    by-known (λ n. callAt receivingEnd t p n v ≡ written (receiving t p (knownBy n v))) (t .cipher) (t .strictness) known (allZero v) right
+    (λ z. ap (callAt receivingEnd t p unknownVector) (zeros-are v vectorOctets l z)) refl refl
 
 -- and of one that was told no vector
 pub untold-is : (t : Terms) (p : ℕ) {n : ℕ} → n ≡ knownNumber (untold (t .cipher)) → callAt receivingEnd t p n noVector ≡ written (receiving t p (untold (t .cipher)))
@@ -122,11 +149,15 @@ module _ (c : Call) where
   unfolding isOpen openTests
   open-key = every-at (openTests c) 2
 
-  pub open-rate : isOpen c ≡ true → isRate (c .terms .rate) ≡ true
+  pub open-terms : isOpen c ≡ true → termsRight (c .end) (c .terms .rate) (c .terms .strictness) ≡ true
   unfolding isOpen openTests
-  open-rate = every-at (openTests c) 3
+  open-terms = every-at (openTests c) 3
 
-  pub open-vector : isOpen c ≡ true → vectorRight (c .end) (c .terms .cipher) (c .known) (allZero (c .vector)) ≡ true
+  open-rate : isOpen c ≡ true → isRate (c .terms .rate) ≡ true
+  unfolding termsRight
+  open-rate o = and-left _ _ (open-terms o)
+
+  pub open-vector : isOpen c ≡ true → vectorRight (c .end) (c .terms .cipher) (c .terms .strictness) (c .known) (allZero (c .vector)) ≡ true
   unfolding isOpen openTests
   open-vector = every-at (openTests c) 5
 
@@ -203,7 +234,7 @@ module _ (c : Call) where
     pub is-receiver : c .end ≡ receivingEnd → standing c ≡ receiving (c .terms) (c .position) (knownBy (c .known) (c .vector))
     is-receiver z = by-stands c good (λ o e s. absurd (omega arith)) (λ o e s. absurd (omega arith)) (λ o e s. s)
 
-    pub receiver-right : c .end ≡ receivingEnd → vectorRight receivingEnd (c .terms .cipher) (c .known) (allZero (c .vector)) ≡ true
+    pub receiver-right : c .end ≡ receivingEnd → vectorRight receivingEnd (c .terms .cipher) (c .terms .strictness) (c .known) (allZero (c .vector)) ≡ true
     receiver-right z = rw z at (open-vector c (open-by c good (λ e. omega arith)))
 
     -- a standing call is one or the other
@@ -236,10 +267,18 @@ module _ (c : Call) where
 
   closed-unknown : isClosed c ≡ true → c .known ≡ unknownVector
   unfolding isClosed closedTests
-  closed-unknown o = eqb-true _ _ (every-at (closedTests c) 4 o)
+  closed-unknown o = eqb-true _ _ (every-at (closedTests c) 5 o)
 
   pub open-told : isOpen c ≡ true → c .end ≡ sendingEnd → c .known ≡ toldVector
-  open-told o e = sender-told (c .terms .cipher) (c .known) (allZero (c .vector)) (rw e at (open-vector c o))
+  open-told o e = sender-told (c .terms .cipher) (c .terms .strictness) (c .known) (allZero (c .vector)) (rw e at (open-vector c o))
+
+  -- a good call that carries a vector is a receiver, by default, with DES or AES
+  pub carries : goodCall c ≡ true → c .known ≡ carriedVector → (c .end ≡ receivingEnd) × (scrambles (c .terms .cipher) ≡ false) × (c .terms .strictness ≡ byDefault)
+  carries good k =
+      by-stands c good (λ o e s. absurd (let u = closed-unknown o in omega arith)) (λ o e s. absurd (let t = open-told o e in omega arith))
+      (λ o e s.
+      let d = carried-default (c .terms .cipher) (c .terms .strictness) (c .known) (allZero (c .vector)) (receiver-right c good e) k in
+      (e, d .0, d .1))
 
   -- of a good call the field says it
   pub knows-is : goodCall c ≡ true → knows (standing c) ≡ not (eqb (c .known) unknownVector)
@@ -275,7 +314,10 @@ module _ (c : Call) where
   pub known-written : knows (standing c) ≡ true → written (standing c) ≡ c
   known-written k =
       by-stands c (knows-good k) (λ o e s. absurd (true≢false (sym k ∙ ap knows s))) (λ o e s. ap written s ∙ call-is e (open-told o e))
-      (λ o e s. let n = or-told (c .terms .cipher) (c .known) (allZero (c .vector)) (rw e at (open-vector c o)) (λ z. true≢false (sym k ∙ knows-no z)) in ap written s ∙ ap (λ (m : ℕ). written (receiving (c .terms) (c .position) (knownBy m (c .vector)))) n ∙ call-is e n)
+      (λ o e s.
+      ap written s
+      ∙ by-known (λ n. c .known ≡ n → written (receiving (c .terms) (c .position) (knownBy n (c .vector))) ≡ c) (c .terms .cipher) (c .terms .strictness) (c .known)
+      (allZero (c .vector)) (rw e at (open-vector c o)) (λ z n. absurd (true≢false (sym k ∙ knows-no n))) (call-is e) (call-is e) refl)
 
 -- ---- its end
 

@@ -1,7 +1,8 @@
 -- When a slot is done or held, an announcement taken and a next vector given, by the struct's own fields: in both directions. What a frame of another
--- length, too few lent octets and a number that is no rate get, and what start answers besides what open does. And nothing opens a call that stands.
+-- length, too few lent octets and a number that is no rate or no strictness get, and what start answers besides what open does. And nothing opens a call that stands.
 use mathlib.Core.Path.{_≡_, refl, sym, ap, _∙_}
 use mathlib.Core.Bool.{Bool, true, false, _&&_, not, true≢false}
+use mathlib.Core.Logic.{_⊎_, inl, inr}
 use mathlib.Core.List.{List}
 use Prim.Native.Nat.{ℕ, _≤_, _<_}
 use native.Mathlib.Decide.{decLt}
@@ -10,7 +11,8 @@ use lib.Dec.{ltb, eqb}
 use lib.ListN.{length}
 use borrow.Author.Tests.{eq-eqb, ne-eqb, eqb-true, lt-ltb, le-ltb, ltb-false, not-true, not-false}
 use Rattle.octets.specs.Tests.{pick}
-use Rattle.octets.proofs.TestLaws.{and-left, and-right}
+use Rattle.octets.specs.Lists.{allZero}
+use Rattle.octets.proofs.TestLaws.{and-left, and-right, and-false-r}
 use Rattle.generator.specs.Generator.{nextVector}
 use Rattle.answers.specs.declared.Answer.{Answer}
 use Rattle.answers.specs.declared.Answer.the-variants.{Done, Held, WrongLength, OutOfRange, ZeroVector}
@@ -24,11 +26,11 @@ use Rattle.openings.proofs.LadderLaws.{vector-from-two, sends-more}
 use Rattle.voice.specs.declared.call.Call.{Call}
 use Rattle.octets.specs.Bits.{bit}
 use Rattle.sizes.specs.Frame.{isRate, width, frameOctets, sessionOctets}
-use Rattle.voice.specs.Call.{closedEnd, sendingEnd, receivingEnd, unknownVector, goodCall, standing, termsOf, widthOf, written, isBad, widthIn, stands}
+use Rattle.voice.specs.Call.{closedEnd, sendingEnd, receivingEnd, unknownVector, toldVector, carriedVector, byDefault, termsRight, goodCall, standing, termsOf, callAt, widthOf, written, isBad, widthIn, stands}
 use Rattle.voice.specs.Opening.{joinRefusals, begunRefusals, begun, begunOf, openOf, startOf, joined, joinOf}
 use Rattle.voice.specs.Slot.{topMask, voiceRefusals, streamOf, voiceBy, voiceOf, voiceByOctets}
 use Rattle.voice.specs.Vector.{awaits, withVector, announceRefusals, announceOf, generates, following, nextRefusals, nextVectorOf}
-use Rattle.voice.proofs.CallLaws.{is-sender, is-known, by-stands, good-by, not-bad, stands-some, width-in, is-receiver, knows-is}
+use Rattle.voice.proofs.CallLaws.{is-sender, is-told, by-known, carried-default, receiver-right, by-stands, good-by, not-bad, stands-some, width-in, is-receiver, knows-is}
 use Rattle.voice.proofs.SlotLaws.{none-long, none-good, none-open, taken-under-two, voice-refused, voice-taken, by-refused, by-long, by-short, answer-taken}
 use Rattle.voice.proofs.VectorLaws.{announce-done}
 
@@ -128,45 +130,63 @@ module _ (session : List ℕ) (c : Call) (mask : ℕ) (frame : List ℕ) where
       go (yes t) = rw (lt-ltb _ _ t) (sym (by-short session c mask frame (voice-taken (λ d. bit session) c mask frame t) (omega (arith, asked t))))
       go (no t) = rw (le-ltb (numberOf (lent .0)) 2 (omega arith)) (by-refused session c mask frame (omega arith))
 
--- whatever else is asked, where book and vector have their lengths: any rate but 0 and 1 is 3
-module _ (c : Call) (n i r : ℕ) (b : List ℕ) (m : length b ≡ 576) (h : 2 ≤ r) where
-  no-rate : isRate r ≡ false
-  unfolding isRate
-  no-rate = rw (ne-eqb r 0 (λ e. omega (arith, e)), ne-eqb r 1 (λ e. omega (arith, e)))
+-- whatever else is asked, where book and vector have their lengths: any rate but 0 and 1 is 3, and so is any strictness that a receiver is given
+module _ (c : Call) (n i r m : ℕ) (b : List ℕ) (k : length b ≡ 576) where
+  no-terms : (end : ℕ) → (2 ≤ r) ⊎ (2 ≤ m) → termsRight end r m ≡ false
+  unfolding termsRight isRate
+  no-terms end (inl h) = rw (ne-eqb r 0 (λ e. omega (arith, e)), ne-eqb r 1 (λ e. omega (arith, e)))
+  no-terms end (inr h) = rw (ne-eqb m 0 (λ e. omega (arith, e)), ne-eqb m 1 (λ e. omega (arith, e)), and-false-r)
 
-  pub join-no-rate : joinOf c n i r b ≡ (OutOfRange, c)
+  pub join-out-of-range : (2 ≤ r) ⊎ (2 ≤ m) → joinOf c n i r m b ≡ (OutOfRange, c)
   unfolding joinOf joinRefusals keyRefusals
-  join-no-rate = rw (eq-eqb _ _ m, no-rate)
+  join-out-of-range h = rw (eq-eqb _ _ k, no-terms receivingEnd h)
 
   module _ (w : List ℕ) (l : length w ≡ 8) where
-    begin-no-rate : (end : ℕ) → begunOf end c n i r w b ≡ (OutOfRange, c)
+    begin-out-of-range : (end : ℕ) → (2 ≤ r) ⊎ (2 ≤ m) → begunOf end c n i r m w b ≡ (OutOfRange, c)
     unfolding begunRefusals vectorRefusals keyRefusals
-    begin-no-rate end = rw (eq-eqb _ _ l, eq-eqb _ _ m, no-rate)
+    begin-out-of-range end h = rw (eq-eqb _ _ l, eq-eqb _ _ k, no-terms end h)
 
-    pub open-no-rate : openOf c n i r w b ≡ (OutOfRange, c)
+    pub open-out-of-range : (2 ≤ r) ⊎ (2 ≤ m) → openOf c n i r m w b ≡ (OutOfRange, c)
     unfolding openOf
-    open-no-rate = begin-no-rate receivingEnd
+    open-out-of-range = begin-out-of-range receivingEnd
 
-    pub start-no-rate : startOf c n i r w b ≡ (OutOfRange, c)
-    unfolding startOf
-    start-no-rate = begin-no-rate sendingEnd
+pub start-out-of-range : (c : Call) (n i r : ℕ) (b : List ℕ) → length b ≡ 576 → (w : List ℕ) → length w ≡ 8 → 2 ≤ r → startOf c n i r w b ≡ (OutOfRange, c)
+unfolding startOf
+start-out-of-range c n i r b k w l h = begin-out-of-range c n i r byDefault b k w l sendingEnd (inl h)
 
 -- ---- an announcement
 
--- eight octets, zeros or not, and a good receiving call, DES or AES, at position 0 with its vector unknown
+-- what a receiver stands with that was told no vector of its session: none, or by default a carried one
+abbrev pub Untold : Call → Type 0
+Untold c = (c .known ≡ unknownVector) ⊎ ((c .known ≡ carriedVector) × (c .terms .strictness ≡ byDefault))
+
+-- eight octets, zeros or not, and a good receiving call, DES or AES, at position 0 of a session of which it was told no vector
 pub record Timely (c : Call) (w : List ℕ) : Type 0 where
   pub long : length w ≡ vectorOctets
   pub good : goodCall c ≡ true
   pub receives : c .end ≡ receivingEnd
   pub vectored : scrambles (c .terms .cipher) ≡ false
   pub starts : c .position ≡ 0
-  pub unknown : c .known ≡ unknownVector
+  pub untold : Untold c
+
+-- a good receiver's vector is so, or it was told
+or-untold : (c : Call) → goodCall c ≡ true → c .end ≡ receivingEnd → (c .known ≡ toldVector → ⊥) → Untold c
+or-untold c good r =
+    let right = receiver-right c good r in
+    by-known (λ n. c .known ≡ n → (n ≡ toldVector → ⊥) → Untold c) (c .terms .cipher) (c .terms .strictness) (c .known) (allZero (c .vector)) right
+    (λ z e n. inl e) (λ e n. absurd (n refl))
+    (λ e n. inr (e, carried-default (c .terms .cipher) (c .terms .strictness) (c .known) (allZero (c .vector)) right e .1)) refl
+
+untold-not : (c : Call) → Untold c → eqb (c .known) toldVector ≡ false
+untold-not c (inl e) = rw e
+untold-not c (inr e) = rw (e .0)
 
 module _ (c : Call) (w : List ℕ) where
   awaited : Timely c w → awaits (standing c) ≡ true
-  awaited t = rw (is-receiver c (t .good) (t .receives), t .vectored, eq-eqb _ _ (t .starts), t .unknown)
+  awaited t =
+      rw (is-receiver c (t .good) (t .receives), t .vectored, eq-eqb _ _ (t .starts), is-told (c .known) (c .vector), untold-not c (t .untold))
 
-  timely : NoneHolds (announceRefusals (standing c) w) → Timely c w
+  pub timely : NoneHolds (announceRefusals (standing c) w) → Timely c w
   unfolding announceRefusals
   timely n =
       by-stands c good (λ o e s. absurd (true≢false (sym waits ∙ ap awaits s))) (λ o e s. absurd (true≢false (sym waits ∙ ap awaits s)))
@@ -179,7 +199,7 @@ module _ (c : Call) (w : List ℕ) where
         receives = e;
         vectored = not-true _ (and-left (not (scrambles (c .terms .cipher))) _ a);
         starts = eqb-true _ _ (and-left (eqb (c .position) 0) _ b);
-        unknown = eqb-true _ _ (sym (is-known (c .known) (c .vector) .1) ∙ and-right (eqb (c .position) 0) _ b);
+        untold = or-untold c good e (λ n. true≢false (sym (eq-eqb _ _ n) ∙ sym (is-told (c .known) (c .vector)) ∙ not-true _ (and-right (eqb (c .position) 0) _ b)));
       })
     where
       good : goodCall c ≡ true
@@ -192,15 +212,22 @@ module _ (c : Call) (w : List ℕ) where
   unfolding announceRefusals
   from-two = refl
 
+  -- then the call stands as it did, under the same terms, but that it was told w
+  pub announced-leaves : Timely c w → announceOf c w ≡ (Done, callAt receivingEnd (c .terms) 0 toldVector w)
+  unfolding announceRefusals
+  announced-leaves t =
+      sym (announce-done c w (ap not (eq-eqb _ _ (t .long)), (not-bad c (t .good), (ap not (awaited t), tt))))
+      ∙ rw (is-receiver c (t .good) (t .receives), t .starts)
+
   pub announced-exactly : (numberOf (announceOf c w .0) ≡ 0 → Timely c w) × (Timely c w → numberOf (announceOf c w .0) ≡ 0)
   unfolding announceOf announceRefusals
   announced-exactly = (
     by-refusals (λ o. numberOf (o .0) ≡ 0 → Timely c w) c (announceRefusals (standing c) w) (Done, written (withVector w (standing c)))
         (λ a m z. absurd (omega (arith, among-refuses a (announceRefusals (standing c) w) from-two m))) (λ n z. timely n),
-    λ t. ap (λ (o : Answer × Call). numberOf (o .0)) (sym (announce-done c w (ap not (eq-eqb _ _ (t .long)), (not-bad c (t .good), (ap not (awaited t), tt))))),
+    λ t. ap (λ (o : Answer × Call). numberOf (o .0)) (announced-leaves t),
   )
 
-  -- at any position but 0 no announcement is taken, and the call stays as it was
+  -- at any position but 0 no announcement is taken, in either way, and the call stays as it was
   pub untimely : (c .position ≡ 0 → ⊥) → Refusal (announceOf c w .0) × (announceOf c w .1 ≡ c)
   unfolding announceOf
   untimely p = some-refuses c (announceRefusals (standing c) w) (Done, written (withVector w (standing c))) from-two (λ n. p (timely n .starts))
@@ -241,16 +268,16 @@ module _ (c : Call) (out : List ℕ) where
 
 module _ (c : Call) (n i r : ℕ) (w b : List ℕ) where
   abbrev openAsks : Refusals
-  openAsks = vectorRefusals false (isRate r) (isBad (standing c)) (stands (standing c)) n i w b
+  openAsks = vectorRefusals false (isRate r && true) (isBad (standing c)) (stands (standing c)) n i w b
 
   abbrev started : ℕ → Call
-  started end = written (begun end (termsOf n (keyFor b n i) r) (sessionVector n w))
+  started end = written (begun end (termsOf n (keyFor b n i) r byDefault) (sessionVector n w))
 
-  -- start answers what open does, but 8 where that would be done with zeros, of DES or AES
-  pub start-answers : startOf c n i r w b .0 ≡ pick (isDone (openOf c n i r w b .0) && zeroFor n w) ZeroVector (openOf c n i r w b .0)
-  unfolding startOf openOf begunRefusals
+  -- start answers what open does by default, but 8 where that would be done with zeros, of DES or AES
+  pub start-answers : startOf c n i r w b .0 ≡ pick (isDone (openOf c n i r byDefault w b .0) && zeroFor n w) ZeroVector (openOf c n i r byDefault w b .0)
+  unfolding startOf openOf begunRefusals termsRight
   start-answers =
-      ap (λ (o : Answer × Call). o .0) (sends-more (isRate r) (isBad (standing c)) (stands (standing c)) n i b w c (started sendingEnd))
+      ap (λ (o : Answer × Call). o .0) (sends-more (isRate r && true) (isBad (standing c)) (stands (standing c)) n i b w c (started sendingEnd))
       ∙ go (outcome c openAsks (started sendingEnd)) (outcome c openAsks (started receivingEnd)) (answer-alone c openAsks (Done, started sendingEnd) ∙ sym (answer-alone c openAsks (Done, started receivingEnd)))
     where
       by : (t : Bool) (d : Call) (a : Answer) → pick {A = Answer × Call} t (ZeroVector, c) (a, d) .0 ≡ pick t ZeroVector a
@@ -267,22 +294,21 @@ module _ (c : Call) (busy : c .end ≡ closedEnd → ⊥) (n i r : ℕ) (b : Lis
   no-busy : isBad (standing c) ≡ false → stands (standing c) ≡ false → ⊥
   no-busy g e = true≢false (ap not (sym e) ∙ stands-some c (good-by c g) busy)
 
-  pub join-busy : Refusal (joinOf c n i r b .0) × (joinOf c n i r b .1 ≡ c)
+  pub join-busy : (m : ℕ) → Refusal (joinOf c n i r m b .0) × (joinOf c n i r m b .1 ≡ c)
   unfolding joinOf joinRefusals keyRefusals
-  join-busy =
-      some-refuses c (joinRefusals (standing c) n i r b) (Done, written (joined (termsOf n (keyFor b n i) r))) refl (λ h. no-busy (search h) (search h))
+  join-busy m =
+      some-refuses c (joinRefusals (standing c) n i r m b) (Done, written (joined (termsOf n (keyFor b n i) r m))) refl (λ h. no-busy (search h) (search h))
 
-  module _ (w : List ℕ) where
-    begin-busy : (end : ℕ) → Refusal (begunOf end c n i r w b .0) × (begunOf end c n i r w b .1 ≡ c)
-    unfolding begunRefusals vectorRefusals keyRefusals
-    begin-busy end =
-        some-refuses c (begunRefusals end (standing c) n i r w b) (Done, written (begun end (termsOf n (keyFor b n i) r) (sessionVector n w)))
-        (vector-from-two (isRate r) (isBad (standing c)) (stands (standing c)) n i b w (eqb end sendingEnd)) (λ h. no-busy (search h) (search h))
+  begin-busy : (end m : ℕ) (w : List ℕ) → Refusal (begunOf end c n i r m w b .0) × (begunOf end c n i r m w b .1 ≡ c)
+  unfolding begunRefusals vectorRefusals keyRefusals
+  begin-busy end m w =
+      some-refuses c (begunRefusals end (standing c) n i r m w b) (Done, written (begun end (termsOf n (keyFor b n i) r m) (sessionVector n w)))
+      (vector-from-two (termsRight end r m) (isBad (standing c)) (stands (standing c)) n i b w (eqb end sendingEnd)) (λ h. no-busy (search h) (search h))
 
-    pub open-busy : Refusal (openOf c n i r w b .0) × (openOf c n i r w b .1 ≡ c)
-    unfolding openOf
-    open-busy = begin-busy receivingEnd
+  pub open-busy : (m : ℕ) (w : List ℕ) → Refusal (openOf c n i r m w b .0) × (openOf c n i r m w b .1 ≡ c)
+  unfolding openOf
+  open-busy = begin-busy receivingEnd
 
-    pub start-busy : Refusal (startOf c n i r w b .0) × (startOf c n i r w b .1 ≡ c)
-    unfolding startOf
-    start-busy = begin-busy sendingEnd
+  pub start-busy : (w : List ℕ) → Refusal (startOf c n i r w b .0) × (startOf c n i r w b .1 ≡ c)
+  unfolding startOf
+  start-busy = begin-busy sendingEnd byDefault

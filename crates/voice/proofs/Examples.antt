@@ -16,7 +16,7 @@ use Rattle.openings.specs.Samples.{scramble0001, desABCD, seed}
 use Rattle.voice.specs.declared.call.Call.{Call}
 use Rattle.sizes.specs.Frame.{halfRate, fullRate, isRate, width, frameOctets}
 use Rattle.voice.specs.Frame.{ofSlot, wordTurned, protect}
-use Rattle.voice.specs.Call.{vectorRight, closedTests, openTests, isClosed, isOpen, goodCall, sending, termsOf, callAt, noCall, written}
+use Rattle.voice.specs.Call.{byDefault, strict, termsRight, vectorRight, closedTests, openTests, isClosed, isOpen, goodCall, sending, termsOf, callAt, noCall, written}
 
 -- slot 3, words 1 and 3: 00000000000000A043C1888533000000000000000080BD038E092400, by a script of the recurrence P(n+15) = P(n+1) xor P(n);
 -- and at full rate, by the same: 000000000000000000BEBF8781110666155400000000000000000090176073412B86F916
@@ -33,29 +33,38 @@ pub example-past-full : past (width fullRate)
 unfolding protect wordTurned turnedIn turned within replaced octetsFrom octet stream P iterate stepped keyNumber
 example-past-full = refl
 
--- a DES call, and one that is closed, at half rate
+-- a DES call, and one that is closed, at half rate and not strict
 abbrev des : ℕ → List ℕ → ℕ → ℕ → List ℕ → Call
-des end key = callAt end (termsOf 2 key halfRate)
+des end key = callAt end (termsOf 2 key halfRate byDefault)
 
 abbrev shut : ℕ → List ℕ → ℕ → ℕ → List ℕ → Call
-shut cipher key = callAt 0 (termsOf cipher key halfRate)
+shut cipher key = callAt 0 (termsOf cipher key halfRate byDefault)
 
 abbrev scrambling : ℕ → ℕ → List ℕ → Call
-scrambling = callAt 2 (termsOf 1 scramble0001 halfRate)
+scrambling = callAt 2 (termsOf 1 scramble0001 halfRate byDefault)
+
+-- a strict DES receiver
+abbrev strictly : ℕ → ℕ → List ℕ → Call
+strictly = callAt 2 (termsOf 2 desABCD halfRate strict)
 
 abbrev pub badCalls : List Call
 badCalls =
     -- no such end, no such cipher
     des 3 desABCD 0 1 seed
-    ∷ callAt 2 (termsOf 4 desABCD halfRate) 0 1 seed
+    ∷ callAt 2 (termsOf 4 desABCD halfRate byDefault) 0 1 seed
     -- no such rate
-    ∷ callAt 2 (termsOf 2 desABCD 2) 0 1 seed
-    ∷ callAt 1 (termsOf 2 desABCD 2) 0 1 seed
-    ∷ callAt 2 (termsOf 1 scramble0001 2) 0 1 noVector
-    -- closed, with a cipher, a rate, a position, a key, a vector, or a vector told
+    ∷ callAt 2 (termsOf 2 desABCD 2 byDefault) 0 1 seed
+    ∷ callAt 1 (termsOf 2 desABCD 2 byDefault) 0 1 seed
+    ∷ callAt 2 (termsOf 1 scramble0001 2 byDefault) 0 1 noVector
+    -- no such strictness; a strict sender
+    ∷ callAt 2 (termsOf 2 desABCD halfRate 2) 0 1 seed
+    ∷ callAt 2 (termsOf 1 scramble0001 halfRate 2) 0 1 noVector
+    ∷ callAt 1 (termsOf 2 desABCD halfRate strict) 0 1 seed
+    -- closed, with a cipher, a rate, a strictness, a position, a key, a vector, or a vector told
     ∷ des 0 desABCD 0 1 seed
     ∷ shut 1 (replicate 32 0) 0 0 noVector
-    ∷ callAt 0 (termsOf 0 (replicate 32 0) fullRate) 0 0 noVector
+    ∷ callAt 0 (termsOf 0 (replicate 32 0) fullRate byDefault) 0 0 noVector
+    ∷ callAt 0 (termsOf 0 (replicate 32 0) halfRate strict) 0 0 noVector
     ∷ shut 0 (replicate 32 0) 1 0 noVector
     ∷ shut 0 (replicate 31 0 ++ (1 ∷ [])) 0 0 noVector
     ∷ shut 0 (replicate 32 0) 0 0 seed
@@ -66,27 +75,33 @@ badCalls =
     -- a position past the session
     ∷ des 2 desABCD 8 1 seed
     ∷ scrambling 4 1 noVector
-    -- an unknown vector that isn't zeros, one neither unknown nor told; a sender's unknown, and zeros
+    -- an unknown vector that isn't zeros, one neither unknown nor told nor carried, and one carried by a strict receiver; a sender's unknown, carried, and zeros
     ∷ des 2 desABCD 0 0 seed
-    ∷ des 2 desABCD 0 2 seed
+    ∷ des 2 desABCD 0 3 seed
+    ∷ strictly 0 0 seed
+    ∷ strictly 0 2 seed
+    ∷ strictly 3 2 noVector
     ∷ des 1 desABCD 0 0 noVector
+    ∷ des 1 desABCD 0 2 seed
     ∷ des 1 desABCD 0 1 noVector
-    -- a scramble vector unknown, and one that isn't zeros
+    -- a scramble vector unknown, one carried, and one that isn't zeros
     ∷ scrambling 0 0 noVector
+    ∷ scrambling 0 2 noVector
     ∷ scrambling 0 1 seed
     ∷ []
 
--- a receiver's told vector may be zeros, and a sender's scramble vector is; both rates
+-- a receiver's told or carried vector may be zeros, and a sender's scramble vector is; both rates, and strict or not
 abbrev pub goodCalls : List Call
 goodCalls =
-    noCall ∷ des 2 desABCD 7 1 seed ∷ des 2 desABCD 0 1 noVector ∷ des 2 desABCD 0 0 noVector ∷ des 1 desABCD 0 1 seed ∷ scrambling 3 1 noVector
-    ∷ written (sending (termsOf 1 scramble0001 halfRate) 0 noVector) ∷ callAt 2 (termsOf 2 desABCD fullRate) 7 1 seed ∷ callAt 1 (termsOf 1 scramble0001 fullRate) 3 1 noVector
-    ∷ []
+    noCall ∷ des 2 desABCD 7 1 seed ∷ des 2 desABCD 0 1 noVector ∷ des 2 desABCD 0 0 noVector ∷ des 2 desABCD 0 2 seed ∷ des 2 desABCD 5 2 noVector
+    ∷ strictly 0 0 noVector ∷ strictly 7 1 seed ∷ des 1 desABCD 0 1 seed ∷ scrambling 3 1 noVector ∷ callAt 2 (termsOf 1 scramble0001 halfRate strict) 3 1 noVector
+    ∷ written (sending (termsOf 1 scramble0001 halfRate byDefault) 0 noVector) ∷ callAt 2 (termsOf 2 desABCD fullRate byDefault) 7 1 seed
+    ∷ callAt 1 (termsOf 1 scramble0001 fullRate byDefault) 3 1 noVector ∷ []
 
 abbrev each : (Call → Bool) → List Call → Bool
 each f [] = true
 each f (c ∷ cs) = f c && each f cs
 
 pub each-kind : (each (λ c. not (goodCall c)) badCalls ≡ true) × (each goodCall goodCalls ≡ true)
-unfolding goodCall isClosed closedTests isOpen openTests keyRight isRate vectorRight keyAllowed scrambleKey desKey oddOctet allZero allBelow
+unfolding goodCall isClosed closedTests isOpen openTests keyRight isRate termsRight vectorRight keyAllowed scrambleKey desKey oddOctet allZero allBelow
 each-kind = (refl, refl)

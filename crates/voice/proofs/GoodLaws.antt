@@ -1,20 +1,19 @@
 -- What is written is read back, and a good call stays good under every operation: a DES or AES sender by a slot where its vector is eight octets.
 use mathlib.Core.Path.{_≡_, refl, sym, ap, _∙_}
-use mathlib.Core.Bool.{Bool, true, false, or-true, true≢false}
+use mathlib.Core.Bool.{Bool, true, false, not, or-true, true≢false}
 use mathlib.Core.List.{List}
 use Prim.Native.Nat.{ℕ, _+_, _≤_, _<_}
 use native.Mathlib.Omega.{arith}
-use lib.Dec.{ltb}
+use lib.Dec.{ltb, eqb}
 use lib.ListN.{length}
 use borrow.Author.Tests.{le-leb, lt-ltb, ltb-true, ltb-false, eqb-true, not-false, not-true}
 use Rattle.octets.proofs.ListLaws.{zeros-are}
 use Rattle.octets.specs.Tests.{pick, allBelow}
 use Rattle.octets.specs.Lists.{allZero}
 use Rattle.octets.specs.Bits.{bit}
-use Rattle.octets.proofs.TestLaws.{and-left, every-at}
+use Rattle.octets.proofs.TestLaws.{and-left, and-right, every-at}
 use Rattle.sizes.specs.Ciphers.{sessionSlots, keyRoom, vectorOctets, noVector, scrambles}
-use Rattle.sizes.specs.Frame.{isRate}
-use Rattle.generator.specs.Generator.{IsVector}
+use Rattle.generator.specs.Generator.{IsVector, nextVector}
 use Rattle.generator.proofs.NotZero.{next-not-zero}
 use Rattle.answers.specs.declared.Answer.{Answer}
 use Rattle.answers.specs.declared.Answer.the-variants.{Done}
@@ -23,11 +22,11 @@ use Rattle.answers.proofs.OutcomeLaws.{NoneHolds, by-refusals}
 use Rattle.voice.specs.declared.call.Terms.{Terms}
 use Rattle.voice.specs.declared.call.Call.{Call}
 use Rattle.ciphers.specs.Keys.{keyRight}
-use Rattle.voice.specs.Call.{sendingEnd, receivingEnd, toldVector, vectorRight, closedTests, openTests, isClosed, isOpen, goodCall, Known, unknown, told, knownNumber, knownVector, knownBy, untold, Standing, closed, bad, sending, receiving, standing, termsOf, callAt, noCall, written, isBad, receives, knows, endRefusals, endOf}
-use Rattle.voice.specs.Slot.{goingOn, slotOn, lostRefusals, lostOf, voiceRefusals, streamOf, voiceAfter, voiceBy, voiceOf, voiceByOctets}
+use Rattle.voice.specs.Call.{sendingEnd, receivingEnd, toldVector, byDefault, termsRight, vectorRight, closedTests, openTests, isClosed, isOpen, goodCall, Known, unknown, told, carried, isKnown, knownNumber, knownVector, knownBy, untold, Standing, closed, bad, sending, receiving, standing, termsOf, callAt, noCall, written, isBad, receives, knows, endRefusals, endOf}
+use Rattle.voice.specs.Slot.{goingOn, rides, ridden, slotOn, lostRefusals, lostOf, voiceRefusals, streamOf, voiceAfter, voiceBy, voiceOf, voiceByOctets}
 use Rattle.voice.specs.Vector.{awaits, withVector, announceRefusals, announceOf}
 use Rattle.sizes.proofs.SizeLaws.{no-vector-zero}
-use Rattle.voice.proofs.CallLaws.{by-known, known-back, receiver-is, open-place, open-key, open-rate, open-vector, by-stands, good-by, is-sender, is-receiver, open-told, known-written}
+use Rattle.voice.proofs.CallLaws.{by-known, known-back, receiver-is, open-place, open-key, open-terms, open-vector, by-stands, good-by, is-sender, is-receiver, open-told, known-written}
 use Rattle.voice.proofs.SlotLaws.{by-lent}
 
 -- ---- written, then read
@@ -37,24 +36,35 @@ unfolding goodCall isClosed closedTests allZero allBelow
 closed-good = refl
 
 -- a struct that keeps the rules of an open call
-pub good-open : (e : ℕ) (t : Terms) (p known : ℕ) (v : List ℕ) → 1 ≤ e → e ≤ 2 → keyRight (t .cipher) (t .key) ≡ true → isRate (t .rate) ≡ true
-    → p < sessionSlots (t .cipher) → vectorRight e (t .cipher) known (allZero v) ≡ true → goodCall (callAt e t p known v) ≡ true
+pub good-open : (e : ℕ) (t : Terms) (p known : ℕ) (v : List ℕ) → 1 ≤ e → e ≤ 2 → keyRight (t .cipher) (t .key) ≡ true → termsRight e (t .rate) (t .strictness) ≡ true
+    → p < sessionSlots (t .cipher) → vectorRight e (t .cipher) (t .strictness) known (allZero v) ≡ true → goodCall (callAt e t p known v) ≡ true
 unfolding goodCall isOpen openTests
-good-open e t p known v low high key rate place vector = rw (le-leb _ _ low, le-leb _ _ high, key, rate, lt-ltb _ _ place, vector, or-true)
+good-open e t p known v low high key right place vector = rw (le-leb _ _ low, le-leb _ _ high, key, right, lt-ltb _ _ place, vector, or-true)
 
 -- what a sender's vector, and what is known of a receiver's, has to be
 abbrev pub sentRight : ℕ → List ℕ → Bool
-sentRight c v = vectorRight sendingEnd c toldVector (allZero v)
+sentRight c v = vectorRight sendingEnd c byDefault toldVector (allZero v)
 
-abbrev pub knownRight : ℕ → Known → Bool
-knownRight c k = vectorRight receivingEnd c (knownNumber k) (allZero (knownVector k))
+abbrev pub knownRight : ℕ → ℕ → Known → Bool
+knownRight c m k = vectorRight receivingEnd c m (knownNumber k) (allZero (knownVector k))
 
-module _ (t : Terms) (p : ℕ) (key : keyRight (t .cipher) (t .key) ≡ true) (rate : isRate (t .rate) ≡ true) (place : p < sessionSlots (t .cipher)) where
-  pub good-sender : (v : List ℕ) → sentRight (t .cipher) v ≡ true → goodCall (written (sending t p v)) ≡ true
-  good-sender v = good-open sendingEnd t p toldVector v (omega arith) (omega arith) key rate place
+-- a call of these terms, whose cipher, key, rate and strictness are right at its end, at a position inside the session
+pub record Placed (end : ℕ) (t : Terms) (p : ℕ) : Type 0 where
+  pub key : keyRight (t .cipher) (t .key) ≡ true
+  pub terms : termsRight end (t .rate) (t .strictness) ≡ true
+  pub place : p < sessionSlots (t .cipher)
 
-  pub good-receiver : (k : Known) → knownRight (t .cipher) k ≡ true → goodCall (written (receiving t p k)) ≡ true
-  good-receiver k = good-open receivingEnd t p (knownNumber k) (knownVector k) (omega arith) (omega arith) key rate place
+module _ (t : Terms) (p : ℕ) where
+  pub good-sender : Placed sendingEnd t p → (v : List ℕ) → sentRight (t .cipher) v ≡ true → goodCall (written (sending t p v)) ≡ true
+  unfolding vectorRight
+  good-sender at v = good-open sendingEnd t p toldVector v (omega arith) (omega arith) (at .key) (at .terms) (at .place)
+
+  pub good-receiver : Placed receivingEnd t p → (k : Known) → knownRight (t .cipher) (t .strictness) k ≡ true → goodCall (written (receiving t p k)) ≡ true
+  good-receiver at k = good-open receivingEnd t p (knownNumber k) (knownVector k) (omega arith) (omega arith) (at .key) (at .terms) (at .place)
+
+-- as an open struct has them
+pub open-placed : (c : Call) → isOpen c ≡ true → {end : ℕ} → c .end ≡ end → Placed end (c .terms) (c .position)
+open-placed c o e = record { key = open-key c o; terms = rw e at (open-terms c o); place = open-place c o }
 
 -- reading what was written gives it back
 pub read-written : (s : Standing) → isBad s ≡ false → goodCall (written s) ≡ true → standing (written s) ≡ s
@@ -70,15 +80,16 @@ module _ (c : Call) (lk : length (c .terms .key) ≡ keyRoom) (lv : length (c .v
   closed-is : isClosed c ≡ true → c ≡ noCall
   unfolding isClosed closedTests
   closed-is e =
-      let r : Call = callAt (c .end) (termsOf (c .terms .cipher) (c .terms .key) (c .terms .rate)) (c .position) (c .known) (c .vector) in
+      let r : Call = callAt (c .end) (termsOf (c .terms .cipher) (c .terms .key) (c .terms .rate) (c .terms .strictness)) (c .position) (c .known) (c .vector) in
       rw (
         eqb-true (c .end) 0 (every-at (closedTests c) 0 e),
         eqb-true (c .terms .cipher) 0 (every-at (closedTests c) 1 e),
         eqb-true (c .terms .rate) 0 (every-at (closedTests c) 2 e),
-        eqb-true (c .position) 0 (every-at (closedTests c) 3 e),
-        eqb-true (c .known) 0 (every-at (closedTests c) 4 e),
-        zeros-are (c .terms .key) keyRoom lk (every-at (closedTests c) 5 e),
-        zeros-are (c .vector) vectorOctets lv (every-at (closedTests c) 6 e),
+        eqb-true (c .terms .strictness) 0 (every-at (closedTests c) 3 e),
+        eqb-true (c .position) 0 (every-at (closedTests c) 4 e),
+        eqb-true (c .known) 0 (every-at (closedTests c) 5 e),
+        zeros-are (c .terms .key) keyRoom lk (every-at (closedTests c) 6 e),
+        zeros-are (c .vector) vectorOctets lv (every-at (closedTests c) 7 e),
       ) refl
 
   pub written-read : c ≡ written (standing c)
@@ -89,22 +100,35 @@ module _ (c : Call) (lk : length (c .terms .key) ≡ keyRoom) (lv : length (c .v
 -- ---- a slot on
 
 -- what is known untold
-pub untold-right : (c : ℕ) → knownRight c (untold c) ≡ true
+pub untold-right : (c m : ℕ) → knownRight c m (untold c) ≡ true
 unfolding vectorRight
-untold-right c = go (scrambles c) refl
+untold-right c m = go (scrambles c) refl
   where
-    go : (t : Bool) → scrambles c ≡ t → knownRight c (pick t (told noVector) unknown) ≡ true
+    go : (t : Bool) → scrambles c ≡ t → knownRight c m (pick t (told noVector) unknown) ≡ true
     go true e = rw (e, no-vector-zero)
     go false e = rw (e, no-vector-zero)
 
+-- and as the next session starts: only by default is a vector carried
+ridden-right : (t : Terms) (k : Known) → knownRight (t .cipher) (t .strictness) (ridden t k) ≡ true
+unfolding vectorRight
+ridden-right t k = go (rides t (isKnown k)) refl
+  where
+    go : (b : Bool) → rides t (isKnown k) ≡ b
+        → knownRight (t .cipher) (t .strictness) (pick b (carried (nextVector (knownVector k))) (untold (t .cipher))) ≡ true
+    go true e =
+        rw (not-true (scrambles (t .cipher)) (and-left (not (scrambles (t .cipher))) _ e))
+        (and-left (eqb (t .strictness) byDefault) _ (and-right (not (scrambles (t .cipher))) _ e))
+    go false e = untold-right (t .cipher) (t .strictness)
+
 -- what is known by the struct
-known-right : (c known : ℕ) (v : List ℕ) → vectorRight receivingEnd c known (allZero v) ≡ true → knownRight c (knownBy known v) ≡ true
-known-right c known v h =
-    by-known (λ n. vectorRight receivingEnd c n (allZero v) ≡ true → knownRight c (knownBy n v) ≡ true) c known (allZero v) h
-    (λ z r. rw no-vector-zero (rw z at r)) (λ r. r) h
+known-right : (c m known : ℕ) (v : List ℕ) → vectorRight receivingEnd c m known (allZero v) ≡ true → knownRight c m (knownBy known v) ≡ true
+known-right c m known v h =
+    by-known (λ n. vectorRight receivingEnd c m n (allZero v) ≡ true → knownRight c m (knownBy n v) ≡ true) c m known (allZero v) h
+    (λ z r. rw no-vector-zero (rw z at r)) (λ r. r) (λ r. r) h
 
 -- a sender's by the struct
 open-sent : (c : Call) → isOpen c ≡ true → c .end ≡ sendingEnd → sentRight (c .terms .cipher) (c .vector) ≡ true
+unfolding vectorRight
 open-sent c o e = rw (e, open-told c o e) at (open-vector c o)
 
 -- scramble goes on with no vector
@@ -125,28 +149,32 @@ going-right c v i right = go (scrambles c) refl
     go true e = scramble-right c v e
     go false e = rw (e, next-not-zero v (i e) (sent-some c v right e))
 
-module _ (t : Terms) (p : ℕ) (key : keyRight (t .cipher) (t .key) ≡ true) (rate : isRate (t .rate) ≡ true) (place : p < sessionSlots (t .cipher)) where
-  received-good : (k : Known) → knownRight (t .cipher) k ≡ true → goodCall (written (slotOn (receiving t p k))) ≡ true
-  unfolding slotOn
-  received-good k right = go (ltb (p + 1) (sessionSlots (t .cipher))) refl
-    where
-      go : (b : Bool) → ltb (p + 1) (sessionSlots (t .cipher)) ≡ b → goodCall (written (pick b (receiving t (p + 1) k) (receiving t 0 (untold (t .cipher))))) ≡ true
-      go true e = good-receiver t (p + 1) key rate (ltb-true _ _ e) k right
-      go false e = good-receiver t 0 key rate (omega arith) (untold (t .cipher)) (untold-right (t .cipher))
+-- elsewhere in the session
+moved : {end : ℕ} {t : Terms} {p : ℕ} → Placed end t p → {q : ℕ} → q < sessionSlots (t .cipher) → Placed end t q
+moved at l = record { key = at .key; terms = at .terms; place = l }
 
-  sent-good : (v : List ℕ) → sentRight (t .cipher) v ≡ true → (sessionSlots (t .cipher) ≤ p + 1 → sentRight (t .cipher) (goingOn (t .cipher) v) ≡ true)
+module _ (t : Terms) (p : ℕ) where
+  received-good : Placed receivingEnd t p → (k : Known) → knownRight (t .cipher) (t .strictness) k ≡ true → goodCall (written (slotOn (receiving t p k))) ≡ true
+  unfolding slotOn
+  received-good at k right = go (ltb (p + 1) (sessionSlots (t .cipher))) refl
+    where
+      go : (b : Bool) → ltb (p + 1) (sessionSlots (t .cipher)) ≡ b → goodCall (written (pick b (receiving t (p + 1) k) (receiving t 0 (ridden t k)))) ≡ true
+      go true e = good-receiver t (p + 1) (moved at (ltb-true _ _ e)) k right
+      go false e = good-receiver t 0 (moved at (let l = at .place in omega arith)) (ridden t k) (ridden-right t k)
+
+  sent-good : Placed sendingEnd t p → (v : List ℕ) → sentRight (t .cipher) v ≡ true → (sessionSlots (t .cipher) ≤ p + 1 → sentRight (t .cipher) (goingOn (t .cipher) v) ≡ true)
       → goodCall (written (slotOn (sending t p v))) ≡ true
   unfolding slotOn
-  sent-good v right next = go (ltb (p + 1) (sessionSlots (t .cipher))) refl
+  sent-good at v right next = go (ltb (p + 1) (sessionSlots (t .cipher))) refl
     where
       go : (b : Bool) → ltb (p + 1) (sessionSlots (t .cipher)) ≡ b → goodCall (written (pick b (sending t (p + 1) v) (sending t 0 (goingOn (t .cipher) v)))) ≡ true
-      go true e = good-sender t (p + 1) key rate (ltb-true _ _ e) v right
-      go false e = good-sender t 0 key rate (omega arith) (goingOn (t .cipher) v) (next (ltb-false _ _ e))
+      go true e = good-sender t (p + 1) (moved at (ltb-true _ _ e)) v right
+      go false e = good-sender t 0 (moved at (let l = at .place in omega arith)) (goingOn (t .cipher) v) (next (ltb-false _ _ e))
 
 -- a vector that DES or AES is told
-announced-right : (c : ℕ) (w : List ℕ) → scrambles c ≡ false → knownRight c (told w) ≡ true
+announced-right : (c m : ℕ) (w : List ℕ) → scrambles c ≡ false → knownRight c m (told w) ≡ true
 unfolding vectorRight
-announced-right c w e = rw e
+announced-right c m w e = rw e
 
 module _ (c : Call) (good : goodCall c ≡ true) where
   sender-right : c .end ≡ sendingEnd → sentRight (c .terms .cipher) (c .vector) ≡ true
@@ -168,11 +196,11 @@ slot-good-if c good next =
     by-stands c good (λ o e s. on s closed-good)
     (λ o e s.
     on s
-    (sent-good (c .terms) (c .position) (open-key c o) (open-rate c o) (open-place c o) (c .vector) (open-sent c o e) (next e)))
+    (sent-good (c .terms) (c .position) (open-placed c o e) (c .vector) (open-sent c o e) (next e)))
     (λ o e s.
     on s
-    (received-good (c .terms) (c .position) (open-key c o) (open-rate c o) (open-place c o) (knownBy (c .known) (c .vector))
-    (known-right (c .terms .cipher) (c .known) (c .vector) (rw e at (open-vector c o)))))
+    (received-good (c .terms) (c .position) (open-placed c o e) (knownBy (c .known) (c .vector))
+    (known-right (c .terms .cipher) (c .terms .strictness) (c .known) (c .vector) (rw e at (open-vector c o)))))
   where
     on : {s : Standing} → standing c ≡ s → goodCall (written (slotOn s)) ≡ true → goodCall (written (slotOn (standing c))) ≡ true
     on s g = ap (λ (t : Standing). goodCall (written (slotOn t))) s ∙ g
@@ -194,7 +222,7 @@ pub slot-stands : (c : Call) {t : Terms} {p : ℕ} {k : Known} → standing c �
 unfolding slotOn
 slot-stands c {t} {p} {k} e =
     read-written (slotOn (receiving t p k))
-    (neither (ltb (p + 1) (sessionSlots (t .cipher))) (receiving t (p + 1) k) (receiving t 0 (untold (t .cipher))) refl refl)
+    (neither (ltb (p + 1) (sessionSlots (t .cipher))) (receiving t (p + 1) k) (receiving t 0 (ridden t k)) refl refl)
     (sym (ap (λ (u : Standing). goodCall (written (slotOn u))) e) ∙ slot-good c good (receiver-sends-none c good (ap receives e)))
   where
     good : goodCall c ≡ true
@@ -241,4 +269,4 @@ module _ (c : Call) (good : goodCall c ≡ true) where
       told-good : awaits (standing c) ≡ true → goodCall (written (withVector w (standing c))) ≡ true
       told-good a =
           by-stands c good (λ o e s. absurd (true≢false (sym a ∙ ap awaits s))) (λ o e s. absurd (true≢false (sym a ∙ ap awaits s)))
-          (λ o e s. ap (λ (t : Standing). goodCall (written (withVector w t))) s ∙ good-receiver (c .terms) (c .position) (open-key c o) (open-rate c o) (open-place c o) (told w) (announced-right (c .terms .cipher) w (not-true _ (and-left _ _ (sym (ap awaits s) ∙ a)))))
+          (λ o e s. ap (λ (t : Standing). goodCall (written (withVector w t))) s ∙ good-receiver (c .terms) (c .position) (open-placed c o e) (told w) (announced-right (c .terms .cipher) (c .terms .strictness) w (not-true _ (and-left _ _ (sym (ap awaits s) ∙ a)))))

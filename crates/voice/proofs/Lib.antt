@@ -11,4 +11,5 @@ pub mod VoiceBits
 pub mod Exactly
 pub mod NeverZero
 pub mod SessionOnce
+pub mod Riding
 pub mod Examples

@@ -22,7 +22,7 @@ use Rattle.ciphers.specs.Keys.{oddOctet, desKey, keyAllowed, keyRight}
 use Rattle.openings.specs.Samples.{desABCD}
 use Rattle.voice.specs.declared.call.Terms.{Terms}
 use Rattle.voice.specs.declared.call.Call.{Call}
-use Rattle.voice.specs.Call.{sendingEnd, vectorRight, closedTests, openTests, isClosed, isOpen, goodCall, Standing, sending, standing, termsOf, written}
+use Rattle.voice.specs.Call.{sendingEnd, byDefault, termsRight, vectorRight, closedTests, openTests, isClosed, isOpen, goodCall, Standing, sending, standing, termsOf, written}
 use Rattle.voice.specs.Slot.{goingOn, slotOn, voiceRefusals, voiceAfter, voiceBy, voiceByOctets}
 use Rattle.voice.specs.Vector.{nextRefusals, nextVectorOf}
 use Rattle.voice.proofs.CallLaws.{is-sender}
@@ -88,11 +88,11 @@ next-some c sent out z =
 
 -- a DES sender at its session's last slot, with a list that is no octets: not all zero, and without a bit
 abbrev beyond : Call
-beyond = written (sending (termsOf 2 desABCD halfRate) 7 (256 ∷ replicate 7 0))
+beyond = written (sending (termsOf 2 desABCD halfRate byDefault) 7 (256 ∷ replicate 7 0))
 
 -- it is good, after a slot it is not, and its next vector is zeros
 pub beyond-octets : (goodCall beyond ≡ true) × (goodCall (voiceBy (λ c n. 0) beyond 0 (replicate 28 0) .1 .0) ≡ false)
     × (nextVectorOf beyond noVector ≡ (Done, noVector))
-unfolding voiceBy voiceRefusals nextVectorOf nextRefusals standing slotOn goingOn goodCall isClosed closedTests isOpen openTests keyRight isRate vectorRight
+unfolding voiceBy voiceRefusals nextVectorOf nextRefusals standing slotOn goingOn goodCall isClosed closedTests isOpen openTests keyRight isRate termsRight vectorRight
     keyAllowed desKey oddOctet allZero allBelow nextVector announced iterate shifted filled octetsFrom octet
 beyond-octets = (refl, refl, refl)

@@ -1,26 +1,30 @@
 -- What open, join and start leave is a good call.
 use mathlib.Core.Path.{_≡_, refl, ap}
-use mathlib.Core.Bool.{Bool, true, false, _&&_, not, true≢false}
+use mathlib.Core.Bool.{Bool, true, false, _&&_, _||_, not, true≢false}
 use mathlib.Core.List.{List, [], _∷_}
 use Prim.Native.Nat.{ℕ, _≤_, _<_}
 use native.Mathlib.Omega.{arith}
 use lib.Dec.{eqb}
+use borrow.Author.Tests.{eqb-true}
 use Rattle.sizes.proofs.Cases.{by-range}
 use Rattle.octets.specs.Tests.{pick}
 use Rattle.octets.specs.Lists.{allZero}
 use Rattle.sizes.specs.Ciphers.{sessionSlots, noVector, scrambles}
 use Rattle.sizes.specs.Frame.{isRate}
+use Rattle.answers.specs.declared.Answer.{Answer}
 use Rattle.answers.specs.declared.Answer.the-variants.{Done, ZeroVector}
-use Rattle.answers.proofs.OutcomeLaws.{NoneHolds, none-left, none-right}
+use Rattle.answers.specs.Numbers.{numberOf}
+use Rattle.answers.proofs.OutcomeLaws.{NoneHolds, none-left, none-right, among-refuses, by-refusals}
 use Rattle.openings.specs.Ladder.{sessionVector, keyFor, keyRefusals, zeroFor, zeroRefusals, vectorRefusals}
 use Rattle.ciphers.specs.Keys.{keyRight}
 use Rattle.sizes.proofs.SizeLaws.{no-vector-zero}
+use Rattle.openings.proofs.LadderLaws.{vector-from-two}
 use Rattle.openings.proofs.ReadyLaws.{none-ranged, none-in-range, none-key}
 use Rattle.voice.specs.declared.call.Terms.{Terms}
 use Rattle.voice.specs.declared.call.Call.{Call}
-use Rattle.voice.specs.Call.{sendingEnd, receivingEnd, vectorRight, goodCall, told, untold, sending, receiving, standing, termsOf, written, isBad, stands}
+use Rattle.voice.specs.Call.{sendingEnd, receivingEnd, toldVector, byDefault, strict, termsRight, vectorRight, goodCall, told, untold, sending, receiving, standing, termsOf, callAt, written, isBad, stands}
 use Rattle.voice.specs.Opening.{superframeSlots, joinRefusals, begunRefusals, begun, begunOf, openOf, startOf, joined, joinOf}
-use Rattle.voice.proofs.GoodLaws.{knownRight, sentRight, good-sender, good-receiver, untold-right, kept}
+use Rattle.voice.proofs.GoodLaws.{knownRight, sentRight, Placed, good-sender, good-receiver, untold-right, kept}
 
 -- a session has slots, and more than a superframe where it needs a vector
 slots-some : (c : ℕ) → (1 ≤ c) × (c ≤ 3) → 0 < sessionSlots c
@@ -30,9 +34,9 @@ slots-more : (c : ℕ) → (1 ≤ c) × (c ≤ 3) → scrambles c ≡ false → 
 slots-more = by-range (λ n. scrambles n ≡ false → superframeSlots < sessionSlots n) (λ e. absurd (true≢false e)) (λ e. omega arith) (λ e. omega arith)
 
 -- the vector that a receiver is told as it opens; and a sender's, where 8 was not given
-pub heard-right : (c : ℕ) (w : List ℕ) → knownRight c (told (sessionVector c w)) ≡ true
+pub heard-right : (c m : ℕ) (w : List ℕ) → knownRight c m (told (sessionVector c w)) ≡ true
 unfolding vectorRight
-heard-right c w = go (scrambles c)
+heard-right c m w = go (scrambles c)
   where
     go : (t : Bool) → pick t (allZero (pick t noVector w)) true ≡ true
     go true = no-vector-zero
@@ -46,55 +50,97 @@ sent-right c w = go (scrambles c)
     go true z = no-vector-zero
     go false z = ap not z
 
-module _ (bad busy : Bool) (c i r : ℕ) (b : List ℕ) (n : NoneHolds (keyRefusals (isRate r) bad busy c i b)) where
-  ranged : (1 ≤ c) × (c ≤ 3)
-  ranged = none-in-range (isRate r) bad busy c i b n
+-- a receiver may have what any end may
+heard-terms : (end r m : ℕ) → termsRight end r m ≡ true → termsRight receivingEnd r m ≡ true
+unfolding termsRight
+heard-terms end r m = go (isRate r) (eqb m byDefault) (eqb m strict) (eqb end receivingEnd)
+  where
+    go : (x a b e : Bool) → (x && (a || (b && e))) ≡ true → (x && (a || (b && true))) ≡ true
+    go true true b e h = refl
+    go true false true e h = refl
+    go true false false e h = h
+    go false a b e h = h
 
-  key : keyRight c (keyFor b c i) ≡ true
-  key = none-key (isRate r) bad busy c i b n
-
-  rate : isRate r ≡ true
-  rate = none-ranged (isRate r) bad busy c i b n .0
-
+module _ (end : ℕ) (bad busy : Bool) (c i r m : ℕ) (b : List ℕ) (n : NoneHolds (keyRefusals (termsRight end r m) bad busy c i b)) where
   abbrev terms : Terms
-  terms = termsOf c (keyFor b c i) r
+  terms = termsOf c (keyFor b c i) r m
+
+  ranged : (1 ≤ c) × (c ≤ 3)
+  ranged = none-in-range (termsRight end r m) bad busy c i b n
+
+  right : termsRight end r m ≡ true
+  right = none-ranged (termsRight end r m) bad busy c i b n .0
+
+  placed : {e p : ℕ} → termsRight e r m ≡ true → p < sessionSlots c → Placed e terms p
+  placed at l = record { key = none-key (termsRight end r m) bad busy c i b n; terms = at; place = l }
 
   joined-good : goodCall (written (joined terms)) ≡ true
-  joined-good = good-receiver terms (pick (scrambles c) 0 superframeSlots) key rate (go (scrambles c) refl) (untold c) (untold-right c)
+  joined-good = good-receiver terms (pick (scrambles c) 0 superframeSlots) (placed (heard-terms end r m right) (go (scrambles c) refl)) (untold c) (untold-right c m)
     where
       go : (t : Bool) → scrambles c ≡ t → pick t 0 superframeSlots < sessionSlots c
       go true e = slots-some c ranged
       go false e = slots-more c ranged e
 
-  begun-good : (end : ℕ) (w : List ℕ) → NoneHolds (zeroRefusals (eqb end sendingEnd) c w) → goodCall (written (begun end terms (sessionVector c w))) ≡ true
+  begun-good : (w : List ℕ) → NoneHolds (zeroRefusals (eqb end sendingEnd) c w) → goodCall (written (begun end terms (sessionVector c w))) ≡ true
   unfolding zeroRefusals
-  begun-good end w = go (eqb end sendingEnd)
+  begun-good w = go (eqb end sendingEnd) refl
     where
-      go : (t : Bool) → NoneHolds (pick t ((zeroFor c w, ZeroVector) ∷ []) [])
+      go : (t : Bool) → eqb end sendingEnd ≡ t → NoneHolds (pick t ((zeroFor c w, ZeroVector) ∷ []) [])
           → goodCall (written (pick t (sending terms 0 (sessionVector c w)) (receiving terms 0 (told (sessionVector c w))))) ≡ true
-      go true n = good-sender terms 0 key rate (slots-some c ranged) (sessionVector c w) (sent-right c w (n .0))
-      go false n = good-receiver terms 0 key rate (slots-some c ranged) (told (sessionVector c w)) (heard-right c w)
+      go true e n = good-sender terms 0 (placed (rw (eqb-true end sendingEnd e) at right) (slots-some c ranged)) (sessionVector c w) (sent-right c w (n .0))
+      go false e n = good-receiver terms 0 (placed (heard-terms end r m right) (slots-some c ranged)) (told (sessionVector c w)) (heard-right c m w)
+
+-- what an opening that is done leaves, whatever the call before it: a good call, under the terms that it was given
+module _ (call : Call) (c i r : ℕ) (b : List ℕ) where
+  abbrev Leaves : Answer × Call → Call → Type 0
+  Leaves o d = numberOf (o .0) ≡ 0 → (goodCall (o .1) ≡ true) × (o .1 ≡ d)
+
+  pub join-leaves : (m : ℕ) → Leaves (joinOf call c i r m b) (written (joined (termsOf c (keyFor b c i) r m)))
+  unfolding joinOf joinRefusals keyRefusals
+  join-leaves m =
+      let last = written (joined (termsOf c (keyFor b c i) r m)) in
+      let asked = keyRefusals (termsRight receivingEnd r m) (isBad (standing call)) (stands (standing call)) c i b in
+      by-refusals (λ o. Leaves o last) call asked (Done, last)
+      (λ a h z. absurd (omega (arith, among-refuses a asked refl h)))
+      (λ n z. (joined-good receivingEnd (isBad (standing call)) (stands (standing call)) c i r m b n, refl))
+
+  begun-leaves : (end m : ℕ) (w : List ℕ) → Leaves (begunOf end call c i r m w b) (written (begun end (termsOf c (keyFor b c i) r m) (sessionVector c w)))
+  unfolding begunRefusals vectorRefusals
+  begun-leaves end m w =
+      let last = written (begun end (termsOf c (keyFor b c i) r m) (sessionVector c w)) in
+      let asked = keyRefusals (termsRight end r m) (isBad (standing call)) (stands (standing call)) c i b in
+      let zeros = zeroRefusals (eqb end sendingEnd) c w in
+      by-refusals (λ o. Leaves o last) call (begunRefusals end (standing call) c i r m w b) (Done, last)
+      (λ a h z. absurd (omega (arith, among-refuses a (begunRefusals end (standing call) c i r m w b) (vector-from-two (termsRight end r m) (isBad (standing call)) (stands (standing call)) c i b w (eqb end sendingEnd)) h)))
+      (λ n z. (begun-good end (isBad (standing call)) (stands (standing call)) c i r m b (none-left asked zeros (n .1)) w (none-right asked zeros (n .1)), refl))
+
+  pub open-leaves : (m : ℕ) (w : List ℕ) → Leaves (openOf call c i r m w b) (callAt receivingEnd (termsOf c (keyFor b c i) r m) 0 toldVector (sessionVector c w))
+  unfolding openOf
+  open-leaves = begun-leaves receivingEnd
+
+  pub start-leaves : (w : List ℕ) → Leaves (startOf call c i r w b) (callAt sendingEnd (termsOf c (keyFor b c i) r byDefault) 0 toldVector (sessionVector c w))
+  unfolding startOf
+  start-leaves = begun-leaves sendingEnd byDefault
 
 module _ (call : Call) (good : goodCall call ≡ true) (c i r : ℕ) (b : List ℕ) where
-  pub join-good : goodCall (joinOf call c i r b .1) ≡ true
+  pub join-good : (m : ℕ) → goodCall (joinOf call c i r m b .1) ≡ true
   unfolding joinOf joinRefusals
-  join-good =
-      kept (λ d. d) call (joinRefusals (standing call) c i r b) (Done, written (joined (termsOf c (keyFor b c i) r))) good
-      (joined-good (isBad (standing call)) (stands (standing call)) c i r b)
+  join-good m =
+      kept (λ d. d) call (joinRefusals (standing call) c i r m b) (Done, written (joined (termsOf c (keyFor b c i) r m))) good
+      (joined-good receivingEnd (isBad (standing call)) (stands (standing call)) c i r m b)
 
-  module _ (w : List ℕ) where
-    begun-kept : (end : ℕ) → goodCall (begunOf end call c i r w b .1) ≡ true
-    unfolding begunRefusals vectorRefusals
-    begun-kept end =
-        let asked = keyRefusals (isRate r) (isBad (standing call)) (stands (standing call)) c i b in
-        let zeros = zeroRefusals (eqb end sendingEnd) c w in
-        kept (λ d. d) call (begunRefusals end (standing call) c i r w b) (Done, written (begun end (termsOf c (keyFor b c i) r) (sessionVector c w))) good
-        (λ n. begun-good (isBad (standing call)) (stands (standing call)) c i r b (none-left asked zeros (n .1)) end w (none-right asked zeros (n .1)))
+  begun-kept : (end m : ℕ) (w : List ℕ) → goodCall (begunOf end call c i r m w b .1) ≡ true
+  unfolding begunRefusals vectorRefusals
+  begun-kept end m w =
+      let asked = keyRefusals (termsRight end r m) (isBad (standing call)) (stands (standing call)) c i b in
+      let zeros = zeroRefusals (eqb end sendingEnd) c w in
+      kept (λ d. d) call (begunRefusals end (standing call) c i r m w b) (Done, written (begun end (termsOf c (keyFor b c i) r m) (sessionVector c w))) good
+      (λ n. begun-good end (isBad (standing call)) (stands (standing call)) c i r m b (none-left asked zeros (n .1)) w (none-right asked zeros (n .1)))
 
-    pub open-good : goodCall (openOf call c i r w b .1) ≡ true
-    unfolding openOf
-    open-good = begun-kept receivingEnd
+  pub open-good : (m : ℕ) (w : List ℕ) → goodCall (openOf call c i r m w b .1) ≡ true
+  unfolding openOf
+  open-good = begun-kept receivingEnd
 
-    pub start-good : goodCall (startOf call c i r w b .1) ≡ true
-    unfolding startOf
-    start-good = begun-kept sendingEnd
+  pub start-good : (w : List ℕ) → goodCall (startOf call c i r w b .1) ≡ true
+  unfolding startOf
+  start-good = begun-kept sendingEnd byDefault

@@ -6,7 +6,6 @@ use Prim.Native.Nat.{ℕ}
 use lib.Dec.{eqb}
 use Rattle.octets.specs.Tests.{pick}
 use Rattle.sizes.specs.Ciphers.{scrambles}
-use Rattle.sizes.specs.Frame.{isRate}
 use Rattle.answers.specs.declared.Answer.{Answer}
 use Rattle.answers.specs.declared.Answer.the-variants.{Done}
 use Rattle.answers.specs.Numbers.{isDone}
@@ -14,7 +13,7 @@ use Rattle.openings.specs.Ladder.{sessionVector, openingKeyOf, vectorKeyOf}
 use Rattle.openings.proofs.BegunLaws.{Alike, both-bad, the-same, key-begun-refused, key-begun, vector-begun-refused, vector-begun}
 use Rattle.voice.specs.declared.call.Terms.{Terms}
 use Rattle.voice.specs.declared.call.Call.{Call}
-use Rattle.voice.specs.Call.{closedEnd, sendingEnd, goodCall, untold, receiving, standing, termsOf, written, isBad, stands}
+use Rattle.voice.specs.Call.{closedEnd, sendingEnd, receivingEnd, termsRight, goodCall, untold, receiving, standing, termsOf, written, isBad, stands}
 use Rattle.voice.specs.Opening.{superframeSlots, joinRefusals, begunRefusals, begun, begunOf, joined, joinOf}
 use Rattle.voice.proofs.CallLaws.{by-stands, is-bad}
 
@@ -33,25 +32,25 @@ call-alike call good g = go (goodCall call) refl
 pub joined-at : (t : Terms) {p : ℕ} → p ≡ pick (scrambles (t .cipher)) 0 superframeSlots → written (receiving t p (untold (t .cipher))) ≡ written (joined t)
 joined-at t = ap (λ (p : ℕ). written (receiving t p (untold (t .cipher))))
 
-module _ (call : Call) (good : Bool) (g : good ≡ goodCall call) (c i r : ℕ) (b : List ℕ) where
+module _ (call : Call) (good : Bool) (g : good ≡ goodCall call) (c i r m : ℕ) (b : List ℕ) where
   -- what the code says of the call
   abbrev busy : Bool
   busy = not (eqb (call .end) closedEnd)
 
-  module _ (a : Answer) (key : List ℕ) {t : Bool} (rate : t ≡ isRate r) (e : (a, key) ≡ openingKeyOf t (not good) busy c i b) where
-    pub join-refused : isDone a ≡ false → (a, call) ≡ joinOf call c i r b
+  module _ (a : Answer) (key : List ℕ) {t : Bool} (right : t ≡ termsRight receivingEnd r m) (e : (a, key) ≡ openingKeyOf t (not good) busy c i b) where
+    pub join-refused : isDone a ≡ false → (a, call) ≡ joinOf call c i r m b
     unfolding joinOf joinRefusals
-    join-refused = key-begun-refused call (λ k. written (joined (termsOf c k r))) (isRate r) (not good) busy _ _ (call-alike call good g) c i b a key (rw rate at e)
+    join-refused = key-begun-refused call (λ k. written (joined (termsOf c k r m))) (termsRight receivingEnd r m) (not good) busy _ _ (call-alike call good g) c i b a key (rw right at e)
 
-    pub join-done : isDone a ≡ true → (Done, written (joined (termsOf c key r))) ≡ joinOf call c i r b
+    pub join-done : isDone a ≡ true → (Done, written (joined (termsOf c key r m))) ≡ joinOf call c i r m b
     unfolding joinOf joinRefusals
-    join-done = key-begun call (λ k. written (joined (termsOf c k r))) (isRate r) (not good) busy _ _ (call-alike call good g) c i b a key (rw rate at e)
+    join-done = key-begun call (λ k. written (joined (termsOf c k r m))) (termsRight receivingEnd r m) (not good) busy _ _ (call-alike call good g) c i b a key (rw right at e)
 
-  module _ (w : List ℕ) (end : ℕ) (a : Answer) (key : List ℕ) {t : Bool} (rate : t ≡ isRate r) (e : (a, key) ≡ vectorKeyOf (eqb end sendingEnd) t (not good) busy c i w b) where
-    pub begun-refused : isDone a ≡ false → (a, call) ≡ begunOf end call c i r w b
+  module _ (w : List ℕ) (end : ℕ) (a : Answer) (key : List ℕ) {t : Bool} (right : t ≡ termsRight end r m) (e : (a, key) ≡ vectorKeyOf (eqb end sendingEnd) t (not good) busy c i w b) where
+    pub begun-refused : isDone a ≡ false → (a, call) ≡ begunOf end call c i r m w b
     unfolding begunRefusals
-    begun-refused = vector-begun-refused call (λ k. written (begun end (termsOf c k r) (sessionVector c w))) (isRate r) (not good) busy _ _ (call-alike call good g) c i b w (eqb end sendingEnd) a key (rw rate at e)
+    begun-refused = vector-begun-refused call (λ k. written (begun end (termsOf c k r m) (sessionVector c w))) (termsRight end r m) (not good) busy _ _ (call-alike call good g) c i b w (eqb end sendingEnd) a key (rw right at e)
 
-    pub begun-done : isDone a ≡ true → (Done, written (begun end (termsOf c key r) (sessionVector c w))) ≡ begunOf end call c i r w b
+    pub begun-done : isDone a ≡ true → (Done, written (begun end (termsOf c key r m) (sessionVector c w))) ≡ begunOf end call c i r m w b
     unfolding begunRefusals
-    begun-done = vector-begun call (λ k. written (begun end (termsOf c k r) (sessionVector c w))) (isRate r) (not good) busy _ _ (call-alike call good g) c i b w (eqb end sendingEnd) a key (rw rate at e)
+    begun-done = vector-begun call (λ k. written (begun end (termsOf c k r m) (sessionVector c w))) (termsRight end r m) (not good) busy _ _ (call-alike call good g) c i b w (eqb end sendingEnd) a key (rw right at e)

@@ -22,8 +22,8 @@ use Rattle.answers.proofs.OutcomeLaws.{neverDone, among-not-done, by-refusals}
 use Rattle.voice.specs.declared.call.Call.{Call}
 use Rattle.sizes.specs.Frame.{slotBits, sessionBits}
 use Rattle.voice.specs.Frame.{ofSlot}
-use Rattle.voice.specs.Call.{goodCall, knownVector, knownBy, untold, Standing, sending, receiving, standing, written, isBad, knows, widthOf}
-use Rattle.voice.specs.Slot.{goingOn, slotOn, lostRefusals, lostOf, voiceRefusals, streamOf, inSlot, voiceAfter, voiceBy, voiceOf, voiceByOctets, sessionStreamOf, IsSession}
+use Rattle.voice.specs.Call.{goodCall, knownVector, knownBy, Standing, sending, receiving, standing, written, isBad, knows, widthOf}
+use Rattle.voice.specs.Slot.{goingOn, ridden, slotOn, lostRefusals, lostOf, voiceRefusals, streamOf, inSlot, voiceAfter, voiceBy, voiceOf, voiceByOctets, sessionStreamOf, IsSession}
 use Rattle.voice.proofs.FrameLaws.{protect-same}
 use Rattle.voice.proofs.CallLaws.{by-stands, is-sender, knows-good, knows-inside, known-width, known-written}
 use Rattle.voice.proofs.SlotLaws.{by-long, slot-fits}
@@ -124,10 +124,10 @@ module _ (c : Call) (session : List ℕ) (i : IsSession c session) where
       (λ g e. held-as next refl refl g refl (again (goingOn (c .terms .cipher) (c .vector)) e)) refl (rw s at good-on) (rw s at h)))
       (λ o e s.
       let on : Standing = receiving (c .terms) (c .position + 1) (knownBy (c .known) (c .vector)) in
-      let next : Standing = receiving (c .terms) 0 (untold (c .terms .cipher)) in
+      let next : Standing = receiving (c .terms) 0 (ridden (c .terms) (knownBy (c .known) (c .vector))) in
       rw s
       (either-kept (ltb (c .position + 1) (sessionSlots (c .terms .cipher))) on next (λ g. held-as on refl refl g (sym (ap knows s) ∙ i .known) (own s))
-      (λ g e. held-as next refl refl g (rw e) (again (knownVector (untold (c .terms .cipher))) e)) refl (rw s at good-on) (rw s at h)))
+      (λ g e. held-as next refl refl g (rw e) (again (knownVector (ridden (c .terms) (knownBy (c .known) (c .vector)))) e)) refl (rw s at good-on) (rw s at h)))
     where
       good : goodCall c ≡ true
       good = knows-good c (i .known)

@@ -10,7 +10,7 @@ use Rattle.answers.specs.declared.Answer.the-variants.{Done}
 use Rattle.answers.proofs.OutcomeLaws.{Refusal, keeps, one-outcome}
 use Rattle.voice.specs.declared.call.Call.{Call}
 use Rattle.openings.specs.Ladder.{sessionVector, keyFor}
-use Rattle.voice.specs.Call.{sendingEnd, receivingEnd, closed, standing, termsOf, written, knows, endRefusals, endOf}
+use Rattle.voice.specs.Call.{sendingEnd, receivingEnd, byDefault, closed, standing, termsOf, written, knows, endRefusals, endOf}
 use Rattle.voice.specs.Opening.{joinRefusals, begunRefusals, begun, begunOf, openOf, startOf, joined, joinOf}
 use Rattle.voice.specs.Slot.{slotOn, lostRefusals, lostOf, voiceRefusals, streamOf, voiceAfter, voiceBy, voiceOf, voiceByOctets, sessionStreamOf}
 use Rattle.voice.specs.Vector.{withVector, announceRefusals, announceOf, following, nextRefusals, nextVectorOf}
@@ -29,11 +29,11 @@ module _ (a b : Answer) (x y : Call) (c : Call) where
   one-announce w = one-outcome a b x y
 
   module _ (n i r : ℕ) (book : List ℕ) where
-    pub one-join : (a, x) ≡ joinOf c n i r book → (b, y) ≡ joinOf c n i r book → (a ≡ b) × (x ≡ y)
-    one-join = one-outcome a b x y
+    pub one-join : (m : ℕ) → (a, x) ≡ joinOf c n i r m book → (b, y) ≡ joinOf c n i r m book → (a ≡ b) × (x ≡ y)
+    one-join m = one-outcome a b x y
 
-    pub one-open : (w : List ℕ) → (a, x) ≡ openOf c n i r w book → (b, y) ≡ openOf c n i r w book → (a ≡ b) × (x ≡ y)
-    one-open w = one-outcome a b x y
+    pub one-open : (m : ℕ) (w : List ℕ) → (a, x) ≡ openOf c n i r m w book → (b, y) ≡ openOf c n i r m w book → (a ≡ b) × (x ≡ y)
+    one-open m w = one-outcome a b x y
 
     pub one-start : (w : List ℕ) → (a, x) ≡ startOf c n i r w book → (b, y) ≡ startOf c n i r w book → (a ≡ b) × (x ≡ y)
     one-start w = one-outcome a b x y
@@ -91,18 +91,18 @@ module _ (c : Call) where
   voice-keeps = voice-by-keeps streamOf
 
   module _ (n i r : ℕ) (book : List ℕ) where
-    pub join-keeps : Refusal (joinOf c n i r book .0) → joinOf c n i r book .1 ≡ c
+    pub join-keeps : (m : ℕ) → Refusal (joinOf c n i r m book .0) → joinOf c n i r m book .1 ≡ c
     unfolding joinOf
-    join-keeps = keeps c (joinRefusals (standing c) n i r book) (Done, written (joined (termsOf n (keyFor book n i) r))) (omega arith)
+    join-keeps m = keeps c (joinRefusals (standing c) n i r m book) (Done, written (joined (termsOf n (keyFor book n i) r m))) (omega arith)
 
-    begun-keeps : (end : ℕ) (w : List ℕ) → Refusal (begunOf end c n i r w book .0) → begunOf end c n i r w book .1 ≡ c
-    begun-keeps end w =
-        keeps c (begunRefusals end (standing c) n i r w book) (Done, written (begun end (termsOf n (keyFor book n i) r) (sessionVector n w))) (omega arith)
+    begun-keeps : (end m : ℕ) (w : List ℕ) → Refusal (begunOf end c n i r m w book .0) → begunOf end c n i r m w book .1 ≡ c
+    begun-keeps end m w =
+        keeps c (begunRefusals end (standing c) n i r m w book) (Done, written (begun end (termsOf n (keyFor book n i) r m) (sessionVector n w))) (omega arith)
 
-    pub open-keeps : (w : List ℕ) → Refusal (openOf c n i r w book .0) → openOf c n i r w book .1 ≡ c
+    pub open-keeps : (m : ℕ) (w : List ℕ) → Refusal (openOf c n i r m w book .0) → openOf c n i r m w book .1 ≡ c
     unfolding openOf
     open-keeps = begun-keeps receivingEnd
 
     pub start-keeps : (w : List ℕ) → Refusal (startOf c n i r w book .0) → startOf c n i r w book .1 ≡ c
     unfolding startOf
-    start-keeps = begun-keeps sendingEnd
+    start-keeps = begun-keeps sendingEnd byDefault

@@ -1,32 +1,53 @@
 -- Slots of a call, as the code goes through them.
 use mathlib.Core.Path.{_≡_, refl, sym, ap, _∙_}
-use mathlib.Core.Bool.{Bool, true, false, not, true≢false}
+use mathlib.Core.Bool.{Bool, true, false, _&&_, not, true≢false}
 use mathlib.Core.List.{List}
 use Prim.Native.Nat.{ℕ, _+_, _*_, _≤_, _<_}
 use native.Mathlib.Nat.{zero-add}
 use native.Mathlib.Omega.{arith}
-use lib.Dec.{ltb}
+use lib.Dec.{ltb, eqb}
 use lib.ListN.{length}
-use borrow.Author.Tests.{eq-eqb, eqb-true, lt-ltb, le-ltb, not-false}
+use borrow.Author.Tests.{eq-eqb, eqb-true, lt-ltb, le-ltb, not-true, not-false}
 use Rattle.sizes.proofs.SizeLaws.{slots-at-most}
 use Rattle.ciphers.proofs.KeystreamLaws.{bits-stream}
 use Rattle.octets.specs.Tests.{pick}
 use Rattle.octets.specs.Bits.{bit, octetsFrom}
 use Rattle.octets.proofs.BitLaws.{bit-octetsFrom}
-use Rattle.sizes.specs.Ciphers.{sessionSlots}
+use Rattle.octets.proofs.TestLaws.{and-right}
+use Rattle.generator.specs.Generator.{nextVector}
+use Rattle.sizes.specs.Ciphers.{sessionSlots, noVector, scrambles}
 use Rattle.answers.specs.declared.Answer.{Answer}
 use Rattle.answers.specs.declared.Answer.the-variants.{Done, Held, WrongLength}
 use Rattle.answers.specs.Numbers.{numberOf}
 use Rattle.answers.specs.Outcomes.{Refusals, settled}
 use Rattle.answers.proofs.OutcomeLaws.{NoneHolds, none-settles, in-a-row, or-last, refused-alike, Refuses, answerAt, refused-at, Refusal, fromTwo, among-refuses, by-refusals, around}
+use Rattle.voice.specs.declared.call.Terms.{Terms}
 use Rattle.voice.specs.declared.call.Call.{Call}
 use Rattle.sizes.specs.Frame.{frameOctets, slotBits, sessionBits, sessionOctets}
 use Rattle.octets.proofs.Words.{word-ends}
 use Rattle.voice.specs.Frame.{ofSlot, protect}
-use Rattle.voice.specs.Call.{closedEnd, goodCall, standing, widthOf, written, widthIn, stands, knows}
-use Rattle.voice.specs.Slot.{slotOn, lostRefusals, lostOf, topMask, voiceRefusals, streamOf, inSlot, voiceAfter, voiceBy, voiceOf, shortRefusals, voiceByOctets}
+use Rattle.voice.specs.Call.{closedEnd, receivingEnd, unknownVector, carriedVector, byDefault, goodCall, carried, isKnown, knownNumber, knownVector, knownBy, untold, receiving, standing, callAt, widthOf, written, widthIn, stands, knows}
+use Rattle.voice.specs.Slot.{rides, ridden, slotOn, lostRefusals, lostOf, topMask, voiceRefusals, streamOf, inSlot, voiceAfter, voiceBy, voiceOf, shortRefusals, voiceByOctets}
 use Rattle.voice.proofs.FrameLaws.{protect-same}
-use Rattle.voice.proofs.CallLaws.{good-by, not-bad, stands-none, stands-some, width-in, inside, known-written}
+use Rattle.voice.proofs.CallLaws.{is-known, known-vector, untold-is, good-by, not-bad, stands-none, stands-some, width-in, inside, known-written}
+
+-- ---- a receiver as its next session starts
+
+module _ (t : Terms) (n : ℕ) (v : List ℕ) {b : Bool} (e : b ≡ rides t (not (eqb n unknownVector))) where
+  riding : rides t (isKnown (knownBy n v)) ≡ b
+  riding = ap (rides t) (is-known n v .0) ∙ sym e
+
+  pub ridden-carries : b ≡ true → (u : List ℕ) → u ≡ nextVector v → callAt receivingEnd t 0 carriedVector u ≡ written (receiving t 0 (ridden t (knownBy n v)))
+  ridden-carries q u f =
+      let some = not-true _ (and-right (eqb (t .strictness) byDefault) _ (and-right (not (scrambles (t .cipher))) _ (sym e ∙ q))) in
+      rw (riding ∙ q, known-vector n v some, f)
+
+  pub ridden-untold : b ≡ false → {m : ℕ} → m ≡ knownNumber (untold (t .cipher)) → callAt receivingEnd t 0 m noVector ≡ written (receiving t 0 (ridden t (knownBy n v)))
+  ridden-untold q f =
+      untold-is t 0 f
+      ∙ ap (λ (x : Bool). written (receiving t 0 (pick x (carried (nextVector (knownVector (knownBy n v)))) (untold (t .cipher))))) (sym (riding ∙ q))
+
+-- ---- a lost slot
 
 module _ (c : Call) where
   pub lost-refused : (n : ℕ) → Refuses (lostRefusals (standing c)) n → (answerAt (lostRefusals (standing c)) n, c) ≡ lostOf c

@@ -32,25 +32,43 @@ unknownVector = 0
 abbrev pub toldVector : ℕ
 toldVector = 1
 
+abbrev pub carriedVector : ℕ
+carriedVector = 2
+
+-- strictness: what a receiver does in a session whose announcement didn't come (document 02, W-206). By default it goes on with the generator's next
+-- vector where it knew the last; a strict one holds
+abbrev pub byDefault : ℕ
+byDefault = 0
+
+abbrev pub strict : ℕ
+strict = 1
+
 -- ---- the rules
 
--- a scramble vector is always told and zeros; a sender's DES or AES vector is told and not zero; an unknown one is kept as zeros
-unfoldable pub vectorRight : ℕ → ℕ → ℕ → Bool → Bool
-vectorRight end cipher known zeros =
+-- a rate, and a strictness: only a receiver is strict
+unfoldable pub termsRight : ℕ → ℕ → ℕ → Bool
+termsRight end rate strictness = isRate rate && (eqb strictness byDefault || (eqb strictness strict && eqb end receivingEnd))
+
+-- a scramble vector is always told and zeros; a sender's DES or AES vector is told and not zero; an unknown one is kept as zeros; and none is carried by a
+-- strict receiver
+unfoldable pub vectorRight : ℕ → ℕ → ℕ → ℕ → Bool → Bool
+vectorRight end cipher strictness known zeros =
     pick (scrambles cipher) (eqb known toldVector && zeros)
-    (pick (eqb end sendingEnd) (eqb known toldVector && not zeros) (pick (eqb known unknownVector) zeros (eqb known toldVector)))
+    (pick (eqb end sendingEnd) (eqb known toldVector && not zeros)
+    (pick (eqb known unknownVector) zeros (pick (eqb known carriedVector) (eqb strictness byDefault) (eqb known toldVector))))
 
 -- closed, all else zero
 unfoldable pub closedTests : Call → List Bool
 closedTests c =
-    eqb (c .end) closedEnd ∷ eqb (c .terms .cipher) 0 ∷ eqb (c .terms .rate) 0 ∷ eqb (c .position) 0 ∷ eqb (c .known) unknownVector
-    ∷ allZero (c .terms .key) ∷ allZero (c .vector) ∷ []
+    eqb (c .end) closedEnd ∷ eqb (c .terms .cipher) 0 ∷ eqb (c .terms .rate) 0 ∷ eqb (c .terms .strictness) 0 ∷ eqb (c .position) 0
+    ∷ eqb (c .known) unknownVector ∷ allZero (c .terms .key) ∷ allZero (c .vector) ∷ []
 
--- its end, cipher, allowed key, rate, position inside the session, and vector with what is known of it
+-- its end, cipher, allowed key, rate and strictness, position inside the session, and vector with what is known of it
 unfoldable pub openTests : Call → List Bool
 openTests c =
-    leb sendingEnd (c .end) ∷ leb (c .end) receivingEnd ∷ keyRight (c .terms .cipher) (c .terms .key) ∷ isRate (c .terms .rate)
-    ∷ ltb (c .position) (sessionSlots (c .terms .cipher)) ∷ vectorRight (c .end) (c .terms .cipher) (c .known) (allZero (c .vector)) ∷ []
+    leb sendingEnd (c .end) ∷ leb (c .end) receivingEnd ∷ keyRight (c .terms .cipher) (c .terms .key)
+    ∷ termsRight (c .end) (c .terms .rate) (c .terms .strictness) ∷ ltb (c .position) (sessionSlots (c .terms .cipher))
+    ∷ vectorRight (c .end) (c .terms .cipher) (c .terms .strictness) (c .known) (allZero (c .vector)) ∷ []
 
 unfoldable pub isClosed : Call → Bool
 isClosed c = every (closedTests c)
@@ -64,26 +82,34 @@ goodCall c = isClosed c || isOpen c
 
 -- ---- what a call stands for
 
--- what a receiver knows of its session's vector
+-- what a receiver knows of its session's vector: nothing; what it was told, by the opening or as the session started; or, told nothing, the generator's next
 pub data Known : Type 0 where
   unknown : Known
-  told : List ℕ → Known
+  told carried : List ℕ → Known
 
 abbrev pub isKnown : Known → Bool
 isKnown unknown = false
 isKnown (told v) = true
+isKnown (carried v) = true
+
+abbrev pub isTold : Known → Bool
+isTold unknown = false
+isTold (told v) = true
+isTold (carried v) = false
 
 -- its number and vector in the struct, and back
 abbrev pub knownNumber : Known → ℕ
 knownNumber unknown = unknownVector
 knownNumber (told v) = toldVector
+knownNumber (carried v) = carriedVector
 
 abbrev pub knownVector : Known → List ℕ
 knownVector unknown = noVector
 knownVector (told v) = v
+knownVector (carried v) = v
 
 abbrev pub knownBy : ℕ → List ℕ → Known
-knownBy known v = pick (eqb known unknownVector) unknown (told v)
+knownBy known v = pick (eqb known unknownVector) unknown (pick (eqb known toldVector) (told v) (carried v))
 
 -- where no vector was told, scramble's is zeros all the same
 abbrev pub untold : ℕ → Known
@@ -104,8 +130,8 @@ standing c =
     (receiving (c .terms) (c .position) (knownBy (c .known) (c .vector))))
     bad)
 
-abbrev pub termsOf : ℕ → List ℕ → ℕ → Terms
-termsOf cipher key rate = record { cipher = cipher; key = key; rate = rate }
+abbrev pub termsOf : ℕ → List ℕ → ℕ → ℕ → Terms
+termsOf cipher key rate strictness = record { cipher = cipher; key = key; rate = rate; strictness = strictness }
 
 -- the speech bits of a word, by the rate
 abbrev pub widthOf : Terms → ℕ
@@ -116,7 +142,7 @@ callAt end t p known v = record { end = end; terms = t; position = p; known = kn
 
 -- no call: all zero
 abbrev pub noCall : Call
-noCall = callAt closedEnd (termsOf 0 (replicate keyRoom 0) 0) 0 unknownVector noVector
+noCall = callAt closedEnd (termsOf 0 (replicate keyRoom 0) 0 0) 0 unknownVector noVector
 
 -- the one struct for what a call stands for (there is none for bad: no operation leaves a bad call but as it was)
 abbrev pub written : Standing → Call

@@ -8,39 +8,39 @@ use Rattle.answers.specs.Outcomes.{Refusals, outcome}
 use Rattle.voice.specs.declared.call.Terms.{Terms}
 use Rattle.voice.specs.declared.call.Call.{Call}
 use Rattle.sizes.specs.Ciphers.{scrambles}
-use Rattle.sizes.specs.Frame.{isRate}
 use Rattle.openings.specs.Ladder.{sessionVector, keyFor, keyRefusals, vectorRefusals}
-use Rattle.voice.specs.Call.{sendingEnd, receivingEnd, told, untold, Standing, sending, receiving, standing, termsOf, written, isBad, stands}
+use Rattle.voice.specs.Call.{sendingEnd, receivingEnd, byDefault, termsRight, told, untold, Standing, sending, receiving, standing, termsOf, written, isBad, stands}
 
 -- the slots of a superframe
 abbrev pub superframeSlots : ℕ
 superframeSlots = 4
 
--- 2, 3 of cipher, key ID and rate, 4 of the call, 9 while a call stands, 4 of the book, 5, 6
-unfoldable pub joinRefusals : Standing → ℕ → ℕ → ℕ → List ℕ → Refusals
-joinRefusals s c i r b = keyRefusals (isRate r) (isBad s) (stands s) c i b
+-- 2, 3 of cipher, key ID, rate and strictness, 4 of the call, 9 while a call stands, 4 of the book, 5, 6
+unfoldable pub joinRefusals : Standing → ℕ → ℕ → ℕ → ℕ → List ℕ → Refusals
+joinRefusals s c i r m b = keyRefusals (termsRight receivingEnd r m) (isBad s) (stands s) c i b
 
 -- the same of a call at one of its ends, with the vector's 2 first, and its 8 last for a sender
-unfoldable pub begunRefusals : ℕ → Standing → ℕ → ℕ → ℕ → List ℕ → List ℕ → Refusals
-begunRefusals end s c i r w b = vectorRefusals (eqb end sendingEnd) (isRate r) (isBad s) (stands s) c i w b
+unfoldable pub begunRefusals : ℕ → Standing → ℕ → ℕ → ℕ → ℕ → List ℕ → List ℕ → Refusals
+begunRefusals end s c i r m w b = vectorRefusals (eqb end sendingEnd) (termsRight end r m) (isBad s) (stands s) c i w b
 
 -- a call at one of its ends, at position 0 of its first session, vector told
 abbrev pub begun : ℕ → Terms → List ℕ → Standing
 begun end t v = pick (eqb end sendingEnd) (sending t 0 v) (receiving t 0 (told v))
 
-abbrev pub begunOf : ℕ → Call → ℕ → ℕ → ℕ → List ℕ → List ℕ → Answer × Call
-begunOf end call c i r w b =
-    outcome call (begunRefusals end (standing call) c i r w b) (written (begun end (termsOf c (keyFor b c i) r) (sessionVector c w)))
+abbrev pub begunOf : ℕ → Call → ℕ → ℕ → ℕ → ℕ → List ℕ → List ℕ → Answer × Call
+begunOf end call c i r m w b =
+    outcome call (begunRefusals end (standing call) c i r m w b) (written (begun end (termsOf c (keyFor b c i) r m) (sessionVector c w)))
 
-unfoldable pub openOf : Call → ℕ → ℕ → ℕ → List ℕ → List ℕ → Answer × Call
+unfoldable pub openOf : Call → ℕ → ℕ → ℕ → ℕ → List ℕ → List ℕ → Answer × Call
 openOf = begunOf receivingEnd
 
+-- a sender is told every vector: it has no strictness
 unfoldable pub startOf : Call → ℕ → ℕ → ℕ → List ℕ → List ℕ → Answer × Call
-startOf = begunOf sendingEnd
+startOf call c i r = begunOf sendingEnd call c i r byDefault
 
 -- a receiver at the end of a first superframe: scramble is at position 0 and running; DES and AES are at position 4, vector unknown
 abbrev pub joined : Terms → Standing
 joined t = receiving t (pick (scrambles (t .cipher)) 0 superframeSlots) (untold (t .cipher))
 
-unfoldable pub joinOf : Call → ℕ → ℕ → ℕ → List ℕ → Answer × Call
-joinOf call c i r b = outcome call (joinRefusals (standing call) c i r b) (written (joined (termsOf c (keyFor b c i) r)))
+unfoldable pub joinOf : Call → ℕ → ℕ → ℕ → ℕ → List ℕ → Answer × Call
+joinOf call c i r m b = outcome call (joinRefusals (standing call) c i r m b) (written (joined (termsOf c (keyFor b c i) r m)))

@@ -1,7 +1,7 @@
 -- A voice slot of a call (document 01, "Voice"), arrived or lost.
 use mathlib.Core.Path.{_≡_}
 use mathlib.Core.List.{List, [], _∷_, _++_}
-use mathlib.Core.Bool.{true, not}
+use mathlib.Core.Bool.{Bool, true, _&&_, not}
 use Prim.Native.Nat.{ℕ, _+_, _-_, _^_, _≤_, _<_}
 use lib.Dec.{ltb, eqb}
 use lib.ListN.{length}
@@ -13,10 +13,11 @@ use Rattle.answers.specs.Outcomes.{Refusals, settled, outcome}
 use Rattle.sizes.specs.Ciphers.{sessionSlots, noVector, scrambles}
 use Rattle.ciphers.specs.Keystream.{stream}
 use Rattle.generator.specs.Generator.{nextVector}
+use Rattle.voice.specs.declared.call.Terms.{Terms}
 use Rattle.voice.specs.declared.call.Call.{Call}
 use Rattle.sizes.specs.Frame.{words, frameOctets, sessionBits, sessionOctets}
 use Rattle.voice.specs.Frame.{ofSlot, protect}
-use Rattle.voice.specs.Call.{untold, Standing, closed, bad, sending, receiving, standing, widthOf, widthIn, written, isBad, stands, receives, knows}
+use Rattle.voice.specs.Call.{byDefault, Known, carried, isKnown, knownVector, untold, Standing, closed, bad, sending, receiving, standing, widthOf, widthIn, written, isBad, stands, receives, knows}
 
 -- ---- a slot on
 
@@ -24,12 +25,20 @@ use Rattle.voice.specs.Call.{untold, Standing, closed, bad, sending, rec
 unfoldable pub goingOn : ℕ → List ℕ → List ℕ
 goingOn c v = pick (scrambles c) noVector (nextVector v)
 
+-- with DES or AES a receiver goes on with the generator's next vector by default, if it knew the last
+abbrev pub rides : Terms → Bool → Bool
+rides t knew = not (scrambles (t .cipher)) && (eqb (t .strictness) byDefault && knew)
+
+-- what it knows as its next session starts, told nothing of it
+abbrev pub ridden : Terms → Known → Known
+ridden t k = pick (rides t (isKnown k)) (carried (nextVector (knownVector k))) (untold (t .cipher))
+
 -- a call one slot on: after its session's last slot it is in the next one, with the next vector, of which a receiver was told nothing
 unfoldable pub slotOn : Standing → Standing
 slotOn closed = closed
 slotOn bad = bad
 slotOn (sending t p v) = pick (ltb (p + 1) (sessionSlots (t .cipher))) (sending t (p + 1) v) (sending t 0 (goingOn (t .cipher) v))
-slotOn (receiving t p k) = pick (ltb (p + 1) (sessionSlots (t .cipher))) (receiving t (p + 1) k) (receiving t 0 (untold (t .cipher)))
+slotOn (receiving t p k) = pick (ltb (p + 1) (sessionSlots (t .cipher))) (receiving t (p + 1) k) (receiving t 0 (ridden t k))
 
 -- ---- a lost slot
 

@@ -10,16 +10,16 @@ use Rattle.answers.specs.Outcomes.{Refusals, outcome}
 use Rattle.generator.specs.Generator.{nextVector}
 use Rattle.voice.specs.declared.call.Call.{Call}
 use Rattle.sizes.specs.Ciphers.{vectorOctets, noVector, scrambles}
-use Rattle.voice.specs.Call.{isKnown, told, Standing, closed, bad, sending, receiving, standing, written, isBad}
+use Rattle.voice.specs.Call.{isTold, told, Standing, closed, bad, sending, receiving, standing, written, isBad}
 
 -- ---- announce
 
--- DES or AES at position 0 with the vector unknown
+-- DES or AES at position 0 with no vector told: unknown, or carried, which gives way
 abbrev pub awaits : Standing → Bool
 awaits closed = false
 awaits bad = false
 awaits (sending t p v) = false
-awaits (receiving t p k) = not (scrambles (t .cipher)) && (eqb p 0 && not (isKnown k))
+awaits (receiving t p k) = not (scrambles (t .cipher)) && (eqb p 0 && not (isTold k))
 
 -- a receiver that has been told its vector
 abbrev pub withVector : List ℕ → Standing → Standing

@@ -1,6 +1,6 @@
 // A call by value, the rules that a good one keeps, and its end.
 ghost use mathlib.Core.Path.{_≡_};
-ghost use Rattle.voice.specs.Call.{receivingEnd, vectorRight, isClosed, isOpen, goodCall, knownNumber, untold, sending, callAt, noCall, written, endOf};
+ghost use Rattle.voice.specs.Call.{receivingEnd, termsRight, vectorRight, isClosed, isOpen, goodCall, knownNumber, untold, sending, callAt, noCall, written, endOf};
 use answers::Answer;
 use ciphers::key::key_right;
 use octets::all_zero;
@@ -22,14 +22,22 @@ pub const UNKNOWN: u8 = 0;
 
 pub const TOLD: u8 = 1;
 
-// What an opening fixes.
+pub const CARRIED: u8 = 2;
+
+// What a receiver does in a session whose announcement didn't come: it goes on with the generator's next vector where it knew the last, or it holds.
+pub const DEFAULT: u8 = 0;
+
+pub const STRICT: u8 = 1;
+
+// What an opening fixes. A sender's strictness is 0.
 pub struct Terms {
     pub cipher: u8,
     pub key: [u8; KEY_ROOM],
     pub rate: u8,
+    pub strictness: u8,
 }
 
-// Closed is all zero. A scramble vector is told and zeros, an unknown vector is zeros.
+// Closed is all zero. A scramble vector is told and zeros, an unknown vector is zeros, and a strict receiver carries none.
 pub struct Call {
     pub end: u8,
     pub terms: Terms,
@@ -46,8 +54,20 @@ pub struct Stepped {
 
 // ---- the rules
 
-fn vector_right(end: u8, cipher: u8, known: u8, zeros: bool) -> bool
-    ensures { λ r. ⌜ r ≡ vectorRight end cipher known zeros ⌝ }
+pub(crate) fn terms_right(end: u8, rate: u8, strictness: u8) -> bool
+    ensures { λ r. ⌜ r ≡ termsRight end rate strictness ⌝ }
+{
+    if !is_rate(rate) {
+        return false;
+    }
+    if strictness == DEFAULT {
+        return true;
+    }
+    strictness == STRICT && end == RECEIVING
+}
+
+fn vector_right(end: u8, cipher: u8, strictness: u8, known: u8, zeros: bool) -> bool
+    ensures { λ r. ⌜ r ≡ vectorRight end cipher strictness known zeros ⌝ }
 {
     if cipher == Scramble::TYPE {
         if known == TOLD {
@@ -64,6 +84,9 @@ fn vector_right(end: u8, cipher: u8, known: u8, zeros: bool) -> bool
     if known == UNKNOWN {
         return zeros;
     }
+    if known == CARRIED {
+        return strictness == DEFAULT;
+    }
     known == TOLD
 }
 
@@ -77,6 +100,9 @@ fn is_closed(call: Call) -> bool
         return false;
     }
     if call.terms.rate != 0 {
+        return false;
+    }
+    if call.terms.strictness != 0 {
         return false;
     }
     if call.position != 0 {
@@ -106,14 +132,20 @@ fn is_open(call: Call) -> bool
     if !key_right(call.terms.cipher, key) {
         return false;
     }
-    if !is_rate(call.terms.rate) {
+    if !terms_right(call.end, call.terms.rate, call.terms.strictness) {
         return false;
     }
     if wide(call.position) >= session_slots(call.terms.cipher) {
         return false;
     }
     let vector = call.vector;
-    vector_right(call.end, call.terms.cipher, call.known, all_zero(&vector))
+    vector_right(
+        call.end,
+        call.terms.cipher,
+        call.terms.strictness,
+        call.known,
+        all_zero(&vector),
+    )
 }
 
 pub fn good_call(call: Call) -> bool
@@ -136,6 +168,7 @@ pub fn no_call() -> Call
             cipher: 0,
             key: [0; KEY_ROOM],
             rate: 0,
+            strictness: 0,
         },
         position: 0,
         known: UNKNOWN,

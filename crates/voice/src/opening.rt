@@ -4,6 +4,7 @@ ghost use Rattle.voice.specs.Call.{written};
 ghost use Rattle.voice.specs.Opening.{begun, begunOf, openOf, startOf, joined, joinOf};
 use crate::call::CLOSED;
 use crate::call::Call;
+use crate::call::DEFAULT;
 use crate::call::RECEIVING;
 use crate::call::SENDING;
 use crate::call::Stepped;
@@ -13,6 +14,7 @@ use crate::call::good_call;
 use crate::call::receiver;
 use crate::call::refused;
 use crate::call::sender;
+use crate::call::terms_right;
 use crate::call::untold;
 use answers::Answer;
 use openings::opening_key;
@@ -20,7 +22,6 @@ use openings::opening_key_with;
 use openings::session_vector;
 use sizes::cipher::Scramble;
 use sizes::cipher::VECTOR_OCTETS;
-use sizes::frame::is_rate;
 
 const SUPERFRAME_SLOTS: u8 = 4;
 
@@ -34,12 +35,21 @@ fn begun(end: u8, terms: Terms, vector: [u8; VECTOR_OCTETS]) -> Call
     receiver(terms, 0, TOLD, vector)
 }
 
-fn begin(end: u8, call: Call, cipher: u8, id: u8, rate: u8, vector: &[u8], book: &[u8]) -> Stepped
-    ensures { λ r. ⌜ (r .answer, r .call) ≡ begunOf end call cipher id rate (now (vector .entry)) (now (book .entry)) ⌝ }
+fn begin(
+    end: u8,
+    call: Call,
+    cipher: u8,
+    id: u8,
+    rate: u8,
+    strictness: u8,
+    vector: &[u8],
+    book: &[u8],
+) -> Stepped
+    ensures { λ r. ⌜ (r .answer, r .call) ≡ begunOf end call cipher id rate strictness (now (vector .entry)) (now (book .entry)) ⌝ }
 {
     let ready = opening_key_with(
         end == SENDING,
-        is_rate(rate),
+        terms_right(end, rate, strictness),
         !good_call(call),
         call.end != CLOSED,
         cipher,
@@ -56,22 +66,35 @@ fn begin(end: u8, call: Call, cipher: u8, id: u8, rate: u8, vector: &[u8], book:
         answer: Answer::Done,
         call: begun(
             end,
-            Terms { cipher, key, rate },
+            Terms {
+                cipher,
+                key,
+                rate,
+                strictness,
+            },
             session_vector(cipher, vector),
         ),
     }
 }
 
-pub fn open(call: Call, cipher: u8, id: u8, rate: u8, vector: &[u8], book: &[u8]) -> Stepped
-    ensures { λ r. ⌜ (r .answer, r .call) ≡ openOf call cipher id rate (now (vector .entry)) (now (book .entry)) ⌝ }
+pub fn open(
+    call: Call,
+    cipher: u8,
+    id: u8,
+    rate: u8,
+    strictness: u8,
+    vector: &[u8],
+    book: &[u8],
+) -> Stepped
+    ensures { λ r. ⌜ (r .answer, r .call) ≡ openOf call cipher id rate strictness (now (vector .entry)) (now (book .entry)) ⌝ }
 {
-    begin(RECEIVING, call, cipher, id, rate, vector, book)
+    begin(RECEIVING, call, cipher, id, rate, strictness, vector, book)
 }
 
 pub fn start(call: Call, cipher: u8, id: u8, rate: u8, vector: &[u8], book: &[u8]) -> Stepped
     ensures { λ r. ⌜ (r .answer, r .call) ≡ startOf call cipher id rate (now (vector .entry)) (now (book .entry)) ⌝ }
 {
-    begin(SENDING, call, cipher, id, rate, vector, book)
+    begin(SENDING, call, cipher, id, rate, DEFAULT, vector, book)
 }
 
 // A receiver at the end of a first superframe.
@@ -85,11 +108,11 @@ fn joining(terms: Terms) -> Call
     receiver(terms, SUPERFRAME_SLOTS, known, [0; VECTOR_OCTETS])
 }
 
-pub fn join(call: Call, cipher: u8, id: u8, rate: u8, book: &[u8]) -> Stepped
-    ensures { λ r. ⌜ (r .answer, r .call) ≡ joinOf call cipher id rate (now (book .entry)) ⌝ }
+pub fn join(call: Call, cipher: u8, id: u8, rate: u8, strictness: u8, book: &[u8]) -> Stepped
+    ensures { λ r. ⌜ (r .answer, r .call) ≡ joinOf call cipher id rate strictness (now (book .entry)) ⌝ }
 {
     let ready = opening_key(
-        is_rate(rate),
+        terms_right(RECEIVING, rate, strictness),
         !good_call(call),
         call.end != CLOSED,
         cipher,
@@ -103,6 +126,11 @@ pub fn join(call: Call, cipher: u8, id: u8, rate: u8, book: &[u8]) -> Stepped
     let key = ready.key;
     Stepped {
         answer: Answer::Done,
-        call: joining(Terms { cipher, key, rate }),
+        call: joining(Terms {
+            cipher,
+            key,
+            rate,
+            strictness,
+        }),
     }
 }

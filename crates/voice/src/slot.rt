@@ -2,14 +2,17 @@
 ghost use mathlib.Core.Path.{_≡_};
 ghost use Prim.Native.Nat.{_<_};
 ghost use lib.ListN.{length};
-ghost use mathlib.Core.Bool.{true};
+ghost use mathlib.Core.Bool.{true, not};
+ghost use lib.Dec.{eqb};
 ghost use Rattle.sizes.specs.Ciphers.{sessionSlots};
 ghost use Rattle.sizes.specs.Frame.{frameOctets, slotOctets};
 ghost use Rattle.octets.specs.Lists.{allZero};
-ghost use Rattle.voice.specs.Call.{closedEnd, receivingEnd, vectorRight, goodCall, knownBy, sending, receiving, standing, widthOf, written};
-ghost use Rattle.voice.specs.Slot.{goingOn, slotOn, lostOf, streamOf, inSlot, voiceOf, voiceByOctets, sessionStreamOf};
+ghost use Rattle.voice.specs.Call.{closedEnd, receivingEnd, unknownVector, vectorRight, goodCall, knownBy, sending, receiving, standing, widthOf, written};
+ghost use Rattle.voice.specs.Slot.{goingOn, rides, ridden, slotOn, lostOf, streamOf, inSlot, voiceOf, voiceByOctets, sessionStreamOf};
+use crate::call::CARRIED;
 use crate::call::CLOSED;
 use crate::call::Call;
+use crate::call::DEFAULT;
 use crate::call::RECEIVING;
 use crate::call::SENDING;
 use crate::call::Stepped;
@@ -39,16 +42,39 @@ const TOP_MASK: u8 = 15;
 
 // ---- a slot on
 
+// Whether a receiver goes on with the generator's next vector.
+fn is_riding(terms: Terms, known: u8) -> bool
+    ensures { λ r. ⌜ r ≡ rides terms (not (eqb known unknownVector)) ⌝ }
+{
+    if terms.cipher == Scramble::TYPE {
+        return false;
+    }
+    if terms.strictness != DEFAULT {
+        return false;
+    }
+    known != UNKNOWN
+}
+
+// A receiver as its next session starts.
+fn next_session(terms: Terms, known: u8, vector: [u8; VECTOR_OCTETS]) -> Call
+    ensures { λ r. ⌜ r ≡ written (receiving terms 0 (ridden terms (knownBy known vector))) ⌝ }
+{
+    if is_riding(terms, known) {
+        return receiver(terms, 0, CARRIED, generator::next_vector(&vector));
+    }
+    receiver(terms, 0, untold(terms.cipher), [0; VECTOR_OCTETS])
+}
+
 // A receiver after a slot.
 fn receiver_on(terms: Terms, position: u8, known: u8, vector: [u8; VECTOR_OCTETS]) -> Call
-    requires { ⌜ (position < sessionSlots (terms .cipher)) × (vectorRight receivingEnd (terms .cipher) known (allZero vector) ≡ true) ⌝ }
+    requires { ⌜ (position < sessionSlots (terms .cipher)) × (vectorRight receivingEnd (terms .cipher) (terms .strictness) known (allZero vector) ≡ true) ⌝ }
     ensures { λ r. ⌜ r ≡ written (slotOn (receiving terms position (knownBy known vector))) ⌝ }
 {
     let heard = position + 1;
     if wide(heard) < session_slots(terms.cipher) {
         return receiver(terms, heard, known, vector);
     }
-    receiver(terms, 0, untold(terms.cipher), [0; VECTOR_OCTETS])
+    next_session(terms, known, vector)
 }
 
 // The vector of a sender's next session.

@@ -8,7 +8,6 @@ use crate::call::RECEIVING;
 use crate::call::SENDING;
 use crate::call::Stepped;
 use crate::call::TOLD;
-use crate::call::UNKNOWN;
 use crate::call::good_call;
 use crate::call::receiver;
 use crate::call::refused;
@@ -17,7 +16,7 @@ use octets::copy;
 use sizes::cipher::Scramble;
 use sizes::cipher::VECTOR_OCTETS;
 
-// Whether the call waits for a vector.
+// Whether the call waits for a vector: it was told none of this session.
 fn is_awaiting(call: Call) -> bool
     requires { ⌜ goodCall call ≡ true ⌝ }
     ensures { λ r. ⌜ r ≡ awaits (standing call) ⌝ }
@@ -31,10 +30,10 @@ fn is_awaiting(call: Call) -> bool
     if call.position != 0 {
         return false;
     }
-    call.known == UNKNOWN
+    call.known != TOLD
 }
 
-// A vector for the session that begins. It belongs to no session that is under way.
+// A vector for the session that begins, once in it; a carried one gives way. It belongs to no session that is under way.
 pub fn announce(call: Call, vector: &[u8]) -> Stepped
     ensures { λ r. ⌜ (r .answer, r .call) ≡ announceOf call (now (vector .entry)) ⌝ }
 {

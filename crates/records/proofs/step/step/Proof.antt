@@ -33,10 +33,10 @@ returns : tie.Need-returns
 returns c = (comes (c .no-frame .result) _ _ (c .no-frame .ensures .0) (c .no-frame .ensures .1) (c .no-frame .ensures .2) (load-is _ _ _ _ (c .before .before .before .before .before .before .before .parsed .given .1) ∙ ap (bookStep (c .before .before .before .before .before .before .before .before .before .before .before .before .args .call)) (sym (c .before .before .before .load .ensures))), (rw (c .no-frame .ensures .2) (omega arith), rw (c .no-frame .ensures .3, c .no-frame .ensures .1) (c .before .before .before .before .before .before .before .before .before .before .before .before .pre .2)))
 
 returns-2 : tie.Need-returns-2
-returns-2 c = (comes (c .anew .result) _ _ (c .anew .ensures .0 .0) (c .anew .ensures .0 .1) (c .anew .ensures .0 .2) (open-is _ _ _ _ (c .before .before .before .before .before .parsed2 .given .1) ∙ ap (callStep (now (c .before .before .before .before .before .before .before .before .before .before .args .book))) (sym (c .before .«open» .ensures))), (rw (c .anew .ensures .0 .2) (omega arith), refused-cached _ _ (c .before .before .before .before .before .before .before .before .before .before .pre .2) (c .before .«open» .ensures) (open-keeps _ _ _ _ _ _) (c .anew .ensures .0 .1) (c .anew .ensures .1)))
+returns-2 c = (comes (c .anew .result) _ _ (c .anew .ensures .0 .0) (c .anew .ensures .0 .1) (c .anew .ensures .0 .2) (open-is _ _ _ _ (c .before .before .before .before .before .parsed2 .given .1) ∙ ap (callStep (now (c .before .before .before .before .before .before .before .before .before .before .args .book))) (sym (c .before .«open» .ensures))), (rw (c .anew .ensures .0 .2) (omega arith), refused-cached _ _ (c .before .before .before .before .before .before .before .before .before .before .pre .2) (c .before .«open» .ensures) (open-keeps _ _ _ _ _ _ _) (c .anew .ensures .0 .1) (c .anew .ensures .1)))
 
 returns-3 : tie.Need-returns-3
-returns-3 c = (comes (c .anew2 .result) _ _ (c .anew2 .ensures .0 .0) (c .anew2 .ensures .0 .1) (c .anew2 .ensures .0 .2) (join-is _ _ _ _ (c .before .before .before .before .parsed3 .given .1) ∙ ap (callStep (now (c .before .before .before .before .before .before .before .before .before .args .book))) (sym (c .before .join .ensures))), (rw (c .anew2 .ensures .0 .2) (omega arith), refused-cached _ _ (c .before .before .before .before .before .before .before .before .before .pre .2) (c .before .join .ensures) (join-keeps _ _ _ _ _) (c .anew2 .ensures .0 .1) (c .anew2 .ensures .1)))
+returns-3 c = (comes (c .anew2 .result) _ _ (c .anew2 .ensures .0 .0) (c .anew2 .ensures .0 .1) (c .anew2 .ensures .0 .2) (join-is _ _ _ _ (c .before .before .before .before .parsed3 .given .1) ∙ ap (callStep (now (c .before .before .before .before .before .before .before .before .before .args .book))) (sym (c .before .join .ensures))), (rw (c .anew2 .ensures .0 .2) (omega arith), refused-cached _ _ (c .before .before .before .before .before .before .before .before .before .pre .2) (c .before .join .ensures) (join-keeps _ _ _ _ _ _) (c .anew2 .ensures .0 .1) (c .anew2 .ensures .1)))
 
 returns-4 : tie.Need-returns-4
 returns-4 c = (slot-comes (c .before .before .before .before .voice-slot .result) _ _ _ (omega (arith, length-take-le recordFrame (now (c .before .before .before .before .before .before .before .before .before .before .before .before .before .args .octets)) (omega (arith, c .before .before .before .before .before .before .before .before .before .before .before .before .before .pre .0)))) (c .before .before .before .before .voice-slot .ensures .0) (c .before .before .before .before .voice-slot .ensures .1 .0) (voice-is _ _ _ _ (c .before .before .before .before .before .before .before .before .parsed4 .given .1)), (shown-fits (c .before .before .before .before .voice-slot .result .answer) (c .before .before .before .before .voice-slot .ensures .1 .0), c .before .before .before .before .voice-slot .ensures .1 .1))

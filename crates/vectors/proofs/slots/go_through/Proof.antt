@@ -7,10 +7,10 @@ use Rattle.vectors.proofs.slots.go_through.Statement.{statement}
 use Rattle.vectors.proofs.slots.go_through.Tie as tie
 
 abbrev Inv-loop : tie.InvT-loop
-Inv-loop slots frame₀ sender₀ k₀ frame sender k = length frame ≡ length frame₀
+Inv-loop slots frame₀ gone₀ k₀ frame gone k = length frame ≡ length frame₀
 
 abbrev μ-loop : tie.MeasureT-loop
-μ-loop slots frame₀ sender₀ k₀ frame sender k = slots - k
+μ-loop slots frame₀ gone₀ k₀ frame gone k = slots - k
 
 pub go-through-spec : {M : Type 1} → statement M
 go-through-spec =

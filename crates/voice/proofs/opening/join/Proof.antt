@@ -15,6 +15,6 @@ join-spec =
     (λ c κs. search needs)
     (λ c κs. search needs)
     (λ c κs. search needs)
-    (λ c. refusal-is (c .refused .ensures) (join-refused _ _ (c .before .before .before .before .before .good-call .ensures) _ _ _ _ _ _ (c .before .before .before .before .before .before .is-rate .ensures) (c .before .before .before .opening-key .ensures) (not-done (c .before .before .before .opening-key .result .answer) (c .before .before .number .ensures) (c .before .if1 .taken))))
+    (λ c. refusal-is (c .refused .ensures) (join-refused _ _ (c .before .before .before .before .before .good-call .ensures) _ _ _ _ _ _ _ (c .before .before .before .before .before .before .terms-right .ensures) (c .before .before .before .opening-key .ensures) (not-done (c .before .before .before .opening-key .result .answer) (c .before .before .number .ensures) (c .before .if1 .taken))))
     (λ c κs. search needs)
-    (λ c. rw (c .joining .ensures) (join-done _ _ (c .before .before .before .before .before .before .good-call .ensures) _ _ _ _ _ _ (c .before .before .before .before .before .before .before .is-rate .ensures) (c .before .before .before .before .opening-key .ensures) (is-done (c .before .before .before .before .opening-key .result .answer) (c .before .before .before .number .ensures) (c .before .before .if1 .left)))))
+    (λ c. rw (c .joining .ensures) (join-done _ _ (c .before .before .before .before .before .before .good-call .ensures) _ _ _ _ _ _ _ (c .before .before .before .before .before .before .before .terms-right .ensures) (c .before .before .before .before .opening-key .ensures) (is-done (c .before .before .before .before .opening-key .result .answer) (c .before .before .before .number .ensures) (c .before .before .if1 .left)))))

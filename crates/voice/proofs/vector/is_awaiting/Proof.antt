@@ -1,7 +1,7 @@
 -- `voice::vector::is_awaiting` meets its contract.
 use mathlib.Core.Path.{sym}
 use borrow.Author.Tests.{eq-eqb, ne-eqb}
-use Rattle.voice.proofs.CallLaws.{is-known, is-receiver}
+use Rattle.voice.proofs.CallLaws.{is-told, is-receiver}
 use Rattle.voice.proofs.VectorLaws.{awaits-not}
 use Rattle.voice.proofs.vector.is_awaiting.Statement.{statement}
 use Rattle.voice.proofs.vector.is_awaiting.Tie as tie
@@ -13,4 +13,4 @@ is-awaiting-spec =
     (λ c. sym (awaits-not _ (c .before .before .pre) (c .if1 .taken)))
     (λ c. rw (is-receiver _ (c .before .before .before .before .pre) (c .before .before .if1 .left), eq-eqb _ _ (c .if2 .taken)))
     (λ c. rw (is-receiver _ (c .before .before .before .before .before .before .pre) (c .before .before .before .before .if1 .left), ne-eqb _ _ (c .before .before .if2 .left), ne-eqb _ _ (c .if3 .taken)))
-    (λ c. rw (is-receiver _ (c .before .before .before .before .before .before .before .pre) (c .before .before .before .before .before .if1 .left), ne-eqb _ _ (c .before .before .before .if2 .left), eq-eqb _ _ (c .before .if3 .left), is-known _ _ .1)))
+    (λ c. rw (is-receiver _ (c .before .before .before .before .before .before .before .pre) (c .before .before .before .before .before .if1 .left), ne-eqb _ _ (c .before .before .before .if2 .left), eq-eqb _ _ (c .before .if3 .left), is-told _ _)))

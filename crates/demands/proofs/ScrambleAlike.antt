@@ -1,0 +1,162 @@
+-- With scramble the two ways are one: whatever our receiver is told, in whatever order, strict or by default it makes the same of it.
+use mathlib.Core.Path.{_≡_, refl, sym, ap, ap₂, subst}
+use mathlib.Core.Bool.{Bool, true, false, true≢false}
+use mathlib.Core.List.{List, [], _∷_}
+use Prim.Native.Nat.{ℕ, _+_}
+use lib.Dec.{ltb}
+use Rattle.octets.specs.Tests.{pick}
+use Rattle.answers.specs.declared.Answer.{Answer}
+use Rattle.answers.specs.declared.Answer.the-variants.{Done}
+use Rattle.answers.specs.Outcomes.{Refusals, settled, outcome}
+use Rattle.answers.proofs.OutcomeLaws.{NoneHolds, side-by-side}
+use Rattle.sizes.specs.Ciphers.{sessionSlots, noVector}
+use Rattle.openings.specs.Ladder.{sessionVector, keyFor, keyRefusals, vectorRefusals}
+use Rattle.voice.specs.declared.call.Call.{Call}
+use Rattle.voice.specs.Call.{receivingEnd, byDefault, strict, termsRight, vectorRight, closedTests, openTests, isClosed, isOpen, told, Standing, closed, bad, receiving, standing, termsOf, noCall, written}
+use Rattle.voice.specs.Opening.{joinRefusals, begunRefusals, begun, openOf, joined, joinOf}
+use Rattle.voice.specs.Slot.{slotOn, lostRefusals, lostOf, voiceRefusals, streamOf, voiceAfter, voiceBy, voiceOf}
+use Rattle.voice.specs.Vector.{withVector, announceRefusals, announceOf}
+use Rattle.demands.specs.Talk.{Slot}
+use Rattle.demands.specs.Notices.{Notice, hear, join, announce, lost, voice}
+use Rattle.demands.specs.Log.{Event, answered, arrived, noted, event, events}
+use Rattle.demands.specs.Demand3.{ours}
+use Rattle.demands.specs.Demand3Default.{handset}
+use Rattle.demands.proofs.Standing.{closed-read}
+
+-- a scramble receiver of a strictness
+abbrev at : List ℕ → ℕ → ℕ → ℕ → Standing
+at key r p m = receiving (termsOf 1 key r m) p (told noVector)
+
+-- a strict receiver and one by default that are else the same
+data Alike : Call → Call → Type 0 where
+  none : Alike noCall noCall
+  both : (key : List ℕ) (r p : ℕ) → Alike (written (at key r p strict)) (written (at key r p byDefault))
+
+-- both are good, or neither is
+abbrev good : List ℕ → ℕ → ℕ → Bool
+good key r p = isOpen (written (at key r p byDefault))
+
+stood : (key : List ℕ) (r p : ℕ) → (standing (written (at key r p strict)) ≡ pick (good key r p) (at key r p strict) bad)
+    × (standing (written (at key r p byDefault)) ≡ pick (good key r p) (at key r p byDefault) bad)
+unfolding standing isClosed closedTests isOpen openTests termsRight vectorRight
+stood key r p = (refl, refl)
+
+-- what two operations answer and leave
+abbrev SameCalls : Answer × Call → Answer × Call → Type 0
+SameCalls o q = (o .0 ≡ q .0) × Alike (o .1) (q .1)
+
+abbrev SameFrames : Answer × (Call × List ℕ) → Answer × (Call × List ℕ) → Type 0
+SameFrames o q = (o .0 ≡ q .0) × Alike (o .1 .0) (q .1 .0) × (o .1 .1 ≡ q .1 .1)
+
+-- ---- a slot on
+
+slot-alike : (key : List ℕ) (r p : ℕ) → Alike (written (slotOn (at key r p strict))) (written (slotOn (at key r p byDefault)))
+unfolding slotOn
+slot-alike key r p = go (ltb (p + 1) 4)
+  where
+    go : (t : Bool) → Alike (written (pick t (at key r (p + 1) strict) (at key r 0 strict))) (written (pick t (at key r (p + 1) byDefault) (at key r 0 byDefault)))
+    go true = both key r (p + 1)
+    go false = both key r 0
+
+-- ---- the operations
+
+-- what holds of good ones and of bad ones
+by-stood : (key : List ℕ) (r p : ℕ) (P : Standing → Standing → Type 0) → P (at key r p strict) (at key r p byDefault) → P bad bad
+    → P (standing (written (at key r p strict))) (standing (written (at key r p byDefault)))
+by-stood key r p P a b =
+    subst (λ (s : Standing). P s (standing (written (at key r p byDefault)))) (sym (stood key r p .0))
+    (subst (P (pick (good key r p) (at key r p strict) bad)) (sym (stood key r p .1)) (go (good key r p)))
+  where
+    go : (t : Bool) → P (pick t (at key r p strict) bad) (pick t (at key r p byDefault) bad)
+    go true = a
+    go false = b
+
+lost-alike : (s d : Call) → Alike s d → SameCalls (lostOf s) (lostOf d)
+unfolding lostOf lostRefusals
+lost-alike _ _ none = rw closed-read (refl, none)
+lost-alike _ _ (both key r p) =
+    by-stood key r p
+    (λ s d. SameCalls (outcome (written (at key r p strict)) (lostRefusals s) (written (slotOn s))) (outcome (written (at key r p byDefault)) (lostRefusals d) (written (slotOn d))))
+    (refl, slot-alike key r p) (refl, both key r p)
+
+voice-alike : (mask : ℕ) (frame : List ℕ) (s d : Call) → Alike s d → SameFrames (voiceOf s mask frame) (voiceOf d mask frame)
+unfolding voiceBy voiceRefusals slotOn
+voice-alike mask frame _ _ none =
+    rw closed-read
+    (side-by-side SameFrames (noCall, frame) (noCall, frame) (voiceRefusals closed mask frame) (voiceAfter streamOf mask frame closed) (voiceAfter streamOf mask frame closed)
+    (λ a. (refl, none, refl)) (λ n. (refl, none, refl)))
+voice-alike mask frame _ _ (both key r p) =
+    by-stood key r p
+    (λ s d. SameFrames (settled (written (at key r p strict), frame) (voiceRefusals s mask frame) (voiceAfter streamOf mask frame s)) (settled (written (at key r p byDefault), frame) (voiceRefusals d mask frame) (voiceAfter streamOf mask frame d)))
+    (side-by-side SameFrames (written (at key r p strict), frame) (written (at key r p byDefault), frame) (voiceRefusals (at key r p byDefault) mask frame)
+    (voiceAfter streamOf mask frame (at key r p strict)) (voiceAfter streamOf mask frame (at key r p byDefault)) (λ a. (refl, both key r p, refl)) (λ n. (refl, slot-alike key r p, refl)))
+    (side-by-side SameFrames (written (at key r p strict), frame) (written (at key r p byDefault), frame) (voiceRefusals bad mask frame)
+    (voiceAfter streamOf mask frame bad) (voiceAfter streamOf mask frame bad) (λ a. (refl, both key r p, refl)) (λ n. absurd (true≢false (n .1 .0))))
+
+announce-alike : (v : List ℕ) (s d : Call) → Alike s d → SameCalls (announceOf s v) (announceOf d v)
+unfolding announceOf announceRefusals
+announce-alike v _ _ none =
+    rw closed-read (side-by-side SameCalls noCall noCall (announceRefusals closed v) (Done, noCall) (Done, noCall) (λ a. (refl, none)) (λ n. (refl, none)))
+announce-alike v _ _ (both key r p) =
+    by-stood key r p
+    (λ s d. SameCalls (outcome (written (at key r p strict)) (announceRefusals s v) (written (withVector v s))) (outcome (written (at key r p byDefault)) (announceRefusals d v) (written (withVector v d))))
+    (refused (announceRefusals (at key r p byDefault) v) (λ n. true≢false (n .1 .1 .0)) (written (withVector v (at key r p strict))) (written (withVector v (at key r p byDefault))))
+    (refused (announceRefusals bad v) (λ n. true≢false (n .1 .0)) noCall noCall)
+  where
+    -- it is never the time for one
+    refused : (rs : Refusals) → (NoneHolds rs → ⊥) → (x y : Call) → SameCalls (outcome (written (at key r p strict)) rs x) (outcome (written (at key r p byDefault)) rs y)
+    refused rs never x y =
+        side-by-side SameCalls (written (at key r p strict)) (written (at key r p byDefault)) rs (Done, x) (Done, y) (λ a. (refl, both key r p)) (λ n. absurd (never n))
+
+module _ (b : List ℕ) (i r : ℕ) where
+  hear-alike : (v : List ℕ) (s d : Call) → Alike s d → SameCalls (openOf s 1 i r strict v b) (openOf d 1 i r byDefault v b)
+  unfolding openOf begunRefusals termsRight
+  hear-alike v _ _ none =
+      side-by-side SameCalls noCall noCall (begunRefusals receivingEnd (standing noCall) 1 i r byDefault v b) _ _ (λ a. (refl, none)) (λ n. (refl, both (keyFor b 1 i) r 0))
+  hear-alike v _ _ (both key q p) =
+      by-stood key q p
+      (λ s d. SameCalls (outcome (written (at key q p strict)) (begunRefusals receivingEnd s 1 i r strict v b) (written (at (keyFor b 1 i) r 0 strict)))
+      (outcome (written (at key q p byDefault)) (begunRefusals receivingEnd d 1 i r byDefault v b) (written (at (keyFor b 1 i) r 0 byDefault))))
+      (side-by-side SameCalls (written (at key q p strict)) (written (at key q p byDefault)) (begunRefusals receivingEnd (at key q p byDefault) 1 i r byDefault v b) _ _
+      (λ a. (refl, both key q p)) (λ n. (refl, both (keyFor b 1 i) r 0)))
+      (side-by-side SameCalls (written (at key q p strict)) (written (at key q p byDefault)) (begunRefusals receivingEnd bad 1 i r byDefault v b) _ _
+      (λ a. (refl, both key q p)) (λ n. (refl, both (keyFor b 1 i) r 0)))
+
+  join-alike : (s d : Call) → Alike s d → SameCalls (joinOf s 1 i r strict b) (joinOf d 1 i r byDefault b)
+  unfolding joinOf joinRefusals termsRight
+  join-alike _ _ none =
+      side-by-side SameCalls noCall noCall (joinRefusals (standing noCall) 1 i r byDefault b) _ _ (λ a. (refl, none)) (λ n. (refl, both (keyFor b 1 i) r 0))
+  join-alike _ _ (both key q p) =
+      by-stood key q p
+      (λ s d. SameCalls (outcome (written (at key q p strict)) (joinRefusals s 1 i r strict b) (written (at (keyFor b 1 i) r 0 strict)))
+      (outcome (written (at key q p byDefault)) (joinRefusals d 1 i r byDefault b) (written (at (keyFor b 1 i) r 0 byDefault))))
+      (side-by-side SameCalls (written (at key q p strict)) (written (at key q p byDefault)) (joinRefusals (at key q p byDefault) 1 i r byDefault b) _ _
+      (λ a. (refl, both key q p)) (λ n. (refl, both (keyFor b 1 i) r 0)))
+      (side-by-side SameCalls (written (at key q p strict)) (written (at key q p byDefault)) (joinRefusals bad 1 i r byDefault b) _ _
+      (λ a. (refl, both key q p)) (λ n. (refl, both (keyFor b 1 i) r 0)))
+
+  -- ---- whatever it is told
+
+  abbrev Same : Event × Call → Event × Call → Type 0
+  Same o q = (o .0 ≡ q .0) × Alike (o .1) (q .1)
+
+  noted-alike : {o q : Answer × Call} → SameCalls o q → Same (noted ours o) (noted handset q)
+  noted-alike e = (ap answered (e .0), e .1)
+
+  event-alike : (n : Notice) (s d : Call) → Alike s d → Same (event ours b 1 i r n s) (event handset b 1 i r n d)
+  event-alike (hear v) s d a = noted-alike (hear-alike v s d a)
+  event-alike join s d a = noted-alike (join-alike s d a)
+  event-alike (announce v) s d a = noted-alike (announce-alike v s d a)
+  event-alike lost s d a = noted-alike (lost-alike s d a)
+  event-alike (voice reached x) s d a =
+      let e = voice-alike (x .mask) (x .sent) s d a in
+      (ap₂ (λ (n : Answer) (f : List ℕ). arrived (record { rate = r; reached = reached; mask = x .mask; spoken = x .spoken; came = x .sent; answer = n; frame = f })) (e .0) (e .2), e .1)
+
+  events-alike : (ns : List Notice) (s d : Call) → Alike s d → events ours b 1 i r s ns ≡ events handset b 1 i r d ns
+  events-alike [] s d a = refl
+  events-alike (n ∷ ns) s d a =
+      let e = event-alike n s d a in
+      ap₂ _∷_ (e .0) (events-alike ns (event ours b 1 i r n s .1) (event handset b 1 i r n d .1) (e .1))
+
+  pub scramble-alike : (ns : List Notice) → events ours b 1 i r noCall ns ≡ events handset b 1 i r noCall ns
+  scramble-alike ns = events-alike ns noCall noCall none

@@ -1,0 +1,127 @@
+-- Riding over a lost announcement (document 02, W-206), by the struct's own fields: what a receiver goes on with as its session ends; that an announcement at
+-- the session's start wins; and that it is taken once a session, the opening's vector counting as that once.
+use mathlib.Core.Path.{_≡_, refl, sym, ap, _∙_}
+use mathlib.Core.Bool.{true, false, not}
+use mathlib.Core.Logic.{_⊎_, inl, inr}
+use mathlib.Core.List.{List}
+use Prim.Native.Nat.{ℕ, _+_, _≤_, _<_}
+use native.Mathlib.Omega.{arith}
+use lib.Dec.{eqb}
+use lib.ListN.{length}
+use borrow.Author.Tests.{eq-eqb, ne-eqb, le-ltb}
+use Rattle.octets.proofs.TestLaws.{and-false-r}
+use Rattle.generator.specs.Generator.{nextVector}
+use Rattle.sizes.specs.Ciphers.{sessionSlots, vectorOctets, noVector, scrambles}
+use Rattle.sizes.specs.Frame.{frameOctets}
+use Rattle.ciphers.specs.Keystream.{stream}
+use Rattle.answers.specs.declared.Answer.{Answer}
+use Rattle.answers.specs.declared.Answer.the-variants.{Done, NotNow}
+use Rattle.answers.specs.Numbers.{numberOf}
+use Rattle.voice.specs.declared.call.Call.{Call}
+use Rattle.voice.specs.Frame.{ofSlot, protect}
+use Rattle.voice.specs.Call.{receivingEnd, unknownVector, toldVector, carriedVector, byDefault, strict, goodCall, knownBy, told, Standing, receiving, standing, callAt, widthOf, written}
+use Rattle.voice.specs.Opening.{openOf}
+use Rattle.voice.specs.Slot.{rides, ridden, slotOn, topMask, lostOf, streamOf, voiceOf}
+use Rattle.voice.specs.Vector.{awaits, announceRefusals, announceOf}
+use Rattle.voice.proofs.CallLaws.{is-told, by-stands, carries, is-receiver, not-bad}
+use Rattle.voice.proofs.SlotLaws.{ridden-carries, ridden-untold, voice-done, voice-taken}
+use Rattle.voice.proofs.SlotSteps.{voice-at, lost-at}
+use Rattle.voice.proofs.GoodLaws.{announce-good, read-written}
+use Rattle.voice.proofs.OpeningGood.{open-leaves}
+use Rattle.voice.proofs.VectorLaws.{announce-refused}
+use Rattle.voice.proofs.Exactly.{Timely, announced-leaves, announced-exactly}
+
+-- ---- as a session ends
+
+module _ (c : Call) (good : goodCall c ≡ true) (heard : c .end ≡ receivingEnd) (last : c .position + 1 ≡ sessionSlots (c .terms .cipher)) where
+  -- the call in its next session
+  abbrev next : Call
+  next = written (receiving (c .terms) 0 (ridden (c .terms) (knownBy (c .known) (c .vector))))
+
+  stood : standing c ≡ receiving (c .terms) (c .position) (knownBy (c .known) (c .vector))
+  stood = is-receiver c good heard
+
+  gone : written (slotOn (standing c)) ≡ next
+  unfolding slotOn
+  gone = rw (stood, le-ltb (c .position + 1) (sessionSlots (c .terms .cipher)) (omega arith))
+
+  -- after a slot that is lost, or that arrived and was done or held
+  abbrev GoesOn : Call → Type 0
+  GoesOn d = (lostOf c ≡ (Done, d)) × ((mask : ℕ) (frame : List ℕ) → numberOf (voiceOf c mask frame .0) < 2 → voiceOf c mask frame .1 .0 ≡ d)
+
+  goes-on : (d : Call) → next ≡ d → GoesOn d
+  goes-on d e = (
+    lost-at c stood ∙ ap (λ (x : Call). (Done, x)) (sym (ap (λ (s : Standing). written (slotOn s)) stood) ∙ gone ∙ e),
+    λ mask frame l. sym (ap (λ (o : Answer × (Call × List ℕ)). o .1 .0) (voice-done streamOf c mask frame (voice-taken streamOf c mask frame l))) ∙ gone ∙ e,
+  )
+
+  module _ (vectored : scrambles (c .terms .cipher) ≡ false) where
+    -- by default a receiver that knew its vector goes on with the generator's next
+    pub rides-over : c .terms .strictness ≡ byDefault → (c .known ≡ unknownVector → ⊥) → GoesOn (callAt receivingEnd (c .terms) 0 carriedVector (nextVector (c .vector)))
+    rides-over d k =
+        goes-on (callAt receivingEnd (c .terms) 0 carriedVector (nextVector (c .vector)))
+        (sym (ridden-carries (c .terms) (c .known) (c .vector) refl (rw (vectored, eq-eqb _ _ d, ne-eqb _ _ k)) (nextVector (c .vector)) refl))
+
+    -- one that didn't, or that is strict, knows nothing
+    pub holds-on : (c .terms .strictness ≡ strict) ⊎ (c .known ≡ unknownVector) → GoesOn (callAt receivingEnd (c .terms) 0 unknownVector noVector)
+    holds-on h =
+        goes-on (callAt receivingEnd (c .terms) 0 unknownVector noVector)
+        (sym (ridden-untold (c .terms) (c .known) (c .vector) {b = rides (c .terms) (not (eqb (c .known) unknownVector))} refl (not-riding h) (rw vectored)))
+      where
+        not-riding : (c .terms .strictness ≡ strict) ⊎ (c .known ≡ unknownVector) → rides (c .terms) (not (eqb (c .known) unknownVector)) ≡ false
+        not-riding (inl e) = rw (vectored, e)
+        not-riding (inr e) = rw (vectored, e, and-false-r)
+
+-- ---- an announcement wins
+
+-- at position 0 a carried vector gives way, and the session is opened by the announced one
+pub announced-wins : (c : Call) → goodCall c ≡ true → c .known ≡ carriedVector → c .position ≡ 0 → (w : List ℕ) → length w ≡ vectorOctets
+    → (announceOf c w ≡ (Done, callAt receivingEnd (c .terms) 0 toldVector w))
+    × ((mask : ℕ) (frame : List ℕ) → mask ≤ topMask → length frame ≡ frameOctets (widthOf (c .terms))
+    → (voiceOf (announceOf c w .1) mask frame .0 ≡ Done)
+    × (voiceOf (announceOf c w .1) mask frame .1 .1
+    ≡ protect (widthOf (c .terms)) (ofSlot (widthOf (c .terms)) (stream (c .terms .cipher) (c .terms .key) w) 0) mask frame))
+announced-wins c good k start w l = (wins, opens)
+  where
+    timely : Timely c w
+    timely =
+        let d = carries c good k in
+        record { long = l; good = good; receives = d .0; vectored = d .1; starts = start; untold = inr (k, d .2) }
+
+    wins : announceOf c w ≡ (Done, callAt receivingEnd (c .terms) 0 toldVector w)
+    wins = announced-leaves c w timely
+
+    stood : standing (callAt receivingEnd (c .terms) 0 toldVector w) ≡ receiving (c .terms) 0 (told w)
+    stood = read-written (receiving (c .terms) 0 (told w)) refl (sym (ap (λ (o : Answer × Call). goodCall (o .1)) wins) ∙ announce-good c good w)
+
+    opens : (mask : ℕ) (frame : List ℕ) → mask ≤ topMask → length frame ≡ frameOctets (widthOf (c .terms))
+        → (voiceOf (announceOf c w .1) mask frame .0 ≡ Done)
+        × (voiceOf (announceOf c w .1) mask frame .1 .1
+        ≡ protect (widthOf (c .terms)) (ofSlot (widthOf (c .terms)) (stream (c .terms .cipher) (c .terms .key) w) 0) mask frame)
+    opens mask frame m f =
+        rw (wins, voice-at (callAt receivingEnd (c .terms) 0 toldVector w) mask frame m (receiving (c .terms) 0 (told w)) f stood refl) (refl, refl)
+
+-- ---- once a session
+
+-- where a vector was told, an announcement is 9
+pub told-already : (c : Call) → goodCall c ≡ true → c .known ≡ toldVector → (w : List ℕ) → length w ≡ vectorOctets → announceOf c w ≡ (NotNow, c)
+unfolding announceRefusals
+told-already c good k w l = sym (announce-refused c w 2 (ap not (eq-eqb _ _ l), (not-bad c good, ap not waits-not)))
+  where
+    waits-not : awaits (standing c) ≡ false
+    waits-not =
+        by-stands c good (λ o e s. ap awaits s) (λ o e s. ap awaits s)
+        (λ o e s. ap awaits s ∙ rw (is-told (c .known) (c .vector), k, and-false-r, and-false-r))
+
+-- so is a second one in a session
+pub once : (c : Call) (w : List ℕ) → numberOf (announceOf c w .0) ≡ 0 → (v : List ℕ) → length v ≡ vectorOctets → announceOf (announceOf c w .1) v ≡ (NotNow, announceOf c w .1)
+once c w z =
+    let t = announced-exactly c w .0 z in
+    told-already (announceOf c w .1) (announce-good c (t .good) w) (ap (λ (o : Answer × Call). o .1 .known) (announced-leaves c w t))
+
+-- and one in the session that was opened with its vector
+pub opening-counts : (c : Call) (n i r m : ℕ) (w b : List ℕ) → numberOf (openOf c n i r m w b .0) ≡ 0 → (v : List ℕ) → length v ≡ vectorOctets
+    → announceOf (openOf c n i r m w b .1) v ≡ (NotNow, openOf c n i r m w b .1)
+opening-counts c n i r m w b z =
+    let o = open-leaves c n i r b m w z in
+    told-already (openOf c n i r m w b .1) (o .0) (ap (λ (d : Call). d .known) (o .1))
