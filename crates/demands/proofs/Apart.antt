@@ -1,7 +1,7 @@
 -- Under the sample keys the sessions of S and of L(S) differ in their first word: at the second bit with DES, at the third with AES.
 use mathlib.Core.Path.{_≡_, refl, sym, ap, _∙_}
 use mathlib.Core.Bool.{false, true≢false}
-use mathlib.Core.List.{List, [], _∷_, _++_}
+use mathlib.Core.List.{List, _++_}
 use Prim.Native.Nat.{ℕ, _≤_, _<_}
 use native.Mathlib.Omega.{arith}
 use Rattle.octets.specs.Lists.{tab, iterate}
@@ -12,7 +12,7 @@ use Rattle.des.proofs.WorkedBlocks.{bits, octets-work}
 use Rattle.aes.specs.Cipher.{aes}
 use Rattle.aes.proofs.Examples.{sessions-differ}
 use Rattle.generator.specs.Generator.{nextVector, aesVector}
-use Rattle.generator.proofs.Examples.{second, third, example-second, example-third}
+use Rattle.generator.proofs.Examples.{second, example-second, example-third}
 use Rattle.sizes.specs.Ciphers.{scrambles}
 use Rattle.sizes.proofs.Cases.{by-range}
 use Rattle.ciphers.specs.Keystream.{usedBlock, feedback, stream}

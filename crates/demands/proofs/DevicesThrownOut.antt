@@ -21,11 +21,11 @@ use Rattle.keybook.specs.Book as rules
 use Rattle.keybook.specs.Operations as operations
 use Rattle.keybook.specs.History as book
 use Rattle.sizes.specs.Ciphers.{noVector}
-use Rattle.sizes.specs.Frame.{halfRate, isRate, width}
+use Rattle.sizes.specs.Frame.{halfRate, width}
 use Rattle.openings.specs.Ladder.{keyRefusals, zeroFor, zeroRefusals, vectorRefusals}
 use Rattle.openings.specs.Samples.{seed, desABCD}
 use Rattle.voice.specs.declared.call.Call.{Call}
-use Rattle.voice.specs.Call.{byDefault, strict, termsRight, vectorRight, closedTests, openTests, isClosed, isOpen, unknown, told, Standing, sending, receiving, standing, termsOf, noCall, written, isBad, widthIn, stands, knows}
+use Rattle.voice.specs.Call.{byDefault, strict, vectorRight, closedTests, openTests, isClosed, isOpen, unknown, told, Standing, sending, receiving, standing, termsOf, noCall, written, isBad, widthIn, stands, knows}
 use Rattle.voice.specs.Opening.{begunRefusals, joinRefusals}
 use Rattle.voice.specs.Slot.{voiceOf}
 use Rattle.voice.specs.Vector.{announceRefusals}
@@ -45,13 +45,13 @@ having b calls = record { book = b; calls = calls; packets = λ n. packet.noPack
 
 -- ---- noise for a held frame
 
--- a DES receiver that joined, and is strict
-abbrev listening : Call
-listening = written (receiving (termsOf 2 desABCD halfRate strict) 4 unknown)
+-- a DES receiver that joined, of either strictness
+abbrev listening : ℕ → Call
+listening m = written (receiving (termsOf 2 desABCD halfRate m) 4 unknown)
 
-listens : standing listening ≡ receiving (termsOf 2 desABCD halfRate strict) 4 unknown
-unfolding standing isClosed closedTests isOpen openTests keyRight isRate termsRight vectorRight keyAllowed desKey oddOctet allZero allBelow
-listens = refl
+listens : (m : ℕ) → m ≤ 1 → standing (listening m) ≡ receiving (termsOf 2 desABCD halfRate m) 4 unknown
+unfolding standing isClosed closedTests isOpen openTests keyRight vectorRight keyAllowed desKey oddOctet allZero allBelow
+listens m l = rw (ways-right halfRate m (omega arith) l)
 
 -- one that was told the vector of the session that starts, of either strictness
 abbrev told-once : ℕ → Call
@@ -64,10 +64,10 @@ was-told m l = rw (ways-right halfRate m (omega arith) l)
 pub noisy-thrown-out : Demand1 noisy → ⊥
 unfolding step callStep
 noisy-thrown-out meets =
-    let d = having [] (λ n. listening) in
+    let d = having [] (λ n. listening strict) in
     let o = OfCall 0 (Voice 15 (silence halfRate)) in
     let e : numberOf (step d o .0) ≡ 1 =
-    ap (λ (r : Answer × (Call × List ℕ)). numberOf (r .0)) (voice-at listening 15 (silence halfRate) (omega arith) (receiving (termsOf 2 desABCD halfRate strict) 4 unknown) refl listens refl) in
+    ap (λ (r : Answer × (Call × List ℕ)). numberOf (r .0)) (voice-at (listening strict) 15 (silence halfRate) (omega arith) (receiving (termsOf 2 desABCD halfRate strict) 4 unknown) refl (listens strict (omega arith)) refl) in
     let u : pick (eqb (numberOf (step d o .0)) 1) noise (step d o .1 .1) ≡ silence halfRate = meets .untouched d o (λ z. omega arith) in
     let q : noise ≡ silence halfRate = rw e at u in
     let r = ap (λ (xs : List ℕ). getD xs 0 0) q in
@@ -78,10 +78,10 @@ noisy-thrown-out meets =
 pub filing-thrown-out : Demand1 filing → ⊥
 unfolding step callStep
 filing-thrown-out meets =
-    let d = having [] (λ n. listening) in
+    let d = having [] (λ n. listening strict) in
     let o = OfCall 0 (Voice 15 (silence halfRate)) in
     let e : numberOf (step d o .0) ≡ 1 =
-    ap (λ (r : Answer × (Call × List ℕ)). numberOf (r .0)) (voice-at listening 15 (silence halfRate) (omega arith) (receiving (termsOf 2 desABCD halfRate strict) 4 unknown) refl listens refl) in
+    ap (λ (r : Answer × (Call × List ℕ)). numberOf (r .0)) (voice-at (listening strict) 15 (silence halfRate) (omega arith) (receiving (termsOf 2 desABCD halfRate strict) 4 unknown) refl (listens strict (omega arith)) refl) in
     let z : numberOf (filing d o .0) ≡ 0 = rw e in
     meets .unopened d o (slot 0 15 (silence halfRate) refl refl) z
 
@@ -131,8 +131,8 @@ holding-all-thrown-out meets =
 
 pub ending-thrown-out : (st : Step) → Demand1 (ending st) → ⊥
 ending-thrown-out st meets =
-    let d = having [] (λ n. listening) in
-    let e : noCall ≡ listening = meets .apart d (OfBook (book.Erase 2 0)) .0 0 in
+    let d = having [] (λ n. listening strict) in
+    let e : noCall ≡ listening strict = meets .apart d (OfBook (book.Erase 2 0)) .0 0 in
     let z = ap (λ (c : Call). c .end) e in
     omega arith
 
@@ -149,8 +149,8 @@ module _ (isEager : Call → Bool) (meets : Demand1 (eager isEager)) where
       let z : numberOf (eager isEager d o .0) ≡ 0 = rw (e, good) in
       omega arith
 
-  pub eager-thrown-out : isEager listening ≡ true → ⊥
-  eager-thrown-out e = eager-fails listening e (ap isBad listens) (λ t. omega (arith, t .2))
+  pub eager-thrown-out : (m : ℕ) → m ≤ 1 → isEager (listening m) ≡ true → ⊥
+  eager-thrown-out m l e = eager-fails (listening m) e (ap isBad (listens m l)) (λ t. omega (arith, t .2))
 
   pub told-twice-thrown-out : (m : ℕ) → m ≤ 1 → isEager (told-once m) ≡ true → ⊥
   told-twice-thrown-out m l e = eager-fails (told-once m) e (ap isBad (was-told m l)) (λ t. not-told (t .3))

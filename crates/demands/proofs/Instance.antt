@@ -1,8 +1,10 @@
 -- The premises can be met: for DES and for AES a call of our sender with losses, of whose three sessions the second's vector does not reach the
 -- receiver, and one of another maker's whose vectors are all zeros; for scramble a call with losses and with words that gave way to signalling; and
--- what our receiver answers. In the default way: calls of which every announcement is lost, and a late entry that rides.
+-- what our receiver answers. In the default way: calls of which every announcement is lost, a late entry that rides, and a call whose announced vector is not the
+-- generator's.
 use mathlib.Core.Path.{_≡_, refl, sym, ap, subst, _∙_}
 use mathlib.Core.Bool.{Bool, true, false, true≢false}
+use mathlib.Core.Logic.{inl, inr}
 use mathlib.Core.List.{List, [], _∷_, _++_, map}
 use Prim.Native.Nat.{ℕ, zero, suc, _+_, _*_, _^_, _≤_, _<_}
 use native.Mathlib.Nat.{zero-div}
@@ -25,13 +27,13 @@ use Rattle.demands.specs.Notices.{noticesOf}
 use Rattle.demands.specs.Log.{talkLog}
 use Rattle.demands.specs.Demand3.{Right, ours}
 use Rattle.demands.specs.Others.{turning}
-use Rattle.demands.specs.Demand3Default.{defaultNotices, defaultLog, Successive, Generated, handset}
+use Rattle.demands.specs.Demand3Default.{defaultNotices, defaultLog, Successive, Generated, GeneratedOrAnnounced, MeetsTalkDefault, handset}
 use Rattle.demands.specs.OurSender.{Said, Saying, talkMade, SaidKept, AllSaid, Follows}
 use Rattle.octets.proofs.Zeros.{octets-by}
 use Rattle.demands.proofs.Layouts.{layoutBy, layout-is, by-layout}
 use Rattle.demands.proofs.AirLaws.{is-frame, frame-at, word-bits, protected-air}
 use Rattle.demands.proofs.Standing.{eight-slots}
-use Rattle.demands.proofs.ReceiverMeets.{ours-meets-3, handset-meets-3}
+use Rattle.demands.proofs.ReceiverMeets.{linked-heard, ours-meets-3, handset-meets-3, handset-meets-3-announced}
 use Rattle.demands.proofs.Settled.{answers, due, strict-settled, default-settled}
 use Rattle.demands.proofs.SenderKeeps.{ours-keeps, ours-generated}
 use Rattle.demands.proofs.Samples.{silence, silence-frame, loud, loud-frame, saying, repeating, saying-kept, repeating-kept, seed-starts}
@@ -93,9 +95,11 @@ module _ (t : Talk) (k : Kept t) (h : HasKey bookOfThree (t .cipher) 0 (t .key))
 abbrev pub mixed : ℕ → ℕ → List ℕ → Talk
 mixed c r frame = talkMade c (keyOf c) 0 r seed bookOfThree (three frame)
 
--- a call of another maker's sender whose vectors are all zeros: the first's and the third's announcements arrive, or none does
-abbrev zeroSession : ℕ → ℕ → List ℕ → Bool → List Bool → Session
-zeroSession c r frame announced arriving = record { vector = noVector; announced = announced; slots = repeating r frame (stream c (keyOf c) noVector) 0 arriving }
+-- a session of another maker's sender
+abbrev sessionOf : ℕ → ℕ → List ℕ → List ℕ → Bool → List Bool → Session
+sessionOf c r frame v announced arriving = record { vector = v; announced = announced; slots = repeating r frame (stream c (keyOf c) v) 0 arriving }
+
+-- its vectors are all zeros: the first's and the third's announcements arrive, or none does
 
 abbrev pub zeros : ℕ → ℕ → List ℕ → Bool → Talk
 zeros c r frame announced =
@@ -103,7 +107,7 @@ zeros c r frame announced =
       cipher = c;
       rate = r;
       key = keyOf c;
-      sessions = zeroSession c r frame announced others ∷ zeroSession c r frame false others ∷ zeroSession c r frame announced (true ∷ []) ∷ [];
+      sessions = sessionOf c r frame noVector announced others ∷ sessionOf c r frame noVector false others ∷ sessionOf c r frame noVector announced (true ∷ []) ∷ [];
     }
 
 module _ (c : ℕ) (g : (1 ≤ c) × (c ≤ 3)) (n : scrambles c ≡ false) (r : ℕ) (l : r ≤ 1) (frame : List ℕ) (f : FrameAt (layout r) frame) where
@@ -119,15 +123,15 @@ module _ (c : ℕ) (g : (1 ≤ c) × (c ≤ 3)) (n : scrambles c ≡ false) (r :
   mixed-heard : Heard (mixed c r frame)
   mixed-heard = heard (mixed c r frame) mixed-kept (has-key c g) (rw n) (rw n) (rw n)
 
-  zero-session-kept : (announced : Bool) (arriving : List Bool) → SessionKept (layout r) c (keyOf c) (zeroSession c r frame announced arriving)
-  zero-session-kept announced arriving = record { vector = refl; slots = repeating-kept r frame f (stream c (keyOf c) noVector) 0 arriving }
+  session-kept : (v : List ℕ) → length v ≡ 8 → (announced : Bool) (arriving : List Bool) → SessionKept (layout r) c (keyOf c) (sessionOf c r frame v announced arriving)
+  session-kept v k announced arriving = record { vector = k; slots = repeating-kept r frame f (stream c (keyOf c) v) 0 arriving }
 
   zeros-kept : (announced : Bool) → Kept (zeros c r frame announced)
   zeros-kept announced =
       record {
         rate = l;
         key = key-long c g;
-        each = (zero-session-kept announced others, (zero-session-kept false others, (zero-session-kept announced (true ∷ []), tt)));
+        each = (session-kept noVector refl announced others, (session-kept noVector refl false others, (session-kept noVector refl announced (true ∷ []), tt)));
         full = (eight, (eight, omega (arith, eight)));
       }
 
@@ -138,12 +142,31 @@ module _ (c : ℕ) (g : (1 ≤ c) × (c ≤ 3)) (n : scrambles c ≡ false) (r :
 -- ---- DES and AES in the default way
 
 -- calls of our sender: of three sessions no announcement arrives; of five the fourth's does
+abbrev fading : List ℕ → List Saying
+fading frame = wholly frame false ∷ wholly frame false ∷ begun frame false ∷ []
+
 abbrev pub faded : ℕ → ℕ → List ℕ → Talk
-faded c r frame = talkMade c (keyOf c) 0 r seed bookOfThree (wholly frame false ∷ wholly frame false ∷ begun frame false ∷ [])
+faded c r frame = talkMade c (keyOf c) 0 r seed bookOfThree (fading frame)
+
+abbrev lateOnes : List ℕ → List Saying
+lateOnes frame = wholly frame false ∷ wholly frame false ∷ wholly frame false ∷ wholly frame true ∷ begun frame false ∷ []
 
 abbrev pub later : ℕ → ℕ → List ℕ → Talk
-later c r frame =
-    talkMade c (keyOf c) 0 r seed bookOfThree (wholly frame false ∷ wholly frame false ∷ wholly frame false ∷ wholly frame true ∷ begun frame false ∷ [])
+later c r frame = talkMade c (keyOf c) 0 r seed bookOfThree (lateOnes frame)
+
+-- a call of another maker's sender whose second vector is not the generator's, but announced; the announcement of its next is lost. The last slot of each
+-- session arrives
+abbrev lastToo : List Bool
+lastToo = false ∷ true ∷ false ∷ true ∷ false ∷ true ∷ false ∷ true ∷ []
+
+abbrev pub jumped : ℕ → ℕ → List ℕ → Talk
+jumped c r frame =
+    record {
+      cipher = c;
+      rate = r;
+      key = keyOf c;
+      sessions = sessionOf c r frame seed false lastToo ∷ sessionOf c r frame noVector true lastToo ∷ sessionOf c r frame noVector false (true ∷ []) ∷ [];
+    }
 
 -- joining in the first: held to the end of the third; the announcement, and all after it, 0
 abbrev untilAnnounced : List ℕ
@@ -151,24 +174,25 @@ untilAnnounced =
     0 ∷ (1 ∷ 0 ∷ 1 ∷ 0 ∷ (1 ∷ 0 ∷ 1 ∷ 0 ∷ 1 ∷ 0 ∷ 1 ∷ 0 ∷ (1 ∷ 0 ∷ 1 ∷ 0 ∷ 1 ∷ 0 ∷ 1 ∷ 0 ∷ (0 ∷ (0 ∷ 0 ∷ 0 ∷ 0 ∷ 0 ∷ 0 ∷ 0 ∷ 0 ∷ (0 ∷ []))))))
 
 -- the premises hold, our receiver answers these numbers, and each word that it hands out is the one that was spoken
-pub record Ridden (t : Talk) (e : WayIn) (numbers : List ℕ) : Type 0 where
+pub record Ridden (P : Session → Session → Type 0) (t : Talk) (e : WayIn) (numbers : List ℕ) : Type 0 where
   pub kept : Kept t
-  pub generated : Successive Generated (t .sessions)
+  pub vectors : Successive P (t .sessions)
   pub answered : answers (defaultLog handset bookOfThree 0 t e) ≡ numbers
   pub right : Each Right (defaultLog handset bookOfThree 0 t e)
 
 module _ (c : ℕ) (g : (1 ≤ c) × (c ≤ 3)) (n : scrambles c ≡ false) (r : ℕ) (l : r ≤ 1) (frame : List ℕ) (f : FrameAt (layout r) frame) where
-  ridden : (t : Talk) → t .cipher ≡ c → t .key ≡ keyOf c → Kept t → Successive Generated (t .sessions) → (e : WayIn) (numbers : List ℕ)
-      → map due (defaultNotices t e) ≡ numbers → Ridden t e numbers
-  ridden t q o k s e numbers d =
-      let h = handset-meets-3 t k (λ z. s) bookOfThree 0 (rw (q, o) (has-key c g)) e in
-      record { kept = k; generated = s; answered = default-settled handset bookOfThree 0 t e h ∙ d; right = h }
+  rode : (P : Session → Session → Type 0) (t : Talk) → MeetsTalkDefault P handset t → t .cipher ≡ c → t .key ≡ keyOf c → Kept t → Successive P (t .sessions)
+      → (e : WayIn) (numbers : List ℕ) → map due (defaultNotices t e) ≡ numbers → Ridden P t e numbers
+  rode P t m q o k s e numbers d =
+      let h = m k e (λ z. linked-heard P e (t .sessions) s) bookOfThree 0 (rw (q, o) (has-key c g)) in
+      record { kept = k; vectors = s; answered = default-settled handset bookOfThree 0 t e h ∙ d; right = h }
 
   -- of our sender
   made : (said : List Saying) → AllSaid c r said → (e : WayIn) (numbers : List ℕ)
-      → map due (defaultNotices (talkMade c (keyOf c) 0 r seed bookOfThree said) e) ≡ numbers → Ridden (talkMade c (keyOf c) 0 r seed bookOfThree said) e numbers
+      → map due (defaultNotices (talkMade c (keyOf c) 0 r seed bookOfThree said) e) ≡ numbers → Ridden Generated (talkMade c (keyOf c) 0 r seed bookOfThree said) e numbers
   made said a =
-      ridden (talkMade c (keyOf c) 0 r seed bookOfThree said) refl refl
+      let t = talkMade c (keyOf c) 0 r seed bookOfThree said in
+      rode Generated t (handset-meets-3 t) refl refl
       (ours-keeps bookOfThree c 0 (keyOf c) (has-key c g) (key-long c g) r l seed (seed-starts c) said a)
       (ours-generated bookOfThree c 0 (keyOf c) (has-key c g) (key-long c g) r l seed (seed-starts c) said a n)
 
@@ -178,22 +202,40 @@ module _ (c : ℕ) (g : (1 ≤ c) × (c ≤ 3)) (n : scrambles c ≡ false) (r :
   begun-kept : Each (SaidKept (layout r)) (saidAll frame (true ∷ []))
   begun-kept = said-all-kept (layout r) frame f (true ∷ [])
 
-  pub faded-ridden : Ridden (faded c r frame) opening (replicate 18 0)
+  pub faded-ridden : Ridden Generated (faded c r frame) opening (replicate 18 0)
   faded-ridden =
       let e = eight c g n r l frame f in
-      made (wholly frame false ∷ wholly frame false ∷ begun frame false ∷ [])
+      made (fading frame)
       (record { each = (wholly-kept, (wholly-kept, (begun-kept, tt))); full = (e, (e, omega (arith, e))) }) opening (replicate 18 0) (rw n)
 
-  later-ridden : Ridden (later c r frame) (joining 0) untilAnnounced
+  later-ridden : Ridden Generated (later c r frame) (joining 0) untilAnnounced
   later-ridden =
       let e = eight c g n r l frame f in
-      made (wholly frame false ∷ wholly frame false ∷ wholly frame false ∷ wholly frame true ∷ begun frame false ∷ [])
+      made (lateOnes frame)
       (record { each = (wholly-kept, (wholly-kept, (wholly-kept, (wholly-kept, (begun-kept, tt))))); full = (e, (e, (e, (e, omega (arith, e))))) }) (joining 0) untilAnnounced (rw n)
 
   -- carried zeros are not unknown
-  zeros-ridden : Ridden (zeros c r frame false) opening (replicate 18 0)
+  zeros-ridden : Ridden Generated (zeros c r frame false) opening (replicate 18 0)
   zeros-ridden =
-      ridden (zeros c r frame false) refl refl (zeros-kept c g n r l frame f false) (sym zeros-next, (sym zeros-next, tt)) opening (replicate 18 0) (rw n)
+      let t = zeros c r frame false in
+      rode Generated t (handset-meets-3 t) refl refl (zeros-kept c g n r l frame f false) (sym zeros-next, (sym zeros-next, tt)) opening (replicate 18 0) (rw n)
+
+  -- the announced vector wins, and is ridden on from
+  jumped-kept : Kept (jumped c r frame)
+  jumped-kept =
+      let kept = session-kept c g n r l frame f in
+      let e = eight c g n r l frame f in
+      record {
+        rate = l;
+        key = key-long c g;
+        each = (kept seed refl false lastToo, (kept noVector refl true lastToo, (kept noVector refl false (true ∷ []), tt)));
+        full = (e, (e, omega (arith, e)));
+      }
+
+  jumped-ridden : Ridden GeneratedOrAnnounced (jumped c r frame) opening (replicate 19 0)
+  jumped-ridden =
+      let t = jumped c r frame in
+      rode GeneratedOrAnnounced t (handset-meets-3-announced t) refl refl jumped-kept (inl refl, (inr (sym zeros-next), tt)) opening (replicate 19 0) (rw n)
 
 -- ---- at either rate, whatever one frame is said in every slot
 
@@ -210,23 +252,29 @@ module _ (r : ℕ) (l : r ≤ 1) (frame : List ℕ) (f : FrameAt (layout r) fram
   pub zeros-aes : Heard (zeros 3 r frame true) × Follows 3 noVector (zeros 3 r frame true .sessions)
   zeros-aes = zeros-heard 3 (omega arith, omega arith) refl r l frame f
 
-  pub faded-des : Ridden (faded 2 r frame) opening (replicate 18 0)
+  pub faded-des : Ridden Generated (faded 2 r frame) opening (replicate 18 0)
   faded-des = faded-ridden 2 (omega arith, omega arith) refl r l frame f
 
-  pub faded-aes : Ridden (faded 3 r frame) opening (replicate 18 0)
+  pub faded-aes : Ridden Generated (faded 3 r frame) opening (replicate 18 0)
   faded-aes = faded-ridden 3 (omega arith, omega arith) refl r l frame f
 
-  pub later-des : Ridden (later 2 r frame) (joining 0) untilAnnounced
+  pub later-des : Ridden Generated (later 2 r frame) (joining 0) untilAnnounced
   later-des = later-ridden 2 (omega arith, omega arith) refl r l frame f
 
-  pub later-aes : Ridden (later 3 r frame) (joining 0) untilAnnounced
+  pub later-aes : Ridden Generated (later 3 r frame) (joining 0) untilAnnounced
   later-aes = later-ridden 3 (omega arith, omega arith) refl r l frame f
 
-  pub faded-zeros-des : Ridden (zeros 2 r frame false) opening (replicate 18 0)
+  pub faded-zeros-des : Ridden Generated (zeros 2 r frame false) opening (replicate 18 0)
   faded-zeros-des = zeros-ridden 2 (omega arith, omega arith) refl r l frame f
 
-  pub faded-zeros-aes : Ridden (zeros 3 r frame false) opening (replicate 18 0)
+  pub faded-zeros-aes : Ridden Generated (zeros 3 r frame false) opening (replicate 18 0)
   faded-zeros-aes = zeros-ridden 3 (omega arith, omega arith) refl r l frame f
+
+  pub jumped-des : Ridden GeneratedOrAnnounced (jumped 2 r frame) opening (replicate 19 0)
+  jumped-des = jumped-ridden 2 (omega arith, omega arith) refl r l frame f
+
+  pub jumped-aes : Ridden GeneratedOrAnnounced (jumped 3 r frame) opening (replicate 19 0)
+  jumped-aes = jumped-ridden 3 (omega arith, omega arith) refl r l frame f
 
 -- ---- scramble, at either rate
 

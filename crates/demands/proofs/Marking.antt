@@ -43,7 +43,7 @@ module _ (c : ℕ) where
 
   -- ---- and in the default way
 
-  since-slots : (known reached : Bool) (xs : List Slot) (ns : List Notice) → sinceKnown known (slotNotices reached xs ++ ns) ≡ slotNotices known xs ++ sinceKnown known ns
+  pub since-slots : (known reached : Bool) (xs : List Slot) (ns : List Notice) → sinceKnown known (slotNotices reached xs ++ ns) ≡ slotNotices known xs ++ sinceKnown known ns
   since-slots known reached [] ns = refl
   since-slots known reached (x ∷ xs) ns = one (x .arrived) (since-slots known reached xs ns)
     where

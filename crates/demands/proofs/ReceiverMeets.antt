@@ -31,7 +31,7 @@ use Rattle.demands.specs.Talk.{Slot, Session, Talk, WayIn, opening, join
 use Rattle.demands.specs.Notices.{Notice, hear, join, isReached, slotNotice, slotNotices, startNotices, openingNotices}
 use Rattle.demands.specs.Log.{Receiver, Report, Event, event, events, talkLog}
 use Rattle.demands.specs.Demand3.{RightSlot, Right, Meets3, oursIn, ours}
-use Rattle.demands.specs.Demand3Default.{sinceKnown, defaultLog, Successive, Generated, GeneratedOrAnnounced, Meets3Default, Meets3Announced, handset}
+use Rattle.demands.specs.Demand3Default.{sinceKnown, defaultLog, heardFrom, Successive, Generated, GeneratedOrAnnounced, Meets3Default, Meets3Announced, handset}
 use Rattle.demands.proofs.Layouts.{layoutBy, layout-is, ways-right}
 use Rattle.demands.proofs.AirLaws.{opened-word}
 use Rattle.demands.proofs.Marking.{knownNext, sessionsBy, firstBy, strict-first, default-first}
@@ -299,6 +299,11 @@ linked-drop P (suc n) [] l = l
 linked-drop P (suc n) (x ∷ []) l = linked-drop P n [] tt
 linked-drop P (suc n) (x ∷ y ∷ ys) l = linked-drop P n (y ∷ ys) (l .1)
 
+-- what holds of all sessions holds of those that are heard of
+pub linked-heard : (P : Session → Session → Type 0) (e : WayIn) (xs : List Session) → Successive P xs → Successive P (heardFrom e xs)
+linked-heard P opening xs l = l
+linked-heard P (joining n) xs l = linked-drop P n xs l
+
 module _ (t : Talk) (k : Kept t) (b : List ℕ) (i : ℕ) (h : HasKey b (t .cipher) i (t .key)) where
   kept-by : Each (SessionKept (layoutBy (width (t .rate))) (t .cipher) (t .key)) (t .sessions)
   kept-by = rw (layout-is (t .rate)) at (k .each)
@@ -322,8 +327,8 @@ module _ (t : Talk) (k : Kept t) (b : List ℕ) (i : ℕ) (h : HasKey b (t .ciph
       (or-false (scrambles (t .cipher))) (drop n (t .sessions)) (each-drop (SessionKept (layoutBy (width (t .rate))) (t .cipher) (t .key)) n (t .sessions) kept-by)
       (full-drop (t .cipher) n (t .sessions) (k .full)) (λ d u. not-default d))
 
-  default-right : (scrambles (t .cipher) ≡ false → Successive GeneratedOrAnnounced (t .sessions)) → (e : WayIn) → Each Right (defaultLog handset b i t e)
-  default-right link opening = go (t .sessions) kept-by (k .full) link
+  default-right : (e : WayIn) → (scrambles (t .cipher) ≡ false → Successive GeneratedOrAnnounced (heardFrom e (t .sessions))) → Each Right (defaultLog handset b i t e)
+  default-right opening link = go (t .sessions) kept-by (k .full) link
     where
       go : (xs : List Session) → Each (SessionKept (layoutBy (width (t .rate))) (t .cipher) (t .key)) xs → Full (t .cipher) (slotCounts xs)
           → (scrambles (t .cipher) ≡ false → Successive GeneratedOrAnnounced xs)
@@ -332,17 +337,17 @@ module _ (t : Talk) (k : Kept t) (b : List ℕ) (i : ℕ) (h : HasKey b (t .ciph
       go (x ∷ xs) a f l =
           rw (default-first (t .cipher) true true (λ u. refl) 0 (x ∷ xs))
           (opened-right b (t .cipher) i (t .key) h (k .key) (t .rate) byDefault (ways-right (t .rate) byDefault (k .rate) (omega arith)) true refl x xs a f (λ d. l))
-  default-right link (joining n) =
+  default-right (joining n) link =
       rw (default-first (t .cipher) (scrambles (t .cipher)) false (λ u. u) superframeSlots (drop n (t .sessions)))
       (joined-right b (t .cipher) i (t .key) h (k .key) (t .rate) byDefault (ways-right (t .rate) byDefault (k .rate) (omega arith)) (scrambles (t .cipher)) refl
       (drop n (t .sessions)) (each-drop (SessionKept (layoutBy (width (t .rate))) (t .cipher) (t .key)) n (t .sessions) kept-by)
-      (full-drop (t .cipher) n (t .sessions) (k .full)) (λ d u. linked-drop GeneratedOrAnnounced n (t .sessions) (link u)))
+      (full-drop (t .cipher) n (t .sessions) (k .full)) (λ d. link))
 
 pub ours-meets-3 : Meets3 ours
 ours-meets-3 t k b i h e = strict-right t k b i h e
 
 pub handset-meets-3-announced : Meets3Announced handset
-handset-meets-3-announced t k l b i h e = default-right t k b i h l e
+handset-meets-3-announced t k e l b i h = default-right t k b i h e l
 
 -- the generator's are among these
 generated-linked : (xs : List Session) → Successive Generated xs → Successive GeneratedOrAnnounced xs
@@ -351,7 +356,7 @@ generated-linked (x ∷ []) l = tt
 generated-linked (x ∷ y ∷ ys) l = (inr (l .0), generated-linked (y ∷ ys) (l .1))
 
 pub announced-default : (R : Receiver) → Meets3Announced R → Meets3Default R
-announced-default R meets t k l = meets t k (λ u. generated-linked (t .sessions) (l u))
+announced-default R meets t k e l = meets t k e (λ u. generated-linked (heardFrom e (t .sessions)) (l u))
 
 pub handset-meets-3 : Meets3Default handset
 handset-meets-3 = announced-default handset handset-meets-3-announced

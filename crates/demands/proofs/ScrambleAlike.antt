@@ -1,26 +1,31 @@
--- With scramble the two ways are one: whatever our receiver is told, in whatever order, strict or by default it makes the same of it.
-use mathlib.Core.Path.{_≡_, refl, sym, ap, ap₂, subst}
+-- With scramble the two ways are one: whatever our receiver is told, in whatever order, strict or by default it makes the same of it; and of any receiver the
+-- two demands ask the same.
+use mathlib.Core.Path.{_≡_, refl, sym, ap, ap₂, subst, _∙_}
 use mathlib.Core.Bool.{Bool, true, false, true≢false}
-use mathlib.Core.List.{List, [], _∷_}
+use mathlib.Core.List.{List, [], _∷_, _++_}
 use Prim.Native.Nat.{ℕ, _+_}
 use lib.Dec.{ltb}
+use lib.ListN.{drop}
 use Rattle.octets.specs.Tests.{pick}
+use Rattle.octets.specs.Lists.{Each}
 use Rattle.answers.specs.declared.Answer.{Answer}
 use Rattle.answers.specs.declared.Answer.the-variants.{Done}
 use Rattle.answers.specs.Outcomes.{Refusals, settled, outcome}
 use Rattle.answers.proofs.OutcomeLaws.{NoneHolds, side-by-side}
-use Rattle.sizes.specs.Ciphers.{sessionSlots, noVector}
-use Rattle.openings.specs.Ladder.{sessionVector, keyFor, keyRefusals, vectorRefusals}
+use Rattle.sizes.specs.Ciphers.{noVector, scrambles}
+use Rattle.openings.specs.Ladder.{keyFor}
 use Rattle.voice.specs.declared.call.Call.{Call}
 use Rattle.voice.specs.Call.{receivingEnd, byDefault, strict, termsRight, vectorRight, closedTests, openTests, isClosed, isOpen, told, Standing, closed, bad, receiving, standing, termsOf, noCall, written}
-use Rattle.voice.specs.Opening.{joinRefusals, begunRefusals, begun, openOf, joined, joinOf}
+use Rattle.voice.specs.Opening.{superframeSlots, joinRefusals, begunRefusals, openOf, joinOf}
 use Rattle.voice.specs.Slot.{slotOn, lostRefusals, lostOf, voiceRefusals, streamOf, voiceAfter, voiceBy, voiceOf}
 use Rattle.voice.specs.Vector.{withVector, announceRefusals, announceOf}
-use Rattle.demands.specs.Talk.{Slot}
-use Rattle.demands.specs.Notices.{Notice, hear, join, announce, lost, voice}
-use Rattle.demands.specs.Log.{Event, answered, arrived, noted, event, events}
-use Rattle.demands.specs.Demand3.{ours}
-use Rattle.demands.specs.Demand3Default.{handset}
+use Rattle.demands.specs.Talk.{Session, Talk, WayIn, opening, joining}
+use Rattle.demands.specs.Notices.{Notice, hear, join, announce, lost, voice, slotNotices, sessionNotices, firstNotices, openingNotices, noticesOf}
+use Rattle.demands.specs.Log.{Receiver, Event, answered, arrived, noted, event, events}
+use Rattle.demands.specs.Demand3.{Right, ours}
+use Rattle.demands.specs.Demand3Default.{sinceKnown, defaultNotices, handset}
+use Rattle.demands.specs.Others.{MeetsIn, MeetsDefaultIn}
+use Rattle.demands.proofs.Marking.{since-slots}
 use Rattle.demands.proofs.Standing.{closed-read}
 
 -- a scramble receiver of a strictness
@@ -160,3 +165,31 @@ module _ (b : List ℕ) (i r : ℕ) where
 
   pub scramble-alike : (ns : List Notice) → events ours b 1 i r noCall ns ≡ events handset b 1 i r noCall ns
   scramble-alike ns = events-alike ns noCall noCall none
+
+-- ---- the demands
+
+-- the same slots count as reached
+since-all : (xs : List Session) → sinceKnown true (sessionNotices 1 xs) ≡ sessionNotices 1 xs
+since-all [] = refl
+since-all (x ∷ xs) = since-slots 1 true true (x .slots) (sessionNotices 1 xs) ∙ ap (λ (ns : List Notice). slotNotices true (x .slots) ++ ns) (since-all xs)
+
+since-first : (p : ℕ) (reached : Bool) (xs : List Session) → sinceKnown true (firstNotices 1 reached p xs) ≡ firstNotices 1 reached p xs
+since-first p reached [] = refl
+since-first p reached (x ∷ xs) = since-slots 1 true true (drop p (x .slots)) (sessionNotices 1 xs) ∙ ap (λ (ns : List Notice). slotNotices true (drop p (x .slots)) ++ ns) (since-all xs)
+
+scramble-notices : (t : Talk) → t .cipher ≡ 1 → (e : WayIn) → defaultNotices t e ≡ noticesOf t e
+scramble-notices t q opening = rw q (go (t .sessions))
+  where
+    go : (xs : List Session) → sinceKnown true (openingNotices 1 xs) ≡ openingNotices 1 xs
+    go [] = refl
+    go (x ∷ xs) = ap (λ (ns : List Notice). hear (x .vector) ∷ ns) (since-first 0 true (x ∷ xs))
+scramble-notices t q (joining n) = rw q (ap (λ (ns : List Notice). join ∷ ns) (since-first superframeSlots false (drop n (t .sessions))))
+
+-- whatever is asked of the vectors of DES and AES
+pub scramble-demands : (P : Session → Session → Type 0) (r : ℕ) (R : Receiver) → (MeetsIn 1 r R → MeetsDefaultIn P 1 r R) × (MeetsDefaultIn P 1 r R → MeetsIn 1 r R)
+scramble-demands P r R = (
+  λ m t q s k e l b i h. subst (λ (ns : List Notice). Each Right (events R b (t .cipher) i (t .rate) (R .idle) ns)) (sym (scramble-notices t q e)) (m t q s k b i h e),
+  λ m t q s k b i h e.
+      subst (λ (ns : List Notice). Each Right (events R b (t .cipher) i (t .rate) (R .idle) ns)) (scramble-notices t q e)
+      (m t q s k e (λ z. absurd (true≢false (sym (ap scrambles q) ∙ z))) b i h),
+)

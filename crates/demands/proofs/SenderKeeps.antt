@@ -47,7 +47,7 @@ use Rattle.demands.specs.OurSender.{Said, Saying, slotsMade, afterwards,
 use Rattle.demands.proofs.Layouts.{layoutBy, layout-is, sender-right}
 use Rattle.demands.proofs.AirLaws.{frame-at, protected-air}
 use Rattle.demands.proofs.Standing.{pair-in-range, key-ranged, has-key-right, slots-some, closed-read, same-stream}
-use Rattle.demands.proofs.ReceiverMeets.{ours-meets-3, handset-meets-3}
+use Rattle.demands.proofs.ReceiverMeets.{linked-heard, ours-meets-3, handset-meets-3}
 
 -- a sender's vector: eight octets, and for DES and AES not zeros
 pub record Sound (c : ℕ) (v : List ℕ) : Type 0 where
@@ -247,7 +247,9 @@ module _ (b : List ℕ) (c i : ℕ) (key : List ℕ) (h : HasKey b c i key) (lon
   -- and to our receiver in the default way
   pub ours-to-handset : (v : List ℕ) → StartVector c v → (said : List Saying) → AllSaid c rt said
       → (b′ : List ℕ) (i′ : ℕ) → HasKey b′ c i′ key → (e : WayIn) → Each Right (defaultLog handset b′ i′ (talkMade c key i rt v b said) e)
-  ours-to-handset v s said a = handset-meets-3 (talkMade c key i rt v b said) (ours-keeps v s said a) (ours-generated v s said a)
+  ours-to-handset v s said a b′ i′ h e =
+      let t = talkMade c key i rt v b said in
+      handset-meets-3 t (ours-keeps v s said a) e (λ n. linked-heard Generated e (t .sessions) (ours-generated v s said a n)) b′ i′ h
 
   -- ---- whatever slots it was given, done or refused
 

@@ -1,6 +1,6 @@
 -- Where a receiver stands after p slots of a session, and what each operation does there.
 use mathlib.Core.Path.{_≡_, refl, sym, ap, _∙_}
-use mathlib.Core.Bool.{Bool, true, false, true≢false}
+use mathlib.Core.Bool.{true, false, true≢false}
 use mathlib.Core.List.{List}
 use Prim.Native.Nat.{ℕ, _+_, _*_, _≤_, _<_}
 use native.Mathlib.Omega.{arith}
@@ -13,7 +13,7 @@ use Rattle.sizes.proofs.Cases.{by-range}
 use Rattle.octets.specs.Tests.{pick}
 use Rattle.answers.specs.declared.Answer.{Answer}
 use Rattle.answers.specs.declared.Answer.the-variants.{Done, Held}
-use Rattle.sizes.specs.Ciphers.{keyOctets, sessionSlots, vectorOctets, noVector, scrambles}
+use Rattle.sizes.specs.Ciphers.{keyOctets, sessionSlots, vectorOctets, scrambles}
 use Rattle.ciphers.specs.Keystream.{stream}
 use Rattle.keyentry.specs.Entry.{inRange}
 use Rattle.keybook.proofs.GoodLaws.{good-sized}

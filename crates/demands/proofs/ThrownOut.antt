@@ -1,5 +1,5 @@
--- Receivers that do not meet demand 3, already by the calls of any one cipher at any one rate, nor, where they open no slot right, the demand in the default
--- way; and senders that do not keep its rules.
+-- Receivers that do not meet demand 3, nor the demand in the default way, already by the calls of any one cipher at any one rate; and senders that do not keep
+-- its rules.
 use mathlib.Core.Path.{_≡_, refl, sym, ap, subst, _∙_}
 use mathlib.Core.Bool.{Bool, true, false, _&&_, _||_, not, or-true}
 use mathlib.Core.Logic.{inl, inr}
@@ -10,36 +10,38 @@ use native.Mathlib.Omega.{arith}
 use borrow.Author.Tests.{le-ltb}
 use lib.ListN.{length, replicate, length-replicate}
 use Rattle.octets.specs.Lists.{replaced, iterate, Each}
-use Rattle.octets.specs.Bits.{octet, octetsFrom}
+use Rattle.octets.specs.Bits.{octet, octetsFrom, Octets}
 use Rattle.octets.specs.Turn.{within, turned, turnedIn}
 use Rattle.octets.proofs.TestLaws.{and-false-r}
 use Rattle.scramble.specs.Sequence.{keyNumber, stepped, P}
+use Rattle.generator.specs.Generator.{nextVector, IsVector}
+use Rattle.generator.proofs.VectorLaws.{next-is-vector}
 use Rattle.sizes.specs.Ciphers.{sessionSlots, noVector, scrambles}
-use Rattle.sizes.specs.Frame.{width, frameOctets}
+use Rattle.sizes.specs.Frame.{width}
 use Rattle.sizes.proofs.SizeLaws.{by-rate}
 use Rattle.ciphers.specs.Keystream.{stream}
 use Rattle.ciphers.proofs.KeystreamLaws.{bits-stream}
 use Rattle.answers.specs.declared.Answer.{Answer}
-use Rattle.answers.specs.declared.Answer.the-variants.{Done}
 use Rattle.answers.specs.Numbers.{numberOf}
 use Rattle.openings.specs.Ladder.{sessionVector, keyFor}
 use Rattle.voice.specs.declared.call.Terms.{Terms}
 use Rattle.voice.specs.declared.call.Call.{Call}
 use Rattle.voice.specs.Frame.{inMask, ofSlot, wordTurned, protect}
-use Rattle.voice.specs.Call.{receivingEnd, strict, termsRight, Known, told, Standing, standing, termsOf, noCall}
-use Rattle.voice.specs.Opening.{openOf}
-use Rattle.voice.specs.Slot.{lostOf, voiceOf}
+use Rattle.voice.specs.Call.{receivingEnd, byDefault, strict, termsRight, Known, told, Standing, standing, termsOf, noCall}
+use Rattle.voice.specs.Slot.{lostOf}
 use Rattle.voice.proofs.FrameLaws.{protect-frame}
 use Rattle.openings.specs.Samples.{seed}
 use Rattle.demands.specs.Marked.{key0001}
 use Rattle.demands.specs.Rates.{Layout, layout, FrameAt, wordAt}
 use Rattle.demands.specs.Talk.{Slot, Session, Talk, opening, joining, SlotKept, SessionKept, Full, slotCounts, Kept}
-use Rattle.demands.specs.Notices.{Notice, isReached, slotNotices, startNotices, sessionNotices}
+use Rattle.demands.specs.Notices.{Notice, isReached, slotNotices, startNotices}
 use Rattle.demands.specs.Log.{Receiver, events}
 use Rattle.demands.specs.Demand3.{RightSlot, Right, Meets3}
-use Rattle.demands.specs.Others.{SameSpeech, MeetsIn, MeetsEither, Handing, upTo, upToSlots, upToSession, fourOn, atOnce, Sending, turning, identity, restarting, saving}
+use Rattle.demands.specs.Demand3Default.{Successive, Generated}
+use Rattle.demands.specs.Others.{SameSpeech, MeetsIn, MeetsEither, Handing, upTo, upToSlots, upToSession, atOnce, Sending, turning, identity, restarting, saving}
 use Rattle.demands.proofs.Layouts.{layout-is, layout-some, rate-is, ways-right}
 use Rattle.demands.proofs.AirLaws.{word-bits}
+use Rattle.demands.proofs.Marking.{knownNext, sessionsBy, firstBy, strict-first, default-first}
 use Rattle.demands.proofs.Standing.{slots-some, eight-slots, place, place-lost, place-voice, place-on, place-opened, opened-stands}
 use Rattle.demands.proofs.Samples.{silence, silence-frame, silent-long, loud, loud-frame, first-bits, saying, quiet, saying-kept, quiet-kept, quiet-long, seed-vector}
 use Rattle.demands.proofs.SampleKeys.{keyOf, bookOfThree, has-key, key-long}
@@ -66,12 +68,12 @@ module _ (c : ℕ) (r : (1 ≤ c) × (c ≤ 3)) (rt : ℕ) (lt : rt ≤ 1) where
   abbrev came : List ℕ → List ℕ
   came frame = turning rt under 0 15 frame
 
-  -- silence that is sent in slot 0 is no silence
-  not-silent : SameSpeech (layout rt) 15 (came (silence rt)) (silence rt) → ⊥
-  not-silent e =
-      let k = saying-kept rt (silence rt) (silence-frame rt) under 0 true in
-      first-some seed (seed-vector .octets) c r
-      (unturned rt under (bits-stream c (keyOf c) seed) 0 (silence rt)
+  -- silence that is sent in the first slot of a session is no silence
+  not-silent : (v : List ℕ) → Octets v → SameSpeech (layout rt) 15 (turning rt (stream c (keyOf c) v) 0 15 (silence rt)) (silence rt) → ⊥
+  not-silent v o e =
+      let k = saying-kept rt (silence rt) (silence-frame rt) (stream c (keyOf c) v) 0 true in
+      first-some v o c r
+      (unturned rt (stream c (keyOf c) v) (bits-stream c (keyOf c) v) 0 (silence rt)
       (λ w j lw lj. sym (rw mul-zero at (k .air .speech w j lw lj (all-words w lw))) ∙ e w j lw lj (all-words w lw)))
 
   abbrev one : List ℕ → Talk
@@ -109,7 +111,7 @@ module _ (c : ℕ) (r : (1 ≤ c) × (c ≤ 3)) (rt : ℕ) (lt : rt ≤ 1) where
 
         go : MeetsEither c rt R → Opened frame
         go (inl m) = right (or-true (scrambles c)) (m (one frame) refl refl kept bookOfThree 0 (has-key c r) opening .1 .0)
-        go (inr m) = right refl (m (one frame) refl refl kept (λ z. tt) bookOfThree 0 (has-key c r) opening .1 .0)
+        go (inr m) = right refl (m (one frame) refl refl kept opening (λ z. tt) bookOfThree 0 (has-key c r) .1 .0)
 
     -- it opens no slot: it refuses all, or holds all
     pub never-opens-fails : ((mask : ℕ) (frame : List ℕ) (s : R .State) → 1 ≤ numberOf (R .voice mask frame s .0)) → MeetsEither c rt R → ⊥
@@ -131,34 +133,46 @@ module _ (c : ℕ) (r : (1 ≤ c) × (c ≤ 3)) (rt : ℕ) (lt : rt ≤ 1) where
     pub leaves-fails : Handing rt R (λ frame. frame) → MeetsEither c rt R → ⊥
     leaves-fails h m =
         let a = one-slot m (silence rt) (silence-frame rt) in
-        not-silent (λ w j lw lj e. sym (h 15 (came (silence rt)) begun (a .0) w j lw lj e) ∙ a .1 w j lw lj e)
+        not-silent seed (seed-vector .octets) (λ w j lw lj e. sym (h 15 (came (silence rt)) begun (a .0) w j lw lj e) ∙ a .1 w j lw lj e)
 
   -- ---- any other for its first slots: sessions of which every slot is lost, as many as may be, and one more slot
 
-  abbrev gone : Session
-  gone = record { vector = seed; announced = false; slots = quiet rt under 0 (replicate (sessionSlots c) false) }
+  abbrev gone : List ℕ → Session
+  gone v = record { vector = v; announced = false; slots = quiet rt (stream c (keyOf c) v) 0 (replicate (sessionSlots c) false) }
 
-  abbrev lastOne : Session
-  lastOne = record { vector = seed; announced = true; slots = quiet rt under 0 (true ∷ []) }
+  abbrev lastOne : List ℕ → Session
+  lastOne v = record { vector = v; announced = true; slots = quiet rt (stream c (keyOf c) v) 0 (true ∷ []) }
 
-  abbrev quietFor : ℕ → List Session
-  quietFor zero = lastOne ∷ []
-  quietFor (suc m) = gone ∷ quietFor m
+  -- by the generator's vectors, from v on
+  abbrev quietFor : List ℕ → ℕ → List Session
+  quietFor v zero = lastOne v ∷ []
+  quietFor v (suc m) = gone v ∷ quietFor (nextVector v) m
 
-  quietFor-each : (m : ℕ) → Each (SessionKept (layout rt) c (keyOf c)) (quietFor m)
-  quietFor-each zero = (record { vector = refl; slots = quiet-kept rt under 0 (true ∷ []) }, tt)
-  quietFor-each (suc m) = (record { vector = refl; slots = quiet-kept rt under 0 (replicate (sessionSlots c) false) }, quietFor-each m)
+  quietFor-each : (v : List ℕ) → IsVector v → (m : ℕ) → Each (SessionKept (layout rt) c (keyOf c)) (quietFor v m)
+  quietFor-each v o zero = (record { vector = o .long; slots = quiet-kept rt (stream c (keyOf c) v) 0 (true ∷ []) }, tt)
+  quietFor-each v o (suc m) = (
+    record { vector = o .long; slots = quiet-kept rt (stream c (keyOf c) v) 0 (replicate (sessionSlots c) false) },
+    quietFor-each (nextVector v) (next-is-vector v) m,
+  )
 
-  gone-long : length (gone .slots) ≡ sessionSlots c
-  gone-long = quiet-long rt under 0 (replicate (sessionSlots c) false) ∙ length-replicate (sessionSlots c) false
+  gone-long : (v : List ℕ) → length (gone v .slots) ≡ sessionSlots c
+  gone-long v = quiet-long rt (stream c (keyOf c) v) 0 (replicate (sessionSlots c) false) ∙ length-replicate (sessionSlots c) false
 
-  quietFor-full : (m : ℕ) → Full c (slotCounts (quietFor m))
-  quietFor-full zero = omega (arith, slots-some c r)
-  quietFor-full (suc zero) = (gone-long, quietFor-full zero)
-  quietFor-full (suc (suc m)) = (gone-long, quietFor-full (suc m))
+  quietFor-full : (v : List ℕ) (m : ℕ) → Full c (slotCounts (quietFor v m))
+  quietFor-full v zero = omega (arith, slots-some c r)
+  quietFor-full v (suc zero) = (gone-long v, quietFor-full (nextVector v) zero)
+  quietFor-full v (suc (suc m)) = (gone-long v, quietFor-full (nextVector v) (suc m))
+
+  quietFor-generated : (v : List ℕ) (m : ℕ) → Successive Generated (quietFor v m)
+  quietFor-generated v zero = tt
+  quietFor-generated v (suc zero) = (refl, tt)
+  quietFor-generated v (suc (suc m)) = (refl, quietFor-generated (nextVector v) (suc m))
 
   abbrev longTalk : ℕ → Talk
-  longTalk m = record { cipher = c; rate = rt; key = keyOf c; sessions = quietFor m }
+  longTalk m = record { cipher = c; rate = rt; key = keyOf c; sessions = quietFor seed m }
+
+  long-kept : (m : ℕ) → Kept (longTalk m)
+  long-kept m = record { rate = lt; key = key-long c r; each = quietFor-each seed seed-vector m; full = quietFor-full seed m }
 
   module _ (R : Receiver) (first : ℕ → ℕ) (answer : ℕ → List ℕ → R .State → Answer) where
     abbrev Stands : Type 0
@@ -168,101 +182,130 @@ module _ (c : ℕ) (r : (1 ≤ c) × (c ≤ 3)) (rt : ℕ) (lt : rt ≤ 1) where
     abbrev RightFrom : Stands → List Notice → Type 0
     RightFrom s ns = Each Right (events (upTo R first answer) bookOfThree c 0 rt s ns)
 
-    lost-on : (n p : ℕ) (reached : Bool) (rest : List Notice) (s : Stands)
-        → ((s′ : Stands) → s′ .0 ≡ s .0 + n → s′ .1 ≡ s .1 → RightFrom s′ rest → ⊥) → RightFrom s (slotNotices reached (quiet rt under p (replicate n false)) ++ rest) → ⊥
-    lost-on zero p reached rest s k h = k s (omega arith) refl h
-    lost-on (suc n) p reached rest s k h =
-        lost-on n (suc p) reached rest (suc (s .0), s .1, R .lost (s .2) .1) (λ s′ a b. k s′ (omega arith) b) (h .1)
+    lost-on : (ks : ℕ → ℕ) (n p : ℕ) (reached : Bool) (rest : List Notice) (s : Stands)
+        → ((s′ : Stands) → s′ .0 ≡ s .0 + n → s′ .1 ≡ s .1 → RightFrom s′ rest → ⊥) → RightFrom s (slotNotices reached (quiet rt ks p (replicate n false)) ++ rest) → ⊥
+    lost-on ks zero p reached rest s k h = k s (omega arith) refl h
+    lost-on ks (suc n) p reached rest s k h =
+        lost-on ks n (suc p) reached rest (suc (s .0), s .1, R .lost (s .2) .1) (λ s′ a b. k s′ (omega arith) b) (h .1)
 
     -- past its slots it leaves the frame as it came
-    one-more : (s : Stands) → s .1 ≤ s .0 → RightFrom s (slotNotices (isReached c true) (quiet rt under 0 (true ∷ []))) → ⊥
-    one-more s l h =
+    one-more : (v : List ℕ) → Octets v → {reached : Bool} → reached ≡ true → (s : Stands) → s .1 ≤ s .0
+        → RightFrom s (slotNotices reached (quiet rt (stream c (keyOf c) v) 0 (true ∷ [])) ++ []) → ⊥
+    one-more v o e s l h =
         let h′ = rw (le-ltb (s .0) (s .1) l) at (h .0) in
-        not-silent (word-speech rt 15 (came (silence rt)) (silence rt) (h′ .opened (h′ .handed (or-true (scrambles c)))))
+        not-silent v o (word-speech rt 15 (turning rt (stream c (keyOf c) v) 0 15 (silence rt)) (silence rt) (h′ .opened (h′ .handed e)))
 
-    late : (m : ℕ) (s : Stands) → s .1 ≤ s .0 + 4 * m → RightFrom s (sessionNotices c (quietFor m)) → ⊥
-    late zero s l h = go (scrambles c) h
+    -- in either way
+    late : (way : ℕ) (known : Bool) (v : List ℕ) → IsVector v → (m : ℕ) (s : Stands) → s .1 ≤ s .0 + 4 * m → RightFrom s (sessionsBy way c known (quietFor v m)) → ⊥
+    late way known v o zero s l h = go (scrambles c) h
       where
-        go : (t : Bool) → RightFrom s (startNotices (not t && true) seed ++ slotNotices (isReached c true) (quiet rt under 0 (true ∷ []))) → ⊥
-        go true h = one-more s (omega arith) h
-        go false h = one-more (s .0, s .1, R .announce seed (s .2) .1) (omega arith) (h .1)
-    late (suc m) s l h =
-        lost-on (sessionSlots c) 0 (isReached c false) (sessionNotices c (quietFor m)) s
-        (λ s′ a b. late m s′ (omega (arith, slots-some c r))) (rw and-false-r at h)
+        go : (t : Bool) → RightFrom s (startNotices (not t && true) v ++ (slotNotices (known || true) (quiet rt (stream c (keyOf c) v) 0 (true ∷ [])) ++ [])) → ⊥
+        go true h = one-more v (o .octets) (or-true known) s (omega arith) h
+        go false h = one-more v (o .octets) (or-true known) (s .0, s .1, R .announce v (s .2) .1) (omega arith) (h .1)
+    late way known v o (suc m) s l h =
+        lost-on (stream c (keyOf c) v) (sessionSlots c) 0 (known || false) (sessionsBy way c (knownNext way c (known || false)) (quietFor (nextVector v) m)) s
+        (λ s′ a b. late way (knownNext way c (known || false)) (nextVector v) (next-is-vector v) m s′ (omega (arith, slots-some c r))) (rw and-false-r at h)
+
+    abbrev opened : Stands
+    opened = (0, first c, R .hear c 0 rt seed bookOfThree (R .idle) .1)
+
+    lost-first : (way : ℕ) (known : Bool) → RightFrom opened (firstBy way c known 0 (quietFor seed (suc (first c)))) → ⊥
+    lost-first way known =
+        lost-on (stream c (keyOf c) seed) (sessionSlots c) 0 known (sessionsBy way c (knownNext way c known) (quietFor (nextVector seed) (first c))) opened
+        (λ s′ a b. late way (knownNext way c known) (nextVector seed) (next-is-vector seed) (first c) s′ (omega (arith, slots-some c r)))
 
     -- whatever the number of slots, whatever it answers then, and whatever the receiver before
-    pub upTo-fails : MeetsIn c rt (upTo R first answer) → ⊥
-    upTo-fails m =
-        lost-on (sessionSlots c) 0 (isReached c true) (sessionNotices c (quietFor (first c))) (0, first c, R .hear c 0 rt seed bookOfThree (R .idle) .1)
-        (λ s′ a b. late (first c) s′ (omega (arith, slots-some c r)))
-        (m (longTalk (suc (first c))) refl refl
-        (record { rate = lt; key = key-long c r; each = quietFor-each (suc (first c)); full = quietFor-full (suc (first c)) }) bookOfThree 0 (has-key c r) opening .1)
+    pub upTo-fails : MeetsEither c rt (upTo R first answer) → ⊥
+    upTo-fails (inl m) =
+        lost-first strict (isReached c true)
+        (subst (λ (ns : List Notice). RightFrom opened ns) (sym (strict-first c true 0 (quietFor seed (suc (first c)))))
+        (m (longTalk (suc (first c))) refl refl (long-kept (suc (first c))) bookOfThree 0 (has-key c r) opening .1))
+    upTo-fails (inr m) =
+        lost-first byDefault true
+        (subst (λ (ns : List Notice). RightFrom opened ns) (default-first c true true (λ z. refl) 0 (quietFor seed (suc (first c))))
+        (m (longTalk (suc (first c))) refl refl (long-kept (suc (first c))) opening (λ z. quietFor-generated seed (suc (first c))) bookOfThree 0 (has-key c r) .1))
 
-  pub upToSlots-fails : (R : Receiver) (n : ℕ) (answer : ℕ → List ℕ → R .State → Answer) → MeetsIn c rt (upToSlots R n answer) → ⊥
+  pub upToSlots-fails : (R : Receiver) (n : ℕ) (answer : ℕ → List ℕ → R .State → Answer) → MeetsEither c rt (upToSlots R n answer) → ⊥
   upToSlots-fails R n = upTo-fails R (λ c. n)
 
-  pub upToSession-fails : (R : Receiver) (answer : ℕ → List ℕ → R .State → Answer) → MeetsIn c rt (upToSession R answer) → ⊥
+  pub upToSession-fails : (R : Receiver) (answer : ℕ → List ℕ → R .State → Answer) → MeetsEither c rt (upToSession R answer) → ⊥
   upToSession-fails R = upTo-fails R sessionSlots
 
--- ---- the announced vector, applied at once, with DES or AES
+-- ---- in the session that it joined, with DES or AES
 
-module _ (c : ℕ) (r : (1 ≤ c) × (c ≤ 3)) (n : scrambles c ≡ false) (rt : ℕ) (lt : rt ≤ 1) (w : List ℕ) (k : length w ≡ 8) where
-  -- a session with the seed as its vector, in which w is announced, and the session of w
-  abbrev secondHalf : List Bool
-  secondHalf = false ∷ false ∷ false ∷ false ∷ true ∷ true ∷ true ∷ true ∷ []
+module _ (c : ℕ) (r : (1 ≤ c) × (c ≤ 3)) (n : scrambles c ≡ false) (rt : ℕ) (lt : rt ≤ 1) where
+  -- a session of which the second superframe arrives
+  abbrev entered : Talk
+  entered =
+      record {
+        cipher = c;
+        rate = rt;
+        key = keyOf c;
+        sessions = record { vector = seed; announced = true; slots = quiet rt (stream c (keyOf c) seed) 0 (replicate 4 false ++ replicate 4 true) } ∷ [];
+      }
 
-  abbrev half : List ℕ → Session
-  half v = record { vector = v; announced = true; slots = quiet rt (stream c (keyOf c) v) 0 secondHalf }
+  entered-kept : Kept entered
+  entered-kept =
+      record {
+        rate = lt;
+        key = key-long c r;
+        each = (record { vector = refl; slots = quiet-kept rt (stream c (keyOf c) seed) 0 (replicate 4 false ++ replicate 4 true) }, tt);
+        full = omega (arith, eight-slots c r n);
+      }
 
-  half-kept : (v : List ℕ) → length v ≡ 8 → SessionKept (layout rt) c (keyOf c) (half v)
-  half-kept v k = record { vector = k; slots = quiet-kept rt (stream c (keyOf c) v) 0 secondHalf }
+  -- what is on the air in its fifth slot
+  abbrev fifth : List ℕ
+  fifth = turning rt (stream c (keyOf c) seed) 4 15 (silence rt)
 
-  abbrev announcing : Talk
-  announcing = record { cipher = c; rate = rt; key = keyOf c; sessions = half seed ∷ half w ∷ [] }
+  module _ (R : Receiver) where
+    abbrev joined : R .State
+    joined = R .join c 0 rt bookOfThree (R .idle) .1
 
-  announcing-kept : Kept announcing
-  announcing-kept =
-      record { rate = lt; key = key-long c r; each = (half-kept seed refl, (half-kept w k, tt)); full = (sym (eight-slots c r n), omega (arith, eight-slots c r n)) }
+    -- by either demand it is held as it came
+    fifth-held : MeetsEither c rt R → (numberOf (R .voice 15 fifth joined .0) ≡ 1) × (R .voice 15 fifth joined .1 .1 ≡ fifth)
+    fifth-held (inl m) = m entered refl refl entered-kept bookOfThree 0 (has-key c r) (joining 0) .1 .0 .held (ap (λ (t : Bool). t || false) n)
+    fifth-held (inr m) = m entered refl refl entered-kept (joining 0) (λ z. tt) bookOfThree 0 (has-key c r) .1 .0 .held n
 
-  abbrev t : Terms
-  t = termsOf c (keyFor bookOfThree c 0) rt strict
+    -- it never leaves a frame that it holds as it came
+    pub spoils-fails : ((mask : ℕ) (frame : List ℕ) (s : R .State) → numberOf (R .voice mask frame s .0) ≡ 1 → R .voice mask frame s .1 .1 ≡ frame → ⊥) → MeetsEither c rt R → ⊥
+    spoils-fails f m = let h = fifth-held m in f 15 fifth joined (h .0) (h .1)
 
-  abbrev known : Known
-  known = told (sessionVector c w)
+  -- ---- the announced vector, whichever, applied at once
 
-  right : termsRight receivingEnd rt strict ≡ true
-  right = ways-right rt strict lt (omega arith)
+  module _ (m : ℕ) (lm : m ≤ 1) (w : List ℕ) (k : length w ≡ 8) where
+    abbrev t : Terms
+    t = termsOf c (keyFor bookOfThree c 0) rt m
 
-  abbrev at : ℕ → Standing
-  at = place t known
+    abbrev known : Known
+    known = told (sessionVector c w)
 
-  lost-once : (p : ℕ) → p < 8 → (s : Call) → standing s ≡ at p → standing (lostOf s .1) ≡ at (p + 1)
-  lost-once p l s e =
-      let l′ : p < sessionSlots c = omega (arith, eight-slots c r n) in
-      ap (λ (o : Answer × Call). standing (o .1)) (place-lost t known p l′ s e) ∙ place-on t known p l′ s e
+    right : termsRight receivingEnd rt m ≡ true
+    right = ways-right rt m lt lm
 
-  four-on : standing (fourOn (openOf noCall c 0 rt strict w bookOfThree .1)) ≡ at 4
-  four-on =
-      lost-once 3 (omega arith) _
-      (lost-once 2 (omega arith) _
-      (lost-once 1 (omega arith) _
-      (lost-once 0 (omega arith) _
-      (ap (λ (o : Answer × Call). standing (o .1)) (place-opened bookOfThree c 0 (keyOf c) (has-key c r) rt strict right w k)
-      ∙ opened-stands bookOfThree c 0 (keyOf c) (has-key c r) rt strict right w k))))
+    abbrev at : ℕ → Standing
+    at = place t known
 
-  opens : (s : Call) → standing s ≡ at 4 → (frame : List ℕ) → length frame ≡ frameOctets (width rt) → voiceOf s 15 frame .0 ≡ Done
-  opens s e frame l =
-      ap (λ (o : Answer × (Call × List ℕ)). o .0)
-      (place-voice t known 4 (omega (arith, eight-slots c r n)) s e 15 frame (omega arith) l)
+    lost-once : (p : ℕ) → p < 8 → (s : Call) → standing s ≡ at p → standing (lostOf s .1) ≡ at (p + 1)
+    lost-once p l s e =
+        let l′ : p < sessionSlots c = omega (arith, eight-slots c r n) in
+        ap (λ (o : Answer × Call). standing (o .1)) (place-lost t known p l′ s e) ∙ place-on t known p l′ s e
 
-  -- it hands out the rest of the session that it joined, which counts as not reached
-  pub atOnce-fails : MeetsIn c rt (atOnce w) → ⊥
-  atOnce-fails m =
-      let came = turning rt (stream c (keyOf c) seed) 4 15 (silence rt) in
-      let z : _≡_ {A = ℕ} 0 1 =
-      sym (ap numberOf (opens _ four-on came (protect-frame (width rt) (ofSlot (width rt) (stream c (keyOf c) seed) 4) 15 (silence rt) (silent-long rt) .long)))
-      ∙ m announcing refl refl announcing-kept bookOfThree 0 (has-key c r) (joining 0) .1 .0 .held (ap (λ (t : Bool). t || false) n) .0 in
-      omega arith
+    four-on : standing (atOnce m w .join c 0 rt bookOfThree noCall .1) ≡ at 4
+    four-on =
+        lost-once 3 (omega arith) _
+        (lost-once 2 (omega arith) _
+        (lost-once 1 (omega arith) _
+        (lost-once 0 (omega arith) _
+        (ap (λ (o : Answer × Call). standing (o .1)) (place-opened bookOfThree c 0 (keyOf c) (has-key c r) rt m right w k)
+        ∙ opened-stands bookOfThree c 0 (keyOf c) (has-key c r) rt m right w k))))
+
+    -- it hands out a slot that is to be held
+    pub atOnce-fails : MeetsEither c rt (atOnce m w) → ⊥
+    atOnce-fails d =
+        let l = protect-frame (width rt) (ofSlot (width rt) (stream c (keyOf c) seed) 4) 15 (silence rt) (silent-long rt) .long in
+        let o = place-voice t known 4 (omega (arith, eight-slots c r n)) _ four-on 15 fifth (omega arith) l in
+        let z : _≡_ {A = ℕ} 0 1 = sym (ap (λ (o : Answer × (Call × List ℕ)). numberOf (o .0)) o) ∙ fifth-held (atOnce m w) d .0 in
+        omega arith
 
 -- ---- senders: two slots of silence, at either rate
 

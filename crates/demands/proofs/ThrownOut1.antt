@@ -1,9 +1,9 @@
 -- What demand 1 throws out: every key but one, histories in which no finish was done (version one began while the key loader was still sending),
--- keys that were erased before the opening, and a call whose rate or strictness changes.
+-- keys that were erased before the opening, a call whose rate or strictness changes, and any rate or strictness but 0 and 1.
 use mathlib.Core.Path.{_≡_, refl, sym, ap, subst, _∙_}
 use mathlib.Core.Bool.{Bool, true, false, _&&_, true≢false}
 use mathlib.Core.List.{List, [], _∷_, _++_}
-use Prim.Native.Nat.{ℕ}
+use Prim.Native.Nat.{ℕ, _≤_}
 use lib.Dec.{eqb}
 use borrow.Author.Tests.{eq-eqb}
 use Rattle.octets.specs.Tests.{pick}
@@ -14,7 +14,7 @@ use Rattle.answers.specs.Numbers.{numberOf, isDone}
 use Rattle.voice.specs.Call.{byDefault}
 use Rattle.keybook.specs.History as book
 use Rattle.keybook.proofs.HistoryLaws.{one-told}
-use Rattle.demands.specs.Device.{CallOperation, Open, Start, Join, Voice, Lost, End, Announce, NextVector, PacketOperation, OpenPacket, Message, LostMessage, EndPacket, Operation, OfBook, OfCall, OfPacket, Step, History, deviceAfter, history, keyOperations}
+use Rattle.demands.specs.Device.{Device, CallOperation, Open, Start, Join, Voice, Lost, End, Announce, NextVector, PacketOperation, OpenPacket, Message, LostMessage, EndPacket, Operation, OfBook, OfCall, OfPacket, Step, History, deviceAfter, history, keyOperations}
 use Rattle.octets.proofs.TestLaws.{and-false-r}
 use Rattle.demands.proofs.LoadedLaws.{still-loaded}
 use Rattle.demands.specs.Demand1.{OpensCall, by-open, by-start, by-join, OpensPacket, by-opening, renewsCall, renewsPacket, NoneDone, Loaded, Demand1}
@@ -226,3 +226,15 @@ ways-stay st meets n os more e mask frame z mask′ frame′ z′ =
     let q = one-key-call n (history st (more ++ os)) _ _ _ _ _ _ (kept-on st n os more e (meets .words os n mask frame z .loaded))
     (meets .words (more ++ os) n mask′ frame′ z′ .loaded) .0 in
     (ap (λ (f : ℕ × ℕ). f .0) q, ap (λ (f : ℕ × ℕ). f .1) q)
+
+-- ---- no call is opened at another rate, or of another strictness, than 0 and 1
+
+module _ (st : Step) (meets : Demand1 st) (d : Device) (n c i r : ℕ) where
+  pub no-other-ways : (s : ℕ) (w : List ℕ) → (r ≤ 1 → s ≤ 1 → ⊥) → (2 ≤ numberOf (st d (OfCall n (Open c i r s w)) .0)) × (2 ≤ numberOf (st d (OfCall n (Join c i r s)) .0))
+  no-other-ways s w f = (
+    meets .refused d (OfCall n (Open c i r s w)) (λ x. f (x .1) (x .2)),
+    meets .refused d (OfCall n (Join c i r s)) (λ x. f (x .1) (x .2)),
+  )
+
+  pub no-other-rate : (w : List ℕ) → (r ≤ 1 → ⊥) → 2 ≤ numberOf (st d (OfCall n (Start c i r w)) .0)
+  no-other-rate w f = meets .refused d (OfCall n (Start c i r w)) (λ x. f (x .1))

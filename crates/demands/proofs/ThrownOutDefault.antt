@@ -8,7 +8,6 @@ use mathlib.Core.List.{List, [], _∷_, _++_, map}
 use Prim.Native.Nat.{ℕ, _+_, _*_, _≤_, _<_}
 use native.Mathlib.Omega.{arith}
 use lib.ListN.{length, getD, replicate}
-use borrow.Author.Tests.{ne-eqb}
 use Rattle.octets.specs.Tests.{pick}
 use Rattle.octets.specs.Lists.{Each}
 use Rattle.octets.specs.Bits.{flip}
@@ -61,7 +60,7 @@ module _ (c : ℕ) (g : (1 ≤ c) × (c ≤ 3)) (n : scrambles c ≡ false) (rt 
   not-both R s d =
       let t = faded c rt (silence rt) in
       let f = faded-ridden c g n rt lt (silence rt) (silence-frame rt) in
-      let q = both-settled R bookOfThree 0 t opening (s t refl refl (f .kept) bookOfThree 0 (has-key c g) opening) (d t refl refl (f .kept) (λ z. f .generated) bookOfThree 0 (has-key c g) opening) in
+      let q = both-settled R bookOfThree 0 t opening (s t refl refl (f .kept) bookOfThree 0 (has-key c g) opening) (d t refl refl (f .kept) opening (λ z. f .vectors) bookOfThree 0 (has-key c g)) in
       let a : getD (map due (noticesOf t opening)) 9 0 ≡ 1 = rw n in
       let b : getD (map due (defaultNotices t opening)) 9 0 ≡ 0 = rw n in
       let z : _≡_ {A = ℕ} 1 0 = sym a ∙ ap (λ (xs : List ℕ). getD xs 9 0) q ∙ b in
@@ -169,7 +168,6 @@ module _ (c : ℕ) (g : (1 ≤ c) × (c ≤ 3)) (n : scrambles c ≡ false) (rt 
         let q : on s ≡ written (place terms opened (p + 1)) =
         ap (λ (o : Answer × Call). wentOn f s (o .1)) (place-lost terms opened p l′ s (a .stands))
         ∙ ap (λ (x : Standing). wentOn f s (written x)) (place-in terms opened (p + 1) (omega (arith, eight)))
-        ∙ ap (λ (t : Bool). pick (t && false) (callAt receivingEnd terms 0 carriedVector (f (s .vector))) (written (receiving terms (p + 1) opened))) (ne-eqb (p + 1) 0 (λ z. omega arith))
         ∙ ap written (sym (place-in terms opened (p + 1) (omega (arith, eight)))) in
         record { is = q; stands = ap standing q ∙ place-on terms opened p l′ s (a .stands) }
 
@@ -178,15 +176,14 @@ module _ (c : ℕ) (g : (1 ≤ c) × (c ≤ 3)) (n : scrambles c ≡ false) (rt 
         ap (λ (o : Answer × Call). wentOn f s (o .1)) (place-lost terms opened 7 (omega (arith, eight)) s (a .stands))
         ∙ ap (λ (x : Standing). wentOn f s (written x)) (place-end terms opened 8 (sym eight))
         ∙ ap (λ (x : Known). wentOn f s (written (receiving terms 0 x))) riding
-        ∙ ap (λ (v : List ℕ). carrying (f v)) vector
+        ∙ ap (λ (d : Call). wentOn f d (carrying (nextVector (sessionVector c seed)))) last
+        ∙ ap (λ (u : Bool). carrying (f (pick u noVector seed))) n
       where
         riding : ridden terms opened ≡ carried (nextVector (sessionVector c seed))
         riding = rw n
 
-        vector : s .vector ≡ seed
-        vector =
-            ap (λ (d : Call). d .vector) (a .is) ∙ ap (λ (x : Standing). written x .vector) (place-in terms opened 7 (omega (arith, eight)))
-            ∙ ap (λ (u : Bool). pick u noVector seed) n
+        last : s ≡ written (receiving terms 7 opened)
+        last = a .is ∙ ap written (place-in terms opened 7 (omega (arith, eight)))
 
     eight-lost : on (on (on (on (on (on (on (on (R .hear c 0 rt seed bookOfThree noCall .1)))))))) ≡ carrying (f seed)
     eight-lost =
@@ -211,7 +208,7 @@ module _ (c : ℕ) (g : (1 ≤ c) × (c ≤ 3)) (n : scrambles c ≡ false) (rt 
   -- on S, and not L(S)
   pub staying-thrown-out : MeetsDefaultIn Generated c rt staying → ⊥
   staying-thrown-out m =
-      let h = m (two (nextVector seed) false) refl refl (two-kept (nextVector seed) (next-is-vector seed .long) false) (λ z. (refl, tt)) bookOfThree 0 (has-key c g) opening in
+      let h = m (two (nextVector seed) false) refl refl (two-kept (nextVector seed) (next-is-vector seed .long) false) opening (λ z. (refl, tt)) bookOfThree 0 (has-key c g) in
       let a = apart c g n in
       a .2 (first-right (λ v. v) (handset .announce) (nextVector seed) (not-told (scrambles c) n (at-second (λ v. v) (handset .announce) (nextVector seed) false h)) (a .0) (a .1))
     where
@@ -224,7 +221,7 @@ module _ (c : ℕ) (g : (1 ≤ c) × (c ≤ 3)) (n : scrambles c ≡ false) (rt 
   -- the announced vector does not win
   pub stubborn-thrown-out : MeetsDefaultIn GeneratedOrAnnounced c rt stubborn → ⊥
   stubborn-thrown-out m =
-      let h = m (two seed true) refl refl (two-kept seed refl true) (λ z. (inl refl, tt)) bookOfThree 0 (has-key c g) opening in
+      let h = m (two seed true) refl refl (two-kept seed refl true) opening (λ z. (inl refl, tt)) bookOfThree 0 (has-key c g) in
       let a = apart c g n in
       a .2 (sym (first-right nextVector (stubborn .announce) seed (told-in-vain (scrambles c) n (at-second nextVector (stubborn .announce) seed true h)) (a .0) (a .1)))
     where

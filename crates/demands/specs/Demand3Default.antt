@@ -5,11 +5,12 @@ use mathlib.Core.List.{List, [], _∷_}
 use mathlib.Core.Bool.{Bool, true, false}
 use mathlib.Core.Logic.{_⊎_}
 use Prim.Native.Nat.{ℕ}
+use lib.ListN.{drop}
 use Rattle.octets.specs.Lists.{Each}
 use Rattle.generator.specs.Generator.{nextVector}
 use Rattle.sizes.specs.Ciphers.{scrambles}
 use Rattle.voice.specs.Call.{byDefault}
-use Rattle.demands.specs.Talk.{Session, Talk, WayIn, Kept, HasKey}
+use Rattle.demands.specs.Talk.{Session, Talk, WayIn, opening, joining, Kept, HasKey}
 use Rattle.demands.specs.Notices.{Notice, hear, join, announce, lost, voice, noticesOf}
 use Rattle.demands.specs.Log.{Receiver, Event, events}
 use Rattle.demands.specs.Demand3.{Right, oursIn}
@@ -33,6 +34,11 @@ defaultLog R b i t e = events R b (t .cipher) i (t .rate) (R .idle) (defaultNoti
 
 -- ---- what is asked of the sender besides its rules
 
+-- of the sessions that a receiver hears of: all, or those from its late entry on
+abbrev pub heardFrom : WayIn → List Session → List Session
+heardFrom opening xs = xs
+heardFrom (joining n) xs = drop n xs
+
 -- of each session and the one after it
 abbrev pub Successive : (Session → Session → Type 0) → List Session → Type 0
 Successive P [] = Unit {0}
@@ -51,8 +57,8 @@ GeneratedOrAnnounced x y = (y .announced ≡ true) ⊎ Generated x y
 
 -- scramble has no vectors. What a right log is, is demand 3's: a slot that counts as reached is handed out, and any other is held as it came
 abbrev pub MeetsTalkDefault : (Session → Session → Type 0) → Receiver → Talk → Type 0
-MeetsTalkDefault P R t = Kept t → (scrambles (t .cipher) ≡ false → Successive P (t .sessions)) → (b : List ℕ) (i : ℕ) → HasKey b (t .cipher) i (t .key)
-    → (e : WayIn) → Each Right (defaultLog R b i t e)
+MeetsTalkDefault P R t = Kept t → (e : WayIn) → (scrambles (t .cipher) ≡ false → Successive P (heardFrom e (t .sessions)))
+    → (b : List ℕ) (i : ℕ) → HasKey b (t .cipher) i (t .key) → Each Right (defaultLog R b i t e)
 
 abbrev pub Meets3Default : Receiver → Type 0
 Meets3Default R = (t : Talk) → MeetsTalkDefault Generated R t

@@ -1,7 +1,7 @@
 -- Slot operations that demand 2 throws out, receivers that demand 3 throws out, and senders that do not keep its rules (document 01, "How tight
 -- each statement is" and "Readings to shut out"; versions two and three of the user's words).
 use mathlib.Core.Path.{_≡_}
-use mathlib.Core.Bool.{true, _&&_}
+use mathlib.Core.Bool.{true, _&&_, not}
 use mathlib.Core.Logic.{_⊎_}
 use mathlib.Core.List.{List}
 use Prim.Native.Nat.{ℕ, zero, suc, _+_, _*_, _/_, _%_, _<_}
@@ -16,7 +16,7 @@ use Rattle.sizes.specs.Ciphers.{sessionSlots}
 use Rattle.voice.specs.declared.call.Call.{Call}
 use Rattle.sizes.specs.Frame.{width}
 use Rattle.voice.specs.Frame.{inMask, ofSlot, protect}
-use Rattle.voice.specs.Call.{carriedVector, strict, callAt, noCall}
+use Rattle.voice.specs.Call.{carriedVector, callAt, noCall}
 use Rattle.voice.specs.Opening.{openOf}
 use Rattle.voice.specs.Slot.{lostOf, voiceOf}
 use Rattle.voice.specs.Vector.{announceOf}
@@ -24,7 +24,7 @@ use Rattle.demands.specs.Demand2.{OnSlot}
 use Rattle.demands.specs.Rates.{Layout, layout}
 use Rattle.demands.specs.Talk.{Session, Talk}
 use Rattle.demands.specs.Log.{Receiver}
-use Rattle.demands.specs.Demand3.{MeetsTalk}
+use Rattle.demands.specs.Demand3.{MeetsTalk, oursIn}
 use Rattle.demands.specs.Demand3Default.{Generated, MeetsTalkDefault, handset}
 
 -- two frames have the same speech, spare bits and other words aside
@@ -94,18 +94,18 @@ upToSlots R n = upTo R (λ c. n)
 abbrev pub upToSession : (R : Receiver) → (ℕ → List ℕ → R .State → Answer) → Receiver
 upToSession R = upTo R sessionSlots
 
--- ---- version three: joining, it applies the announced vector w to the session in which it was sent, which is at its fifth slot
+-- ---- version three, strict or not: joining, it applies the announced vector w to the session in which it was sent, which is at its fifth slot
 
 abbrev pub fourOn : Call → Call
 fourOn s = lostOf (lostOf (lostOf (lostOf s .1) .1) .1) .1
 
-abbrev pub atOnce : List ℕ → Receiver
-atOnce w =
+abbrev pub atOnce : ℕ → List ℕ → Receiver
+atOnce strictness w =
     record {
       State = Call;
       idle = noCall;
-      hear = λ c i r v b s. openOf s c i r strict v b;
-      join = λ c i r b s. (openOf s c i r strict w b .0, fourOn (openOf s c i r strict w b .1));
+      hear = oursIn strictness .hear;
+      join = λ c i r b s. (openOf s c i r strictness w b .0, fourOn (openOf s c i r strictness w b .1));
       voice = λ mask frame s. voiceOf s mask frame;
       lost = lostOf;
       announce = λ v s. announceOf s v;
@@ -120,9 +120,10 @@ MeetsDefaultIn P c r R = (t : Talk) → t .cipher ≡ c → t .rate ≡ r → Me
 abbrev pub MeetsEither : ℕ → ℕ → Receiver → Type 0
 MeetsEither c r R = MeetsIn c r R ⊎ MeetsDefaultIn Generated c r R
 
--- ours in the default way, but that it goes on with f of the last vector, and takes an announcement so
+-- ours in the default way, but that as a session ends it goes on with f of the last vector, and takes an announcement so
 abbrev pub wentOn : (List ℕ → List ℕ) → Call → Call → Call
-wentOn f s d = pick (eqb (d .position) 0 && eqb (d .known) carriedVector) (callAt (d .end) (d .terms) 0 carriedVector (f (s .vector))) d
+wentOn f s d =
+    pick (eqb (d .known) carriedVector && (eqb (d .position) 0 && not (eqb (s .position) 0))) (callAt (d .end) (d .terms) 0 carriedVector (f (s .vector))) d
 
 abbrev pub goingOnWith : (List ℕ → List ℕ) → (List ℕ → Call → Answer × Call) → Receiver
 goingOnWith f announce =

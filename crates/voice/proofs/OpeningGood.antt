@@ -16,7 +16,6 @@ use Rattle.answers.specs.declared.Answer.the-variants.{Done, ZeroVector}
 use Rattle.answers.specs.Numbers.{numberOf}
 use Rattle.answers.proofs.OutcomeLaws.{NoneHolds, none-left, none-right, among-refuses, by-refusals}
 use Rattle.openings.specs.Ladder.{sessionVector, keyFor, keyRefusals, zeroFor, zeroRefusals, vectorRefusals}
-use Rattle.ciphers.specs.Keys.{keyRight}
 use Rattle.sizes.proofs.SizeLaws.{no-vector-zero}
 use Rattle.openings.proofs.LadderLaws.{vector-from-two}
 use Rattle.openings.proofs.ReadyLaws.{none-ranged, none-in-range, none-key}
