@@ -4,6 +4,7 @@
 model.py first               prints crates/vectors/data/nxdn-first-messages.tsv, the enciphered user data as 001 has it
 model.py messages            prints crates/vectors/data/data-messages.tsv
 model.py slots               prints crates/vectors/data/voice-slots.tsv
+model.py zeros               prints crates/vectors/data/voice-slots-zeros.tsv
 model.py slotcheck < FILE    prints what slotcheck should print
 Each first checks the model against section 7.2.2 of NXDN TS 1-D ("001").
 A voice call has a rate: a word has 49 speech bits at half rate and 72 at full rate, and each other size follows from that. A row of slots gives the rate, and where it
@@ -262,17 +263,26 @@ FRAMES = [
 ]
 
 
-def slots():
-    print("# Voice slots at both rates, in a first session and past it: cipher type, rate, key, vector of the call's first session, slots of the call before it, mask (hex), frame, turned frame.")
-    print("# Printed by bench/model.py slots: scramble and the generator in Python, DES and AES by OpenSSL.")
-    for cipher, rate, key, before, mask, frame in FRAMES:
+def print_slots(what, command, rows):
+    print(f"# {what}: cipher type, rate, key, vector of the call's first session, slots of the call before it, mask (hex), frame, turned frame.")
+    print(f"# Printed by bench/model.py {command}: scramble and the generator in Python, DES and AES by OpenSSL.")
+    for first, (cipher, rate, key, before, mask, frame) in rows:
         receiver = Receiver(strict=False)
-        receiver.call = [cipher, bytes.fromhex(key), 0, bytes.fromhex(SEED[cipher]), True]
+        receiver.call = [cipher, bytes.fromhex(key), 0, bytes.fromhex(first), True]
         for _ in range(before):
             receiver.slot()
         _, octets, position, vector, _ = receiver.call
         out = turned_frame(rate, cipher, octets, vector, position, mask, bytes.fromhex(frame))
-        print(cipher, rate, key, SEED[cipher], before, f"{mask:02X}", frame, out.hex().upper(), sep="\t")
+        print(cipher, rate, key, first, before, f"{mask:02X}", frame, out.hex().upper(), sep="\t")
+
+
+def slots():
+    print_slots("Voice slots at both rates, in a first session and past it", "slots", [(SEED[row[0]], row) for row in FRAMES])
+
+
+def zeros():
+    past = [row for row in FRAMES if row[0] != 1 and row[3] >= SLOTS[row[0]]]
+    print_slots("Voice slots of a sender whose vectors are zeros, past a first session", "zeros", [("00" * 8, row) for row in past])
 
 
 # ---- slotcheck
@@ -290,7 +300,7 @@ for cipher, enciphered in PUBLISHED.items():
     assert turned(cipher, 0, TEXT).hex().upper() == enciphered
 
 if __name__ == "__main__":
-    printed = {"first": first, "messages": messages, "slots": slots}
+    printed = {"first": first, "messages": messages, "slots": slots, "zeros": zeros}
     if len(sys.argv) == 2 and sys.argv[1] in printed:
         printed[sys.argv[1]]()
     elif sys.argv[1:] == ["slotcheck"]:

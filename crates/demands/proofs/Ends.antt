@@ -12,7 +12,7 @@ use Rattle.voice.specs.declared.call.Call.{Call}
 use Rattle.voice.specs.Call.{closedEnd, goodCall}
 use Rattle.voice.specs.Slot.{voiceOf}
 use Rattle.voice.proofs.CallLaws.{rated}
-use Rattle.voice.proofs.SlotSteps.{session-over}
+use Rattle.voice.proofs.SlotSteps.{session-over, session-lost}
 use Rattle.voice.proofs.Exactly.{other-length}
 use Rattle.demands.specs.Rates.{Layout, layout}
 use Rattle.demands.specs.Talk.{Slot, SlotKept}
@@ -45,6 +45,7 @@ session-ends =
       des-last = λ call mask frame rate c p l. last-of call mask frame rate 2 7 c p l;
       aes-last = λ call mask frame rate c p l. last-of call mask frame rate 3 7 c p l;
       next = session-over;
+      next-lost = session-lost;
     }
 
 -- ---- at the other rate

@@ -15,7 +15,7 @@ use Rattle.keybook.specs.History as book
 use Rattle.keybook.specs.History.{Told}
 use Rattle.voice.specs.declared.call.Call.{Call}
 use Rattle.voice.specs.Slot.{streamOf, inSlot}
-use Rattle.voice.specs.Call.{closedEnd, sendingEnd, receivingEnd, unknownVector, carriedVector, byDefault, goodCall}
+use Rattle.voice.specs.Call.{closedEnd, sendingEnd, receivingEnd, unknownVector, carriedVector, goodCall}
 use Rattle.data.specs.declared.packet.Packet.{Packet}
 use Rattle.data.specs.Kinds.{messageOctets}
 use Rattle.data.specs.Packet.{goodPacket}
@@ -71,7 +71,7 @@ RightInput d (OfPacket n o) = RightPacket (d .book) (d .packets n) o
 
 -- a receiver was told no vector of its session: a strict one's is unknown, and one's by default is unknown or carried
 abbrev pub NotTold : Call → Type 0
-NotTold c = (c .known ≡ unknownVector) ⊎ ((c .known ≡ carriedVector) × (c .terms .strictness ≡ byDefault))
+NotTold c = (c .known ≡ unknownVector) ⊎ ((c .known ≡ carriedVector) × (c .terms .strictness ≡ 0))
 
 -- open, join and start while no call stands, the others while one does; a lost slot and announce are a receiver's, and announce is right only for DES or
 -- AES at position 0, where no vector was told; next vector is a sender's, for DES or AES
@@ -123,7 +123,7 @@ pub data Unknown (d : Device) : Operation → Type 0 where
 -- the operation opens call n at a rate and with a strictness, which a sender's is 0, or packet n for a kind, with cipher c and key ID i
 pub data OpensCall (n : ℕ) (ways : ℕ × ℕ) (c i : ℕ) : Operation → Type 0 where
   by-open : (w : List ℕ) → OpensCall n ways c i (OfCall n (Open c i (ways .0) (ways .1) w))
-  by-start : (w : List ℕ) → ways .1 ≡ byDefault → OpensCall n ways c i (OfCall n (Start c i (ways .0) w))
+  by-start : (w : List ℕ) → ways .1 ≡ 0 → OpensCall n ways c i (OfCall n (Start c i (ways .0) w))
   by-join : OpensCall n ways c i (OfCall n (Join c i (ways .0) (ways .1)))
 
 pub data OpensPacket (n kind c i : ℕ) : Operation → Type 0 where

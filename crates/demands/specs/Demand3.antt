@@ -7,7 +7,7 @@ use Prim.Native.Nat.{ℕ, _<_}
 use Rattle.answers.specs.Numbers.{numberOf}
 use Rattle.voice.specs.declared.call.Call.{Call}
 use Rattle.voice.specs.Frame.{inMask}
-use Rattle.voice.specs.Call.{strict, noCall}
+use Rattle.voice.specs.Call.{noCall}
 use Rattle.voice.specs.Opening.{openOf, joinOf}
 use Rattle.voice.specs.Slot.{lostOf, voiceOf}
 use Rattle.voice.specs.Vector.{announceOf}
@@ -49,5 +49,6 @@ oursIn strictness =
       announce = λ v s. announceOf s v;
     }
 
+-- 1 is strict
 abbrev pub ours : Receiver
-ours = oursIn strict
+ours = oursIn 1

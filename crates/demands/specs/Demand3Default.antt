@@ -9,7 +9,6 @@ use lib.ListN.{drop}
 use Rattle.octets.specs.Lists.{Each}
 use Rattle.generator.specs.Generator.{nextVector}
 use Rattle.sizes.specs.Ciphers.{scrambles}
-use Rattle.voice.specs.Call.{byDefault}
 use Rattle.demands.specs.Talk.{Session, Talk, WayIn, opening, joining, Kept, HasKey}
 use Rattle.demands.specs.Notices.{Notice, hear, join, announce, lost, voice, noticesOf}
 use Rattle.demands.specs.Log.{Receiver, Event, events}
@@ -67,5 +66,6 @@ Meets3Default R = (t : Talk) → MeetsTalkDefault Generated R t
 abbrev pub Meets3Announced : Receiver → Type 0
 Meets3Announced R = (t : Talk) → MeetsTalkDefault GeneratedOrAnnounced R t
 
+-- 0 is the default
 abbrev pub handset : Receiver
-handset = oursIn byDefault
+handset = oursIn 0

@@ -185,6 +185,16 @@ fn main() {
         b"The same, heard with no announcement past the first session",
         b"voice-slots-one-bit-wrong.tsv",
     );
+    run(
+        Set::HeardSlots,
+        b"voice-slots-zeros.tsv",
+        b"Slots of a sender whose vectors are zeros, heard with no announcement",
+    );
+    run(
+        Set::SentSlots,
+        b"voice-slots-zeros.tsv",
+        b"The same, sent by ours, which goes by no such vector, where none may hold",
+    );
     run_both(
         Set::Messages,
         b"data-messages.tsv",

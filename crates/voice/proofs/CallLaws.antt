@@ -1,6 +1,7 @@
 -- What a call stands for, as the code tests it.
 use mathlib.Core.Path.{_≡_, refl, sym, ap, ap₂, _∙_}
 use mathlib.Core.Bool.{Bool, true, false, _&&_, _||_, not, true≢false, false≢true}
+use mathlib.Core.Logic.{_⊎_, inl, inr}
 use mathlib.Core.List.{List}
 use Prim.Native.Nat.{ℕ, zero, suc, _≤_, _<_}
 use native.Mathlib.Omega.{arith}
@@ -10,9 +11,10 @@ use borrow.Author.Tests.{eq-eqb, ne-eqb, eqb-true, leb-true, ltb-true}
 use Rattle.octets.specs.Tests.{pick}
 use Rattle.octets.specs.Lists.{allZero}
 use Rattle.octets.proofs.ListLaws.{zeros-are}
-use Rattle.octets.proofs.TestLaws.{and-left, or-right, or-left, not-so, every-at}
+use Rattle.octets.proofs.TestLaws.{and-left, and-right, or-right, or-left, not-so, every-at}
 use Rattle.sizes.specs.Ciphers.{sessionSlots, vectorOctets, noVector, scrambles}
 use Rattle.sizes.specs.Frame.{isRate}
+use Rattle.sizes.proofs.SizeLaws.{by-rate}
 use Rattle.answers.specs.declared.Answer.{Answer}
 use Rattle.answers.specs.declared.Answer.the-variants.{Done}
 use Rattle.answers.proofs.OutcomeLaws.{NoneHolds, none-settles, Refuses, answerAt, refused-at}
@@ -190,6 +192,29 @@ module _ (c : Call) where
             let m : c .end ≡ 1 → ⊥ = λ z. omega arith in
             let h : c .end ≤ 2 = open-high (open-by n) in
             receiver (open-by n) (omega arith) (rw (not-closed n, open-by n, ne-eqb _ _ m))
+
+-- by their numbers: a rate of 0 or 1, and a strictness of 0, or a receiver's 1
+abbrev pub Ways : Call → Type 0
+Ways c = (c .terms .rate ≤ 1) × ((c .terms .strictness ≡ 0) ⊎ ((c .terms .strictness ≡ 1) × (c .end ≡ 2)))
+
+pub good-ways : (c : Call) → goodCall c ≡ true → Ways c
+unfolding isClosed closedTests termsRight
+good-ways c good =
+    by-stands c good (λ o e s. none (eqb-true (c .terms .rate) 0 (every-at (closedTests c) 2 o)) (eqb-true (c .terms .strictness) 0 (every-at (closedTests c) 3 o)))
+    (λ o e s. some o) (λ o e s. some o)
+  where
+    none : c .terms .rate ≡ 0 → c .terms .strictness ≡ 0 → Ways c
+    none r m = (omega arith, inl m)
+
+    strictness : (a : Bool) → eqb (c .terms .strictness) 0 ≡ a → (a || (eqb (c .terms .strictness) 1 && eqb (c .end) 2)) ≡ true → (c .terms .strictness ≡ 0) ⊎ ((c .terms .strictness ≡ 1) × (c .end ≡ 2))
+    strictness true q h = inl (eqb-true _ _ q)
+    strictness false q h = inr (eqb-true _ _ (and-left (eqb (c .terms .strictness) 1) (eqb (c .end) 2) h), eqb-true _ _ (and-right (eqb (c .terms .strictness) 1) (eqb (c .end) 2) h))
+
+    some : isOpen c ≡ true → Ways c
+    some o = (
+      by-rate (λ r. r ≤ 1) (omega arith) (omega arith) (c .terms .rate) (open-rate c o),
+      strictness (eqb (c .terms .strictness) 0) refl (and-right (isRate (c .terms .rate)) _ (open-terms c o)),
+    )
 
 -- ---- what the operations ask of it
 

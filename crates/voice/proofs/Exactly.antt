@@ -12,10 +12,10 @@ use lib.ListN.{length}
 use borrow.Author.Tests.{eq-eqb, ne-eqb, eqb-true, lt-ltb, le-ltb, ltb-false, not-true, not-false}
 use Rattle.octets.specs.Tests.{pick}
 use Rattle.octets.specs.Lists.{allZero}
-use Rattle.octets.proofs.TestLaws.{and-left, and-right, and-false-r}
+use Rattle.octets.proofs.TestLaws.{and-left, and-right, and-false-r, not-so}
 use Rattle.generator.specs.Generator.{nextVector}
 use Rattle.answers.specs.declared.Answer.{Answer}
-use Rattle.answers.specs.declared.Answer.the-variants.{Done, Held, WrongLength, OutOfRange, ZeroVector}
+use Rattle.answers.specs.declared.Answer.the-variants.{Done, Held, WrongLength, OutOfRange, ZeroVector, NotNow}
 use Rattle.answers.specs.Numbers.{numberOf, isDone}
 use Rattle.answers.specs.Outcomes.{Refusals, outcome}
 use Rattle.answers.proofs.OutcomeLaws.{NoneHolds, Refusal, fromTwo, among-refuses, by-refusals, some-refuses}
@@ -32,7 +32,7 @@ use Rattle.voice.specs.Slot.{topMask, voiceRefusals, streamOf, voiceBy, 
 use Rattle.voice.specs.Vector.{awaits, withVector, announceRefusals, announceOf, generates, following, nextRefusals, nextVectorOf}
 use Rattle.voice.proofs.CallLaws.{is-sender, is-told, by-known, carried-default, receiver-right, by-stands, good-by, not-bad, stands-some, width-in, is-receiver, knows-is}
 use Rattle.voice.proofs.SlotLaws.{none-long, none-good, none-open, taken-under-two, voice-refused, voice-taken, by-refused, by-long, by-short, answer-taken}
-use Rattle.voice.proofs.VectorLaws.{announce-done}
+use Rattle.voice.proofs.VectorLaws.{announce-done, announce-refused}
 
 -- ---- a voice slot
 
@@ -157,8 +157,8 @@ start-out-of-range c n i r b k w l h = begin-out-of-range c n i r byDefault b k 
 -- ---- an announcement
 
 -- what a receiver stands with that was told no vector of its session: none, or by default a carried one
-abbrev pub Untold : Call → Type 0
-Untold c = (c .known ≡ unknownVector) ⊎ ((c .known ≡ carriedVector) × (c .terms .strictness ≡ byDefault))
+abbrev pub NotTold : Call → Type 0
+NotTold c = (c .known ≡ unknownVector) ⊎ ((c .known ≡ carriedVector) × (c .terms .strictness ≡ byDefault))
 
 -- eight octets, zeros or not, and a good receiving call, DES or AES, at position 0 of a session of which it was told no vector
 pub record Timely (c : Call) (w : List ℕ) : Type 0 where
@@ -167,17 +167,17 @@ pub record Timely (c : Call) (w : List ℕ) : Type 0 where
   pub receives : c .end ≡ receivingEnd
   pub vectored : scrambles (c .terms .cipher) ≡ false
   pub starts : c .position ≡ 0
-  pub untold : Untold c
+  pub untold : NotTold c
 
 -- a good receiver's vector is so, or it was told
-or-untold : (c : Call) → goodCall c ≡ true → c .end ≡ receivingEnd → (c .known ≡ toldVector → ⊥) → Untold c
+or-untold : (c : Call) → goodCall c ≡ true → c .end ≡ receivingEnd → (c .known ≡ toldVector → ⊥) → NotTold c
 or-untold c good r =
     let right = receiver-right c good r in
-    by-known (λ n. c .known ≡ n → (n ≡ toldVector → ⊥) → Untold c) (c .terms .cipher) (c .terms .strictness) (c .known) (allZero (c .vector)) right
+    by-known (λ n. c .known ≡ n → (n ≡ toldVector → ⊥) → NotTold c) (c .terms .cipher) (c .terms .strictness) (c .known) (allZero (c .vector)) right
     (λ z e n. inl e) (λ e n. absurd (n refl))
     (λ e n. inr (e, carried-default (c .terms .cipher) (c .terms .strictness) (c .known) (allZero (c .vector)) right e .1)) refl
 
-untold-not : (c : Call) → Untold c → eqb (c .known) toldVector ≡ false
+untold-not : (c : Call) → NotTold c → eqb (c .known) toldVector ≡ false
 untold-not c (inl e) = rw e
 untold-not c (inr e) = rw (e .0)
 
@@ -226,6 +226,14 @@ module _ (c : Call) (w : List ℕ) where
         (λ a m z. absurd (omega (arith, among-refuses a (announceRefusals (standing c) w) from-two m))) (λ n z. timely n),
     λ t. ap (λ (o : Answer × Call). numberOf (o .0)) (announced-leaves t),
   )
+
+  -- anything else is 9, of a good call and a vector of eight octets
+  pub announced-else : goodCall c ≡ true → length w ≡ vectorOctets → (Timely c w → ⊥) → announceOf c w ≡ (NotNow, c)
+  unfolding announceRefusals
+  announced-else good l n = sym (announce-refused c w 2 (long, (not-bad c good, ap not {x = awaits (standing c)} (not-so (awaits (standing c)) (λ a. n (timely (long, (not-bad c good, (ap not a, tt)))))))))
+    where
+      long : not (eqb (length w) vectorOctets) ≡ false
+      long = ap not (eq-eqb _ _ l)
 
   -- at any position but 0 no announcement is taken, in either way, and the call stays as it was
   pub untimely : (c .position ≡ 0 → ⊥) → Refusal (announceOf c w .0) × (announceOf c w .1 ≡ c)

@@ -59,12 +59,14 @@ badCalls =
     -- no such strictness; a strict sender
     ∷ callAt 2 (termsOf 2 desABCD halfRate 2) 0 1 seed
     ∷ callAt 2 (termsOf 1 scramble0001 halfRate 2) 0 1 noVector
-    ∷ callAt 1 (termsOf 2 desABCD halfRate strict) 0 1 seed
+    ∷ callAt 2 (termsOf 3 (replicate 32 0) halfRate 2) 0 1 seed
+    ∷ callAt 1 (termsOf 2 desABCD halfRate 1) 0 1 seed
+    ∷ callAt 1 (termsOf 3 (replicate 32 0) halfRate 1) 0 1 seed
     -- closed, with a cipher, a rate, a strictness, a position, a key, a vector, or a vector told
     ∷ des 0 desABCD 0 1 seed
     ∷ shut 1 (replicate 32 0) 0 0 noVector
     ∷ callAt 0 (termsOf 0 (replicate 32 0) fullRate byDefault) 0 0 noVector
-    ∷ callAt 0 (termsOf 0 (replicate 32 0) halfRate strict) 0 0 noVector
+    ∷ callAt 0 (termsOf 0 (replicate 32 0) halfRate 1) 0 0 noVector
     ∷ shut 0 (replicate 32 0) 1 0 noVector
     ∷ shut 0 (replicate 31 0 ++ (1 ∷ [])) 0 0 noVector
     ∷ shut 0 (replicate 32 0) 0 0 seed

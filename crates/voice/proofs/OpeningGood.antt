@@ -21,7 +21,7 @@ use Rattle.openings.proofs.LadderLaws.{vector-from-two}
 use Rattle.openings.proofs.ReadyLaws.{none-ranged, none-in-range, none-key}
 use Rattle.voice.specs.declared.call.Terms.{Terms}
 use Rattle.voice.specs.declared.call.Call.{Call}
-use Rattle.voice.specs.Call.{sendingEnd, receivingEnd, toldVector, byDefault, strict, termsRight, vectorRight, goodCall, told, untold, sending, receiving, standing, termsOf, callAt, written, isBad, stands}
+use Rattle.voice.specs.Call.{sendingEnd, receivingEnd, unknownVector, toldVector, byDefault, strict, termsRight, vectorRight, goodCall, unknown, told, untold, sending, receiving, standing, termsOf, callAt, written, isBad, stands}
 use Rattle.voice.specs.Opening.{superframeSlots, joinRefusals, begunRefusals, begun, begunOf, openOf, startOf, joined, joinOf}
 use Rattle.voice.proofs.GoodLaws.{knownRight, sentRight, Placed, good-sender, good-receiver, untold-right, kept}
 
@@ -89,19 +89,27 @@ module _ (end : ℕ) (bad busy : Bool) (c i r m : ℕ) (b : List ℕ) (n : NoneH
       go true e n = good-sender terms 0 (placed (rw (eqb-true end sendingEnd e) at right) (slots-some c ranged)) (sessionVector c w) (sent-right c w (n .0))
       go false e n = good-receiver terms 0 (placed (heard-terms end r m right) (slots-some c ranged)) (told (sessionVector c w)) (heard-right c m w)
 
+-- by its fields: scramble is at position 0 and was told zeros, DES and AES are at 4 and know nothing
+joined-fields : (t : Terms) → written (joined t) ≡ callAt receivingEnd t (pick (scrambles (t .cipher)) 0 4) (pick (scrambles (t .cipher)) toldVector unknownVector) noVector
+joined-fields t = go (scrambles (t .cipher))
+  where
+    go : (s : Bool) → written (receiving t (pick s 0 4) (pick s (told noVector) unknown)) ≡ callAt receivingEnd t (pick s 0 4) (pick s toldVector unknownVector) noVector
+    go true = refl
+    go false = refl
+
 -- what an opening that is done leaves, whatever the call before it: a good call, under the terms that it was given
 module _ (call : Call) (c i r : ℕ) (b : List ℕ) where
   abbrev Leaves : Answer × Call → Call → Type 0
   Leaves o d = numberOf (o .0) ≡ 0 → (goodCall (o .1) ≡ true) × (o .1 ≡ d)
 
-  pub join-leaves : (m : ℕ) → Leaves (joinOf call c i r m b) (written (joined (termsOf c (keyFor b c i) r m)))
+  pub join-leaves : (m : ℕ) → Leaves (joinOf call c i r m b) (callAt receivingEnd (termsOf c (keyFor b c i) r m) (pick (scrambles c) 0 4) (pick (scrambles c) toldVector unknownVector) noVector)
   unfolding joinOf joinRefusals keyRefusals
   join-leaves m =
-      let last = written (joined (termsOf c (keyFor b c i) r m)) in
+      let its = termsOf c (keyFor b c i) r m in
       let asked = keyRefusals (termsRight receivingEnd r m) (isBad (standing call)) (stands (standing call)) c i b in
-      by-refusals (λ o. Leaves o last) call asked (Done, last)
+      by-refusals (λ o. Leaves o (callAt receivingEnd its (pick (scrambles c) 0 4) (pick (scrambles c) toldVector unknownVector) noVector)) call asked (Done, written (joined its))
       (λ a h z. absurd (omega (arith, among-refuses a asked refl h)))
-      (λ n z. (joined-good receivingEnd (isBad (standing call)) (stands (standing call)) c i r m b n, refl))
+      (λ n z. (joined-good receivingEnd (isBad (standing call)) (stands (standing call)) c i r m b n, joined-fields its))
 
   begun-leaves : (end m : ℕ) (w : List ℕ) → Leaves (begunOf end call c i r m w b) (written (begun end (termsOf c (keyFor b c i) r m) (sessionVector c w)))
   unfolding begunRefusals vectorRefusals

@@ -21,15 +21,14 @@ use Rattle.voice.specs.declared.call.Call.{Call}
 use Rattle.voice.specs.Frame.{ofSlot, protect}
 use Rattle.voice.specs.Call.{receivingEnd, unknownVector, toldVector, carriedVector, byDefault, strict, goodCall, knownBy, told, Standing, receiving, standing, callAt, widthOf, written}
 use Rattle.voice.specs.Opening.{openOf}
-use Rattle.voice.specs.Slot.{rides, ridden, slotOn, topMask, lostOf, streamOf, voiceOf}
-use Rattle.voice.specs.Vector.{awaits, announceRefusals, announceOf}
-use Rattle.voice.proofs.CallLaws.{is-told, by-stands, carries, is-receiver, not-bad}
+use Rattle.voice.specs.Slot.{rides, ridden, slotOn, topMask, lostOf, voiceBy, voiceOf}
+use Rattle.voice.specs.Vector.{announceOf}
+use Rattle.voice.proofs.CallLaws.{carries, is-receiver}
 use Rattle.voice.proofs.SlotLaws.{ridden-carries, ridden-untold, voice-done, voice-taken}
 use Rattle.voice.proofs.SlotSteps.{voice-at, lost-at}
 use Rattle.voice.proofs.GoodLaws.{announce-good, read-written}
 use Rattle.voice.proofs.OpeningGood.{open-leaves}
-use Rattle.voice.proofs.VectorLaws.{announce-refused}
-use Rattle.voice.proofs.Exactly.{Timely, announced-leaves, announced-exactly}
+use Rattle.voice.proofs.Exactly.{NotTold, Timely, announced-leaves, announced-exactly, announced-else}
 
 -- ---- as a session ends
 
@@ -45,14 +44,14 @@ module _ (c : Call) (good : goodCall c ≡ true) (heard : c .end ≡ receivingEn
   unfolding slotOn
   gone = rw (stood, le-ltb (c .position + 1) (sessionSlots (c .terms .cipher)) (omega arith))
 
-  -- after a slot that is lost, or that arrived and was done or held
+  -- after a slot that is lost, or that arrived and was done or held, whatever gives the session's bits
   abbrev GoesOn : Call → Type 0
-  GoesOn d = (lostOf c ≡ (Done, d)) × ((mask : ℕ) (frame : List ℕ) → numberOf (voiceOf c mask frame .0) < 2 → voiceOf c mask frame .1 .0 ≡ d)
+  GoesOn d = (lostOf c ≡ (Done, d)) × ((st : Call → ℕ → ℕ) (mask : ℕ) (frame : List ℕ) → numberOf (voiceBy st c mask frame .0) < 2 → voiceBy st c mask frame .1 .0 ≡ d)
 
   goes-on : (d : Call) → next ≡ d → GoesOn d
   goes-on d e = (
     lost-at c stood ∙ ap (λ (x : Call). (Done, x)) (sym (ap (λ (s : Standing). written (slotOn s)) stood) ∙ gone ∙ e),
-    λ mask frame l. sym (ap (λ (o : Answer × (Call × List ℕ)). o .1 .0) (voice-done streamOf c mask frame (voice-taken streamOf c mask frame l))) ∙ gone ∙ e,
+    λ st mask frame l. sym (ap (λ (o : Answer × (Call × List ℕ)). o .1 .0) (voice-done st c mask frame (voice-taken st c mask frame l))) ∙ gone ∙ e,
   )
 
   module _ (vectored : scrambles (c .terms .cipher) ≡ false) where
@@ -105,13 +104,11 @@ announced-wins c good k start w l = (wins, opens)
 
 -- where a vector was told, an announcement is 9
 pub told-already : (c : Call) → goodCall c ≡ true → c .known ≡ toldVector → (w : List ℕ) → length w ≡ vectorOctets → announceOf c w ≡ (NotNow, c)
-unfolding announceRefusals
-told-already c good k w l = sym (announce-refused c w 2 (ap not (eq-eqb _ _ l), (not-bad c good, ap not waits-not)))
+told-already c good k w l = announced-else c w good l (λ t. told (t .untold))
   where
-    waits-not : awaits (standing c) ≡ false
-    waits-not =
-        by-stands c good (λ o e s. ap awaits s) (λ o e s. ap awaits s)
-        (λ o e s. ap awaits s ∙ rw (is-told (c .known) (c .vector), k, and-false-r, and-false-r))
+    told : NotTold c → ⊥
+    told (inl e) = omega arith
+    told (inr e) = omega arith
 
 -- so is a second one in a session
 pub once : (c : Call) (w : List ℕ) → numberOf (announceOf c w .0) ≡ 0 → (v : List ℕ) → length v ≡ vectorOctets → announceOf (announceOf c w .1) v ≡ (NotNow, announceOf c w .1)

@@ -19,11 +19,11 @@ use Rattle.voice.specs.declared.call.Terms.{Terms}
 use Rattle.voice.specs.declared.call.Call.{Call}
 use Rattle.sizes.specs.Frame.{halfRate, width, frameOctets, slotBits}
 use Rattle.voice.specs.Frame.{IsFrame, ofSlot, protect}
-use Rattle.voice.specs.Call.{unknownVector, goodCall, Known, Standing, closed, bad, sending, receiving, standing, callAt, widthOf, written, widthIn, stands, knows}
+use Rattle.voice.specs.Call.{receivingEnd, unknownVector, goodCall, Known, Standing, closed, bad, sending, receiving, standing, callAt, widthOf, written, widthIn, stands, knows}
 use Rattle.voice.specs.Slot.{slotOn, lostRefusals, lostOf, topMask, voiceRefusals, streamOf, inSlot, voiceAfter, voiceBy, voiceOf}
 use Rattle.voice.proofs.FrameLaws.{protect-same, protect-none}
 use Rattle.voice.proofs.SlotLaws.{none-good, none-open, voice-taken, voice-done}
-use Rattle.voice.proofs.CallLaws.{by-stands, knows-inside, knows-yes, known-width, known-written}
+use Rattle.voice.proofs.CallLaws.{by-stands, is-receiver, knows-inside, knows-yes, known-width, known-written}
 use Rattle.voice.proofs.GoodLaws.{slot-good-if}
 
 -- a call that stands, wherever it does
@@ -102,6 +102,13 @@ session-over c last mask frame l =
     over : ltb (c .position + 1) (sessionSlots (c .terms .cipher)) ≡ false
     over = le-ltb (c .position + 1) (sessionSlots (c .terms .cipher)) (omega arith)
 
+-- so is a receiver after a lost one
+pub session-lost : (c : Call) → goodCall c ≡ true → c .end ≡ receivingEnd → c .position + 1 ≡ sessionSlots (c .terms .cipher)
+    → (lostOf c .1 .position ≡ 0) × (lostOf c .1 .terms ≡ c .terms)
+unfolding slotOn
+session-lost c good heard last =
+    rw (lost-at c (is-receiver c good heard), le-ltb (c .position + 1) (sessionSlots (c .terms .cipher)) (omega arith)) (refl, refl)
+
 -- ---- half rate at 9600 bps: the second and fourth slots of a superframe have mask 0
 
 -- the third slot stands at bits 392 to 587
@@ -130,12 +137,12 @@ module _ (c : Call) (r : Running c) (half : c .terms .rate ≡ halfRate) (start 
   runs-one : Running (onward c)
   runs-one = runs-on c r (early (c .position) (omega arith))
 
-  once : voiceOf c m first .1 .0 ≡ onward c
-  once = ap (λ (o : Answer × (Call × List ℕ)). o .1 .0) (voice-within c r (early (c .position) (omega arith)) m first hm (rw half l))
+  moved : voiceOf c m first .1 .0 ≡ onward c
+  moved = ap (λ (o : Answer × (Call × List ℕ)). o .1 .0) (voice-within c r (early (c .position) (omega arith)) m first hm (rw half l))
 
   on-two : two ≡ (Done, (onward (onward c), inSlot streamOf 0 second (onward c)))
   on-two =
-      ap (λ (d : Call). voiceOf d 0 second) once
+      ap (λ (d : Call). voiceOf d 0 second) moved
       ∙ voice-within (onward c) runs-one (early (c .position + 1) (omega arith)) 0 second (omega arith) (rw half (f .long))
 
   runs-two : Running (onward (onward c))

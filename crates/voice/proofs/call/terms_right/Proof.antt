@@ -14,5 +14,5 @@ terms-right-spec =
     (λ c κs. search needs)
     (λ c. rw (fails (c .before .is-rate .ensures) (c .if1 .taken)))
     (λ c. rw (holds (c .before .before .is-rate .ensures) (c .before .if1 .left), eq-eqb _ _ (c .if2 .taken)))
-    (λ c. rw (holds (c .before .before .before .is-rate .ensures) (c .before .before .if1 .left), ne-eqb _ _ (c .before .if2 .left), eq-eqb _ _ (c .if3 .taken)))
+    (λ c. rw (holds (c .before .before .before .is-rate .ensures) (c .before .before .if1 .left), c .if3 .taken))
     (λ c. rw (holds (c .before .before .before .is-rate .ensures) (c .before .before .if1 .left), ne-eqb _ _ (c .before .if2 .left), ne-eqb _ _ (c .if3 .left))))
