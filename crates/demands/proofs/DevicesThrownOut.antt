@@ -21,14 +21,15 @@ use Rattle.keybook.specs.Book as rules
 use Rattle.keybook.specs.Operations as operations
 use Rattle.keybook.specs.History as book
 use Rattle.sizes.specs.Ciphers.{noVector}
-use Rattle.sizes.specs.Frame.{halfRate, width}
+use Rattle.sizes.specs.Frame.{halfRate, isRate, width}
 use Rattle.openings.specs.Ladder.{keyRefusals, zeroFor, zeroRefusals, vectorRefusals}
 use Rattle.openings.specs.Samples.{seed, desABCD}
 use Rattle.voice.specs.declared.call.Call.{Call}
-use Rattle.voice.specs.Call.{byDefault, strict, vectorRight, closedTests, openTests, isClosed, isOpen, unknown, told, Standing, sending, receiving, standing, termsOf, noCall, written, isBad, widthIn, stands, knows}
+use Rattle.voice.specs.Call.{toldVector, byDefault, strict, termsRight, vectorRight, closedTests, openTests, isClosed, isOpen, goodCall, unknown, told, Standing, sending, receiving, standing, termsOf, noCall, written, widthIn, stands, knows}
 use Rattle.voice.specs.Opening.{begunRefusals, joinRefusals}
 use Rattle.voice.specs.Slot.{voiceOf}
 use Rattle.voice.specs.Vector.{announceRefusals}
+use Rattle.voice.proofs.CallLaws.{not-bad}
 use Rattle.voice.proofs.SlotSteps.{voice-at}
 use Rattle.data.specs.Packet as packet
 use Rattle.demands.specs.Marked.{holding}
@@ -45,29 +46,21 @@ having b calls = record { book = b; calls = calls; packets = λ n. packet.noPack
 
 -- ---- noise for a held frame
 
--- a DES receiver that joined, of either strictness
-abbrev listening : ℕ → Call
-listening m = written (receiving (termsOf 2 desABCD halfRate m) 4 unknown)
+-- a DES receiver that joined, and is strict
+abbrev listening : Call
+listening = written (receiving (termsOf 2 desABCD halfRate strict) 4 unknown)
 
-listens : (m : ℕ) → m ≤ 1 → standing (listening m) ≡ receiving (termsOf 2 desABCD halfRate m) 4 unknown
-unfolding standing isClosed closedTests isOpen openTests keyRight vectorRight keyAllowed desKey oddOctet allZero allBelow
-listens m l = rw (ways-right halfRate m (omega arith) l)
-
--- one that was told the vector of the session that starts, of either strictness
-abbrev told-once : ℕ → Call
-told-once m = written (receiving (termsOf 2 desABCD halfRate m) 0 (told seed))
-
-was-told : (m : ℕ) → m ≤ 1 → standing (told-once m) ≡ receiving (termsOf 2 desABCD halfRate m) 0 (told seed)
-unfolding standing isClosed closedTests isOpen openTests keyRight vectorRight keyAllowed desKey oddOctet allZero allBelow
-was-told m l = rw (ways-right halfRate m (omega arith) l)
+listens : standing listening ≡ receiving (termsOf 2 desABCD halfRate strict) 4 unknown
+unfolding standing isClosed closedTests isOpen openTests keyRight isRate termsRight vectorRight keyAllowed desKey oddOctet allZero allBelow
+listens = refl
 
 pub noisy-thrown-out : Demand1 noisy → ⊥
 unfolding step callStep
 noisy-thrown-out meets =
-    let d = having [] (λ n. listening strict) in
+    let d = having [] (λ n. listening) in
     let o = OfCall 0 (Voice 15 (silence halfRate)) in
     let e : numberOf (step d o .0) ≡ 1 =
-    ap (λ (r : Answer × (Call × List ℕ)). numberOf (r .0)) (voice-at (listening strict) 15 (silence halfRate) (omega arith) (receiving (termsOf 2 desABCD halfRate strict) 4 unknown) refl (listens strict (omega arith)) refl) in
+    ap (λ (r : Answer × (Call × List ℕ)). numberOf (r .0)) (voice-at listening 15 (silence halfRate) (omega arith) (receiving (termsOf 2 desABCD halfRate strict) 4 unknown) refl listens refl) in
     let u : pick (eqb (numberOf (step d o .0)) 1) noise (step d o .1 .1) ≡ silence halfRate = meets .untouched d o (λ z. omega arith) in
     let q : noise ≡ silence halfRate = rw e at u in
     let r = ap (λ (xs : List ℕ). getD xs 0 0) q in
@@ -78,10 +71,10 @@ noisy-thrown-out meets =
 pub filing-thrown-out : Demand1 filing → ⊥
 unfolding step callStep
 filing-thrown-out meets =
-    let d = having [] (λ n. listening strict) in
+    let d = having [] (λ n. listening) in
     let o = OfCall 0 (Voice 15 (silence halfRate)) in
     let e : numberOf (step d o .0) ≡ 1 =
-    ap (λ (r : Answer × (Call × List ℕ)). numberOf (r .0)) (voice-at (listening strict) 15 (silence halfRate) (omega arith) (receiving (termsOf 2 desABCD halfRate strict) 4 unknown) refl (listens strict (omega arith)) refl) in
+    ap (λ (r : Answer × (Call × List ℕ)). numberOf (r .0)) (voice-at listening 15 (silence halfRate) (omega arith) (receiving (termsOf 2 desABCD halfRate strict) 4 unknown) refl listens refl) in
     let z : numberOf (filing d o .0) ≡ 0 = rw e in
     meets .unopened d o (slot 0 15 (silence halfRate) refl refl) z
 
@@ -131,33 +124,33 @@ holding-all-thrown-out meets =
 
 pub ending-thrown-out : (st : Step) → Demand1 (ending st) → ⊥
 ending-thrown-out st meets =
-    let d = having [] (λ n. listening strict) in
-    let e : noCall ≡ listening strict = meets .apart d (OfBook (book.Erase 2 0)) .0 0 in
+    let d = having [] (λ n. listening) in
+    let e : noCall ≡ listening = meets .apart d (OfBook (book.Erase 2 0)) .0 0 in
     let z = ap (λ (c : Call). c .end) e in
     omega arith
 
--- ---- version three: a vector that is announced in the middle of a session; and a second one in a session, at its start
+-- ---- version three: a vector that is announced in the middle of a session; and one where the session's vector was told already
 
-module _ (isEager : Call → Bool) (meets : Demand1 (eager isEager)) where
+module _ (isEager : Call → Bool) (meets : Demand1 (eager isEager)) (c : Call) (good : goodCall c ≡ true) (e : isEager c ≡ true) where
   -- it takes a vector that comes out of its time
-  eager-fails : (c : Call) → isEager c ≡ true → isBad (standing c) ≡ false → (TimeOfCall c (Announce seed) → ⊥) → ⊥
+  eager-fails : (TimeOfCall c (Announce seed) → ⊥) → ⊥
   unfolding announceRefusals
-  eager-fails c e good late =
+  eager-fails late =
       let d = having [] (λ n. c) in
       let o = OfCall 0 (Announce seed) in
       let r : 2 ≤ numberOf (eager isEager d o .0) = meets .untimely d o late in
-      let z : numberOf (eager isEager d o .0) ≡ 0 = rw (e, good) in
+      let z : numberOf (eager isEager d o .0) ≡ 0 = rw (e, not-bad c good) in
       omega arith
 
-  pub eager-thrown-out : (m : ℕ) → m ≤ 1 → isEager (listening m) ≡ true → ⊥
-  eager-thrown-out m l e = eager-fails (listening m) e (ap isBad (listens m l)) (λ t. omega (arith, t .2))
+  pub eager-thrown-out : (c .position ≡ 0 → ⊥) → ⊥
+  eager-thrown-out p = eager-fails (λ t. p (t .2))
 
-  pub told-twice-thrown-out : (m : ℕ) → m ≤ 1 → isEager (told-once m) ≡ true → ⊥
-  told-twice-thrown-out m l e = eager-fails (told-once m) e (ap isBad (was-told m l)) (λ t. not-told (t .3))
+  pub told-twice-thrown-out : c .known ≡ toldVector → ⊥
+  told-twice-thrown-out k = eager-fails (λ t. told-none (t .3))
     where
-      not-told : NotTold (told-once m) → ⊥
-      not-told (inl z) = omega arith
-      not-told (inr z) = omega (arith, z .0)
+      told-none : NotTold c → ⊥
+      told-none (inl z) = omega arith
+      told-none (inr z) = omega arith
 
 -- ---- version one
 

@@ -1,10 +1,10 @@
 -- The premises can be met: for DES and for AES a call of our sender with losses, of whose three sessions the second's vector does not reach the
 -- receiver, and one of another maker's whose vectors are all zeros; for scramble a call with losses and with words that gave way to signalling; and
--- what our receiver answers. In the default way: calls of which every announcement is lost, a late entry that rides, and a call whose announced vector is not the
--- generator's.
+-- what our receiver answers. In the default way: calls of which every announcement is lost, a late entry that rides, a call whose announced vector is not the
+-- generator's, and a late entry after such a one.
 use mathlib.Core.Path.{_≡_, refl, sym, ap, subst, _∙_}
 use mathlib.Core.Bool.{Bool, true, false, true≢false}
-use mathlib.Core.Logic.{inl, inr}
+use mathlib.Core.Logic.{_⊎_, inl, inr}
 use mathlib.Core.List.{List, [], _∷_, _++_, map}
 use Prim.Native.Nat.{ℕ, zero, suc, _+_, _*_, _^_, _≤_, _<_}
 use native.Mathlib.Nat.{zero-div}
@@ -13,9 +13,12 @@ use lib.ListN.{length, getD, replicate}
 use Rattle.sizes.specs.Ciphers.{sessionSlots, noVector, scrambles}
 use Rattle.openings.specs.Samples.{seed}
 use Rattle.octets.specs.Tests.{allBelow}
-use Rattle.octets.specs.Lists.{Each}
+use Rattle.octets.specs.Lists.{allZero, Each}
 use Rattle.octets.specs.Bits.{flip}
+use Rattle.generator.specs.Generator.{nextVector}
+use Rattle.generator.proofs.NotZero.{next-not-zero}
 use Rattle.generator.proofs.OwnNext.{zeros-next}
+use Rattle.sizes.proofs.SizeLaws.{no-vector-zero}
 use Rattle.ciphers.specs.Keystream.{stream}
 use Rattle.sizes.specs.Frame.{width}
 use Rattle.voice.specs.Frame.{IsFrame, inMask, ofSlot}
@@ -27,7 +30,7 @@ use Rattle.demands.specs.Notices.{noticesOf}
 use Rattle.demands.specs.Log.{talkLog}
 use Rattle.demands.specs.Demand3.{Right, ours}
 use Rattle.demands.specs.Others.{turning}
-use Rattle.demands.specs.Demand3Default.{defaultNotices, defaultLog, Successive, Generated, GeneratedOrAnnounced, MeetsTalkDefault, handset}
+use Rattle.demands.specs.Demand3Default.{defaultNotices, defaultLog, heardFrom, Successive, Generated, GeneratedOrAnnounced, MeetsTalkDefault, handset}
 use Rattle.demands.specs.OurSender.{Said, Saying, talkMade, SaidKept, AllSaid, Follows}
 use Rattle.octets.proofs.Zeros.{octets-by}
 use Rattle.demands.proofs.Layouts.{layoutBy, layout-is, by-layout}
@@ -36,7 +39,7 @@ use Rattle.demands.proofs.Standing.{eight-slots}
 use Rattle.demands.proofs.ReceiverMeets.{linked-heard, ours-meets-3, handset-meets-3, handset-meets-3-announced}
 use Rattle.demands.proofs.Settled.{answers, due, strict-settled, default-settled}
 use Rattle.demands.proofs.SenderKeeps.{ours-keeps, ours-generated}
-use Rattle.demands.proofs.Samples.{silence, silence-frame, loud, loud-frame, saying, repeating, saying-kept, repeating-kept, seed-starts}
+use Rattle.demands.proofs.Samples.{silence, silence-frame, loud, loud-frame, saying, repeating, saying-kept, repeating-kept, seed-vector, seed-starts}
 use Rattle.demands.proofs.SampleKeys.{keyOf, bookOfThree, has-key, key-long}
 
 -- ---- DES and AES
@@ -154,11 +157,11 @@ lateOnes frame = wholly frame false ∷ wholly frame false ∷ wholly frame fals
 abbrev pub later : ℕ → ℕ → List ℕ → Talk
 later c r frame = talkMade c (keyOf c) 0 r seed bookOfThree (lateOnes frame)
 
--- a call of another maker's sender whose second vector is not the generator's, but announced; the announcement of its next is lost. The last slot of each
--- session arrives
+-- calls of another maker's sender, in which the last slot of a session arrives
 abbrev lastToo : List Bool
 lastToo = false ∷ true ∷ false ∷ true ∷ false ∷ true ∷ false ∷ true ∷ []
 
+-- its second vector is not the generator's, but announced; the announcement of the next is lost
 abbrev pub jumped : ℕ → ℕ → List ℕ → Talk
 jumped c r frame =
     record {
@@ -168,33 +171,54 @@ jumped c r frame =
       sessions = sessionOf c r frame seed false lastToo ∷ sessionOf c r frame noVector true lastToo ∷ sessionOf c r frame noVector false (true ∷ []) ∷ [];
     }
 
+-- its second vector is neither the generator's nor announced, and the third's is announced
+abbrev pub reseeded : ℕ → ℕ → List ℕ → Talk
+reseeded c r frame =
+    record {
+      cipher = c;
+      rate = r;
+      key = keyOf c;
+      sessions =
+          sessionOf c r frame seed false lastToo ∷ sessionOf c r frame noVector false lastToo ∷ sessionOf c r frame noVector true lastToo
+          ∷ sessionOf c r frame noVector false (true ∷ []) ∷ [];
+    }
+
+-- zeros are not the generator's next after the seed
+not-next : noVector ≡ nextVector seed → ⊥
+unfolding allZero allBelow
+not-next e = true≢false (sym no-vector-zero ∙ ap allZero e ∙ next-not-zero seed seed-vector refl)
+
 -- joining in the first: held to the end of the third; the announcement, and all after it, 0
 abbrev untilAnnounced : List ℕ
 untilAnnounced =
     0 ∷ (1 ∷ 0 ∷ 1 ∷ 0 ∷ (1 ∷ 0 ∷ 1 ∷ 0 ∷ 1 ∷ 0 ∷ 1 ∷ 0 ∷ (1 ∷ 0 ∷ 1 ∷ 0 ∷ 1 ∷ 0 ∷ 1 ∷ 0 ∷ (0 ∷ (0 ∷ 0 ∷ 0 ∷ 0 ∷ 0 ∷ 0 ∷ 0 ∷ 0 ∷ (0 ∷ []))))))
 
+-- joining in the second, of which two more slots arrive: held; the announcement, and all after it, 0
+abbrev afterEntry : List ℕ
+afterEntry = 0 ∷ (0 ∷ 1 ∷ 0 ∷ 1 ∷ (0 ∷ (0 ∷ 0 ∷ 0 ∷ 0 ∷ 0 ∷ 0 ∷ 0 ∷ 0 ∷ (0 ∷ []))))
+
 -- the premises hold, our receiver answers these numbers, and each word that it hands out is the one that was spoken
 pub record Ridden (P : Session → Session → Type 0) (t : Talk) (e : WayIn) (numbers : List ℕ) : Type 0 where
   pub kept : Kept t
-  pub vectors : Successive P (t .sessions)
+  pub vectors : Successive P (heardFrom e (t .sessions))
   pub answered : answers (defaultLog handset bookOfThree 0 t e) ≡ numbers
   pub right : Each Right (defaultLog handset bookOfThree 0 t e)
 
 module _ (c : ℕ) (g : (1 ≤ c) × (c ≤ 3)) (n : scrambles c ≡ false) (r : ℕ) (l : r ≤ 1) (frame : List ℕ) (f : FrameAt (layout r) frame) where
-  rode : (P : Session → Session → Type 0) (t : Talk) → MeetsTalkDefault P handset t → t .cipher ≡ c → t .key ≡ keyOf c → Kept t → Successive P (t .sessions)
-      → (e : WayIn) (numbers : List ℕ) → map due (defaultNotices t e) ≡ numbers → Ridden P t e numbers
-  rode P t m q o k s e numbers d =
-      let h = m k e (λ z. linked-heard P e (t .sessions) s) bookOfThree 0 (rw (q, o) (has-key c g)) in
+  rode : (P : Session → Session → Type 0) (t : Talk) → MeetsTalkDefault P handset t → t .cipher ≡ c → t .key ≡ keyOf c → Kept t → (e : WayIn) → Successive P (heardFrom e (t .sessions))
+      → (numbers : List ℕ) → map due (defaultNotices t e) ≡ numbers → Ridden P t e numbers
+  rode P t m q o k e s numbers d =
+      let h = m k e (λ z. s) bookOfThree 0 (rw (q, o) (has-key c g)) in
       record { kept = k; vectors = s; answered = default-settled handset bookOfThree 0 t e h ∙ d; right = h }
 
   -- of our sender
   made : (said : List Saying) → AllSaid c r said → (e : WayIn) (numbers : List ℕ)
       → map due (defaultNotices (talkMade c (keyOf c) 0 r seed bookOfThree said) e) ≡ numbers → Ridden Generated (talkMade c (keyOf c) 0 r seed bookOfThree said) e numbers
-  made said a =
+  made said a e =
       let t = talkMade c (keyOf c) 0 r seed bookOfThree said in
       rode Generated t (handset-meets-3 t) refl refl
       (ours-keeps bookOfThree c 0 (keyOf c) (has-key c g) (key-long c g) r l seed (seed-starts c) said a)
-      (ours-generated bookOfThree c 0 (keyOf c) (has-key c g) (key-long c g) r l seed (seed-starts c) said a n)
+      e (linked-heard Generated e (t .sessions) (ours-generated bookOfThree c 0 (keyOf c) (has-key c g) (key-long c g) r l seed (seed-starts c) said a n))
 
   wholly-kept : Each (SaidKept (layout r)) (saidAll frame others)
   wholly-kept = said-all-kept (layout r) frame f others
@@ -218,7 +242,7 @@ module _ (c : ℕ) (g : (1 ≤ c) × (c ≤ 3)) (n : scrambles c ≡ false) (r :
   zeros-ridden : Ridden Generated (zeros c r frame false) opening (replicate 18 0)
   zeros-ridden =
       let t = zeros c r frame false in
-      rode Generated t (handset-meets-3 t) refl refl (zeros-kept c g n r l frame f false) (sym zeros-next, (sym zeros-next, tt)) opening (replicate 18 0) (rw n)
+      rode Generated t (handset-meets-3 t) refl refl (zeros-kept c g n r l frame f false) opening (sym zeros-next, (sym zeros-next, tt)) (replicate 18 0) (rw n)
 
   -- the announced vector wins, and is ridden on from
   jumped-kept : Kept (jumped c r frame)
@@ -235,7 +259,24 @@ module _ (c : ℕ) (g : (1 ≤ c) × (c ≤ 3)) (n : scrambles c ≡ false) (r :
   jumped-ridden : Ridden GeneratedOrAnnounced (jumped c r frame) opening (replicate 19 0)
   jumped-ridden =
       let t = jumped c r frame in
-      rode GeneratedOrAnnounced t (handset-meets-3-announced t) refl refl jumped-kept (inl refl, (inr (sym zeros-next), tt)) opening (replicate 19 0) (rw n)
+      rode GeneratedOrAnnounced t (handset-meets-3-announced t) refl refl jumped-kept opening (inl refl, (inr (sym zeros-next), tt)) (replicate 19 0) (rw n)
+
+  -- a late entry after the one that is not: only the sessions that are heard of count
+  reseeded-kept : Kept (reseeded c r frame)
+  reseeded-kept =
+      let kept = session-kept c g n r l frame f in
+      let e = eight c g n r l frame f in
+      record {
+        rate = l;
+        key = key-long c g;
+        each = (kept seed refl false lastToo, (kept noVector refl false lastToo, (kept noVector refl true lastToo, (kept noVector refl false (true ∷ []), tt))));
+        full = (e, (e, (e, omega (arith, e))));
+      }
+
+  reseeded-ridden : Ridden Generated (reseeded c r frame) (joining 1) afterEntry
+  reseeded-ridden =
+      let t = reseeded c r frame in
+      rode Generated t (handset-meets-3 t) refl refl reseeded-kept (joining 1) (sym zeros-next, (sym zeros-next, tt)) afterEntry (rw n)
 
 -- ---- at either rate, whatever one frame is said in every slot
 
@@ -275,6 +316,20 @@ module _ (r : ℕ) (l : r ≤ 1) (frame : List ℕ) (f : FrameAt (layout r) fram
 
   pub jumped-aes : Ridden GeneratedOrAnnounced (jumped 3 r frame) opening (replicate 19 0)
   jumped-aes = jumped-ridden 3 (omega arith, omega arith) refl r l frame f
+
+  pub reseeded-des : Ridden Generated (reseeded 2 r frame) (joining 1) afterEntry
+  reseeded-des = reseeded-ridden 2 (omega arith, omega arith) refl r l frame f
+
+  pub reseeded-aes : Ridden Generated (reseeded 3 r frame) (joining 1) afterEntry
+  reseeded-aes = reseeded-ridden 3 (omega arith, omega arith) refl r l frame f
+
+-- as whole calls these two do not go on with the generator's vectors
+pub not-generated : (c r : ℕ) (frame : List ℕ) → (Successive Generated (jumped c r frame .sessions) → ⊥) × (Successive GeneratedOrAnnounced (reseeded c r frame .sessions) → ⊥)
+not-generated c r frame = (λ s. not-next (s .0), λ s. neither (s .0))
+  where
+    neither : (false ≡ true) ⊎ (noVector ≡ nextVector seed) → ⊥
+    neither (inl e) = true≢false (sym e)
+    neither (inr e) = not-next e
 
 -- ---- scramble, at either rate
 

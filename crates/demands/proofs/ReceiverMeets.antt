@@ -360,3 +360,8 @@ announced-default R meets t k e l = meets t k e (λ u. generated-linked (heardFr
 
 pub handset-meets-3 : Meets3Default handset
 handset-meets-3 = announced-default handset handset-meets-3-announced
+
+-- the request's own reading: of the whole call
+pub whole-call : (R : Receiver) → Meets3Default R → (t : Talk) → Kept t → (scrambles (t .cipher) ≡ false → Successive Generated (t .sessions))
+    → (b : List ℕ) (i : ℕ) → HasKey b (t .cipher) i (t .key) → (e : WayIn) → Each Right (defaultLog R b i t e)
+whole-call R m t k l b i h e = m t k e (λ u. linked-heard Generated e (t .sessions) (l u)) b i h

@@ -9,7 +9,6 @@ use lib.Dec.{ltb, eqb}
 use Rattle.octets.specs.Tests.{pick}
 use Rattle.octets.specs.Bits.{bit}
 use Rattle.answers.specs.declared.Answer.{Answer}
-use Rattle.answers.specs.declared.Answer.the-variants.{Done}
 use Rattle.answers.specs.Numbers.{numberOf}
 use Rattle.generator.specs.Generator.{nextVector}
 use Rattle.sizes.specs.Ciphers.{sessionSlots}
@@ -143,7 +142,7 @@ staying = goingOnWith (λ v. v) (handset .announce)
 
 -- an announcement is done, but the carried vector wins
 abbrev pub stubborn : Receiver
-stubborn = goingOnWith nextVector (λ v s. pick (eqb (s .known) carriedVector) (Done, s) (announceOf s v))
+stubborn = goingOnWith nextVector (λ v s. let o = announceOf s v in (o .0, pick (eqb (s .known) carriedVector) s (o .1)))
 
 -- ---- senders: what goes on the air, of the rate, a session's keystream, the slot, the mask and the spoken frame
 
