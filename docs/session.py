@@ -1,9 +1,14 @@
 #!/usr/bin/env python3
-"""docs/session.py > docs/session.svg: the sessions of examples/handover.txt, and what slotcheck answers (examples/handover.out)."""
+"""docs/session.py > docs/session.svg: the sessions of examples/handover.txt, what slotcheck answers (examples/handover.out), and what a handset would (bench/model.py)."""
+import sys
 from html import escape
 from pathlib import Path
 
-EXAMPLES = Path(__file__).resolve().parent.parent / "examples"
+ROOT = Path(__file__).resolve().parent.parent
+sys.path.append(str(ROOT / "bench"))
+import model
+
+EXAMPLES = ROOT / "examples"
 TOLD = [line.split("\t") for line in (EXAMPLES / "handover.txt").read_text().splitlines()]
 ANSWERED = [line.split("\t") for line in (EXAMPLES / "handover.out").read_text().splitlines()]
 LATE_SESSION = 3  # a J record does not say in which session it joins: handover.py does
@@ -45,8 +50,8 @@ def receiver(records, session):
     return cells, marks
 
 
-def row(top, first, sessions, name, cells, marks):
-    """The air above, what slotcheck answers below."""
+def row(top, first, sessions, name, cells, marks, handset):
+    """The air above, what slotcheck answers below, and under it what a handset would answer to the same."""
     def at(session, slot):
         return LEFT + SLOT * (SLOTS * (session - first) + slot)
     told = {(session, slot) for session, slot, *_ in cells}
@@ -74,6 +79,10 @@ def row(top, first, sessions, name, cells, marks):
         text(x + SLOT / 2, y + 44, position, fill=FAINT, anchor="middle")
         if letter == "L":
             text(x + SLOT / 2, y - 6, "L", fill=FAINT, anchor="middle")
+    text(10, top + 237, "a handset", "head")
+    for (session, slot, letter, *_), answer in zip(cells, handset):
+        box("lost" if letter == "L" else "open" if answer == "0" else "held", at(session, slot), top + 222, height=20)
+        text(at(session, slot) + SLOT / 2, top + 237, answer, "", anchor="middle")
     for session, slot, letter in marks:
         x = at(session, slot)
         path("way", f"M{x} {top + 164} v34")
@@ -121,7 +130,7 @@ def legend(x, y):
             ("open", "0: opened. The words of the mask are the", "words that were spoken; a word that gave",
              "way to signalling (air’s colour) stays as it", "came, and uses up its bits all the same"),
             ("lost", "0 for L: a lost slot. It uses up its bits, so", "the next one opens"),
-            ("held", "1: held as it came. The session’s vector", "did not reach this receiver; nothing is", "filed as opened"),
+            ("held", "1: held as it came. This receiver does not", "know the session’s vector; nothing is", "filed as opened"),
             ("untold", "a slot that this receiver was not told of")):
         box(kind, x, y - 11, 22, 14)
         for line in lines:
@@ -132,16 +141,20 @@ def legend(x, y):
 
 late = next(n for n, fields in enumerate(TOLD) if fields[0] == "J")
 lines = list(zip(TOLD, ANSWERED))
-first = row(6, 0, 3, "opened (O)", *receiver([line for line in lines[:late] if line[0][0] != "K"], 0))
+riding = model.Receiver(strict=False)
+handset = [riding.line("\t".join(fields).encode()).split("\t")[0] for fields in TOLD]
+slots = [[handset[n] for n, fields in enumerate(TOLD) if fields[0] in "VL" and (n < late) == early] for early in (True, False)]
+first = row(6, 0, 3, "opened (O)", *receiver([line for line in lines[:late] if line[0][0] != "K"], 0), slots[0])
 announced(first(0, 5) + SLOT / 2, 92, first(1, 0), "S1 announced: lost in the fade", False)
 announced(first(1, 5) + SLOT / 2, 92, first(2, 0), "S2 announced: belongs to the next session", True)
 text(LEFT, 142, "the opening carries S0", fill=BLUE)
-second = row(236, LATE_SESSION, 2, "late entry (J)", *receiver(lines[late:], LATE_SESSION))
-announced(second(LATE_SESSION, 5) + SLOT / 2, 322, second(LATE_SESSION + 1, 0), "S4 announced: belongs to the next session", True)
-text(second(LATE_SESSION, 4) - 10, 396, "joins after a first superframe", fill=BLUE, anchor="end")
-legend(716, 300)
-text(10, 476, "After slot 7 a receiver is at position 0 and knows no vector until it is told one (I). A session that begins without one is held to its end.", fill=FAINT)
-height = prints(506, (
+second = row(276, LATE_SESSION, 2, "late entry (J)", *receiver(lines[late:], LATE_SESSION), slots[1])
+announced(second(LATE_SESSION, 5) + SLOT / 2, 362, second(LATE_SESSION + 1, 0), "S4 announced: belongs to the next session", True)
+text(second(LATE_SESSION, 4) - 10, 436, "joins after a first superframe", fill=BLUE, anchor="end")
+legend(716, 340)
+text(10, 546, "slotcheck, like the recorder, is strict: after slot 7 it knows no vector until it is told one (I), and a session that begins without one is held to its end.", fill=FAINT)
+text(10, 562, "A handset, by default, goes on with the generator’s next: S1 = L(S0) needs no announcement. Where it knew no vector it holds too.", fill=FAINT)
+height = prints(594, (
     (7, "session 0, slot 2: opened, the second word as it came"),
     (9, "session 0, slot 4: lost"),
     (13, "session 1, slot 0: held, so no frame"),
@@ -152,7 +165,7 @@ height = prints(506, (
     (32, "S4, told as session 4 starts"),
     (33, "session 4, slot 0: opened")))
 print(f'<svg xmlns="http://www.w3.org/2000/svg" viewBox="0 0 1000 {height}" font-family="sans-serif" font-size="13">')
-print("<title>Five sessions of a DES call on the air, with a lost announcement and a late entry, and what slotcheck answers</title>")
+print("<title>Five sessions of a DES call on the air, with a lost announcement and a late entry, what slotcheck answers, and what a handset would</title>")
 print(f"<style>{STYLE}\n</style>")
 print(f'<defs><marker id="tip" markerWidth="8" markerHeight="8" refX="7" refY="4" orient="auto"><path d="M0 0 L8 4 L0 8 z" fill="{BLUE}"/></marker></defs>')
 print(f'<rect width="1000" height="{height}" fill="#fcfcfa"/>')

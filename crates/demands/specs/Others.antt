@@ -61,6 +61,13 @@ onlyMoves n call mask frame =
 abbrev pub MeetsIn : ℕ → ℕ → Receiver → Type 0
 MeetsIn c r R = (t : Talk) → t .cipher ≡ c → t .rate ≡ r → MeetsTalk R t
 
+-- in the default way, and either of the two
+abbrev pub MeetsDefaultIn : (Session → Session → Type 0) → ℕ → ℕ → Receiver → Type 0
+MeetsDefaultIn P c r R = (t : Talk) → t .cipher ≡ c → t .rate ≡ r → MeetsTalkDefault P R t
+
+abbrev pub MeetsEither : ℕ → ℕ → Receiver → Type 0
+MeetsEither c r R = MeetsIn c r R ⊎ MeetsDefaultIn Generated c r R
+
 -- a receiver whose answer 0 comes with the speech of `out` of what came, at rate r
 abbrev pub Handing : ℕ → Receiver → (List ℕ → List ℕ) → Type 0
 Handing r R out = (mask : ℕ) (frame : List ℕ) (s : R .State) → numberOf (R .voice mask frame s .0) ≡ 0
@@ -110,16 +117,8 @@ atOnce strictness w =
       announce = λ v s. announceOf s v;
     }
 
--- ---- the demand in the default way, of the calls of one cipher at one rate
+-- ---- ours in the default way, but that as a session ends it goes on with f of the last vector, and takes an announcement so
 
-abbrev pub MeetsDefaultIn : (Session → Session → Type 0) → ℕ → ℕ → Receiver → Type 0
-MeetsDefaultIn P c r R = (t : Talk) → t .cipher ≡ c → t .rate ≡ r → MeetsTalkDefault P R t
-
--- either demand
-abbrev pub MeetsEither : ℕ → ℕ → Receiver → Type 0
-MeetsEither c r R = MeetsIn c r R ⊎ MeetsDefaultIn Generated c r R
-
--- ours in the default way, but that as a session ends it goes on with f of the last vector, and takes an announcement so
 abbrev pub wentOn : (List ℕ → List ℕ) → Call → Call → Call
 wentOn f s d =
     pick (eqb (d .known) carriedVector && (eqb (d .position) 0 && not (eqb (s .position) 0))) (callAt (d .end) (d .terms) 0 carriedVector (f (s .vector))) d
