@@ -80,8 +80,11 @@ def row(top, first, sessions, name, cells, marks, handset):
         if letter == "L":
             text(x + SLOT / 2, y - 6, "L", fill=FAINT, anchor="middle")
     text(10, top + 237, "a handset", "head")
-    for (session, slot, letter, *_), answer in zip(cells, handset):
+    for (session, slot, letter, mask, *_), answer in zip(cells, handset):
         box("lost" if letter == "L" else "open" if answer == "0" else "held", at(session, slot), top + 222, height=20)
+        for word in range(4):
+            if not mask >> word & 1:
+                box("air", at(session, slot) + word * SLOT / 4, top + 222, SLOT / 4, 20)
         text(at(session, slot) + SLOT / 2, top + 237, answer, "", anchor="middle")
     for session, slot, letter in marks:
         x = at(session, slot)
@@ -144,11 +147,11 @@ lines = list(zip(TOLD, ANSWERED))
 riding = model.Receiver(strict=False)
 handset = [riding.line("\t".join(fields).encode()).split("\t")[0] for fields in TOLD]
 slots = [[handset[n] for n, fields in enumerate(TOLD) if fields[0] in "VL" and (n < late) == early] for early in (True, False)]
-first = row(6, 0, 3, "opened (O)", *receiver([line for line in lines[:late] if line[0][0] != "K"], 0), slots[0])
+first = row(6, 0, 3, "slotcheck (O)", *receiver([line for line in lines[:late] if line[0][0] != "K"], 0), slots[0])
 announced(first(0, 5) + SLOT / 2, 92, first(1, 0), "S1 announced: lost in the fade", False)
 announced(first(1, 5) + SLOT / 2, 92, first(2, 0), "S2 announced: belongs to the next session", True)
 text(LEFT, 142, "the opening carries S0", fill=BLUE)
-second = row(276, LATE_SESSION, 2, "late entry (J)", *receiver(lines[late:], LATE_SESSION), slots[1])
+second = row(276, LATE_SESSION, 2, "slotcheck (J)", *receiver(lines[late:], LATE_SESSION), slots[1])
 announced(second(LATE_SESSION, 5) + SLOT / 2, 362, second(LATE_SESSION + 1, 0), "S4 announced: belongs to the next session", True)
 text(second(LATE_SESSION, 4) - 10, 436, "joins after a first superframe", fill=BLUE, anchor="end")
 legend(716, 340)

@@ -14,7 +14,7 @@ numberOf Done = 0
 numberOf Held = 1
 -- a lent buffer has the wrong length; add is given more than 32 octets
 numberOf WrongLength = 2
--- cipher type not 1 to 3, key ID above 63, message kind not 1 to 4, a packet's end (W-204) or a call's rate (W-205) not 0 or 1
+-- cipher type not 1 to 3, key ID above 63, message kind not 1 to 4, a packet's end (W-204), a call's rate (W-205) or strictness (W-206) not 0 or 1
 numberOf OutOfRange = 3
 -- bad book or bad call
 numberOf Bad = 4

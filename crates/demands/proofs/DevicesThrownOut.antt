@@ -21,7 +21,7 @@ use Rattle.keybook.specs.Book as rules
 use Rattle.keybook.specs.Operations as operations
 use Rattle.keybook.specs.History as book
 use Rattle.sizes.specs.Ciphers.{noVector}
-use Rattle.sizes.specs.Frame.{halfRate, isRate, width}
+use Rattle.sizes.specs.Frame.{halfRate, fullRate, isRate, width}
 use Rattle.openings.specs.Ladder.{keyRefusals, zeroFor, zeroRefusals, vectorRefusals}
 use Rattle.openings.specs.Samples.{seed, desABCD}
 use Rattle.voice.specs.declared.call.Call.{Call}
@@ -151,6 +151,24 @@ module _ (isEager : Call → Bool) (meets : Demand1 (eager isEager)) (c : Call) 
       told-none : NotTold c → ⊥
       told-none (inl z) = omega arith
       told-none (inr z) = omega arith
+
+-- such calls there are: joined, in the middle of a session; and told, at full rate and by default
+listening-good : goodCall listening ≡ true
+unfolding goodCall isClosed closedTests isOpen openTests keyRight isRate termsRight vectorRight keyAllowed desKey oddOctet allZero allBelow
+listening-good = refl
+
+abbrev toldAlready : Call
+toldAlready = written (receiving (termsOf 2 desABCD fullRate byDefault) 0 (told seed))
+
+told-good : goodCall toldAlready ≡ true
+unfolding goodCall isClosed closedTests isOpen openTests keyRight isRate termsRight vectorRight keyAllowed desKey oddOctet allZero allBelow
+told-good = refl
+
+pub always-eager-thrown-out : Demand1 (eager (λ c. true)) → ⊥
+always-eager-thrown-out meets = eager-thrown-out (λ c. true) meets listening listening-good refl (λ z. omega arith)
+
+pub eager-when-told-thrown-out : Demand1 (eager (λ c. eqb (c .known) toldVector)) → ⊥
+eager-when-told-thrown-out meets = told-twice-thrown-out (λ c. eqb (c .known) toldVector) meets toldAlready told-good refl refl
 
 -- ---- version one
 

@@ -1,7 +1,7 @@
 -- The premises can be met: for DES and for AES a call of our sender with losses, of whose three sessions the second's vector does not reach the
 -- receiver, and one of another maker's whose vectors are all zeros; for scramble a call with losses and with words that gave way to signalling; and
 -- what our receiver answers. In the default way: calls of which every announcement is lost, a late entry that rides, a call whose announced vector is not the
--- generator's, and a late entry after such a one.
+-- generator's, and a late entry into a session whose vector is neither the generator's nor announced.
 use mathlib.Core.Path.{_≡_, refl, sym, ap, subst, _∙_}
 use mathlib.Core.Bool.{Bool, true, false, true≢false}
 use mathlib.Core.Logic.{_⊎_, inl, inr}
@@ -261,7 +261,7 @@ module _ (c : ℕ) (g : (1 ≤ c) × (c ≤ 3)) (n : scrambles c ≡ false) (r :
       let t = jumped c r frame in
       rode GeneratedOrAnnounced t (handset-meets-3-announced t) refl refl jumped-kept opening (inl refl, (inr (sym zeros-next), tt)) (replicate 19 0) (rw n)
 
-  -- a late entry after the one that is not: only the sessions that are heard of count
+  -- a late entry into its second session: what was before doesn't count
   reseeded-kept : Kept (reseeded c r frame)
   reseeded-kept =
       let kept = session-kept c g n r l frame f in
@@ -323,7 +323,7 @@ module _ (r : ℕ) (l : r ≤ 1) (frame : List ℕ) (f : FrameAt (layout r) fram
   pub reseeded-aes : Ridden Generated (reseeded 3 r frame) (joining 1) afterEntry
   reseeded-aes = reseeded-ridden 3 (omega arith, omega arith) refl r l frame f
 
--- as whole calls these two do not go on with the generator's vectors
+-- as a whole call `jumped` does not meet the first premise, and `reseeded` not even the weaker one
 pub not-generated : (c r : ℕ) (frame : List ℕ) → (Successive Generated (jumped c r frame .sessions) → ⊥) × (Successive GeneratedOrAnnounced (reseeded c r frame .sessions) → ⊥)
 not-generated c r frame = (λ s. not-next (s .0), λ s. neither (s .0))
   where
