@@ -12,7 +12,7 @@ abbrev pub ofGiven : List ℕ
 ofGiven = 2 ∷ 3 ∷ 10 ∷ []
 
 abbrev pub ofCall : List ℕ
-ofCall = 4 ∷ 9 ∷ []
+ofCall = 4 ∷ 9 ∷ 16 ∷ []
 
 abbrev pub ofBook : List ℕ
 ofBook = 4 ∷ 5 ∷ 11 ∷ 6 ∷ 13 ∷ 7 ∷ 12 ∷ []
@@ -21,7 +21,7 @@ ofBook = 4 ∷ 5 ∷ 11 ∷ 6 ∷ 13 ∷ 7 ∷ 12 ∷ []
 abbrev pub withoutZeros : List ℕ
 withoutZeros = ofGiven ++ (ofCall ++ ofBook)
 
--- 2, then 3, 10, 4 for the call, 9, 4 for the book, 5, 11, 6, 13, 7, 12, 8, each where the operation can give it
+-- 2, then 3, 10, 4 for the call, 9, 16 (document 02, W-207), 4 for the book, 5, 11, 6, 13, 7, 12, 8, each where the operation can give it
 abbrev pub refusalOrder : List ℕ
 refusalOrder = withoutZeros ++ (8 ∷ [])
 

@@ -18,6 +18,7 @@ pub enum Answer {
     Full,
     TooMany,
     Malformed,
+    PastLimit,
 }
 
 impl Answer {
@@ -41,6 +42,7 @@ impl Answer {
             Answer::Full => 12,
             Answer::TooMany => 13,
             Answer::Malformed => 15,
+            Answer::PastLimit => 16,
         }
     }
 }

@@ -25,6 +25,10 @@ blockBits c = byCipher c 0 64 128 0
 abbrev pub sessionSlots : ℕ → ℕ
 sessionSlots c = byCipher c 4 8 8 0
 
+-- a session is one superframe, or two
+abbrev pub superframeSlots : ℕ
+superframeSlots = 4
+
 -- ---- vectors
 
 -- scramble needs none

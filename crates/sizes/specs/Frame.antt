@@ -53,3 +53,11 @@ sessionBits width = slotBits width * sessionSlots 2
 
 abbrev pub sessionOctets : ℕ → ℕ
 sessionOctets width = sessionBits width / 8
+
+-- ---- the slot limit of a receiving call (document 02, W-207), and the words of so many slots
+
+abbrev pub mostSlots : ℕ
+mostSlots = 1000000
+
+abbrev pub mostWords : ℕ
+mostWords = words * mostSlots

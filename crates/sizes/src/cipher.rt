@@ -36,6 +36,9 @@ impl Aes {
     pub const SESSION_SLOTS: usize = 8;
 }
 
+// A session is one superframe, or two.
+pub const SUPERFRAME_SLOTS: u8 = 4;
+
 // The room for a key of any cipher.
 pub const KEY_ROOM: usize = 32;
 

@@ -37,7 +37,7 @@ pub fn width(rate: u8) -> usize
 
 // ---- what follows from a width
 
-const WORDS: usize = 4;
+pub const WORDS: usize = 4;
 
 pub fn word_octets(width: usize) -> usize
     requires { ⌜ width ≤ mostWidth ⌝ }
@@ -85,3 +85,9 @@ pub const MOST_SLOT_OCTETS: usize = (Full::WIDTH * WORDS + 7) / 8;
 pub const HALF_FRAME_OCTETS: usize = (Half::WIDTH + 7) / 8 * WORDS;
 
 pub const HALF_SESSION_OCTETS: usize = Half::WIDTH * WORDS * Des::SESSION_SLOTS / 8;
+
+// ---- the slot limit of a receiving call, and the words of so many slots
+
+const MOST_SLOTS: u32 = 1_000_000;
+
+pub const MOST_WORDS: u32 = WORDS as u32 * MOST_SLOTS;
