@@ -1,5 +1,5 @@
 -- Whatever a device has been through, a call that stands holds a key that was completely loaded when it was opened.
-use mathlib.Core.Path.{_≡_, refl, ap, _∙_}
+use mathlib.Core.Path.{_≡_, refl, ap, _∙_, subst, sym}
 use mathlib.Core.Bool.{Bool, true, false}
 use mathlib.Core.List.{List}
 use Prim.Native.Nat.{ℕ, _+_}
@@ -14,8 +14,12 @@ use Rattle.keybook.specs.History as book
 use Rattle.openings.specs.Ladder.{sessionVector, keyFor}
 use Rattle.openings.proofs.LadderLaws.{key-never, vector-never}
 use Rattle.voice.specs.declared.call.Terms.{Terms}
+use Rattle.voice.specs.Counts.{noCounts, plus, lostWords}
+use Rattle.voice.specs.declared.counts.Counts.{Counts}
+use Rattle.answers.proofs.OutcomeLaws.{around}
+use Rattle.answers.specs.declared.Answer.{Answer}
 use Rattle.voice.specs.declared.call.Call.{Call}
-use Rattle.voice.specs.Call.{sendingEnd, receivingEnd, byDefault, termsRight, goodCall, Known, told, knownBy, Standing, closed, bad, sending, receiving, standing, termsOf, written, isBad, stands, endRefusals, endOf}
+use Rattle.voice.specs.Call.{sendingEnd, receivingEnd, byDefault, termsRight, goodCall, Known, told, knownBy, Standing, closed, bad, sending, receiving, standing, termsOf, written, isBad, stands, endRefusals, endOf, noCall}
 use Rattle.voice.specs.Opening.{joinRefusals, begunRefusals, begun, begunOf, openOf, startOf, joined, joinOf}
 use Rattle.voice.specs.Slot.{goingOn, ridden, slotOn, lostRefusals, lostOf, voiceRefusals, streamOf, voiceAfter, voiceBy}
 use Rattle.voice.specs.Vector.{withVector, announceRefusals, announceOf, nextVectorOf}
@@ -43,7 +47,7 @@ theCalls =
 
 -- what is written for a standing has these terms
 abbrev Under : Terms → Standing → Type 0
-Under t s = t ≡ written s .terms
+Under t s = (n : Counts) → t ≡ written n s .terms
 
 picked : {t : Terms} (b : Bool) (s u : Standing) → Under t s → Under t u → Under t (pick b s u)
 picked true s u a b = a
@@ -52,34 +56,34 @@ picked false s u a b = b
 -- a change of standing that keeps what does not stand, and the terms of what does, keeps the call's key
 module _ (f : Standing → Standing) (of-closed : f closed ≡ closed) (of-bad : f bad ≡ bad)
     (of-sender : (t : Terms) (p : ℕ) (v : List ℕ) → Under t (f (sending t p v))) (of-receiver : (t : Terms) (p : ℕ) (k : Known) → Under t (f (receiving t p k))) where
-  ended : {t : Standing} (s : Standing) → s ≡ t → f t ≡ t → written t .end ≡ 0 → written (f s) .end ≡ 0
-  ended s e g z = ap (λ (u : Standing). written (f u) .end) e ∙ ap (λ (u : Standing). written u .end) g ∙ z
+  ended : (m : Counts) {t : Standing} (s : Standing) → s ≡ t → f t ≡ t → written m t .end ≡ 0 → written m (f s) .end ≡ 0
+  ended m s e g z = ap (λ (u : Standing). written m (f u) .end) e ∙ ap (λ (u : Standing). written m u .end) g ∙ z
 
-  standing-kept : (c : Call) → KeepsKey theCalls c (written (f (standing c)))
-  standing-kept c st = go (goodCall c) refl
+  standing-kept : (c : Call) (m : Counts) → KeepsKey theCalls c (written m (f (standing c)))
+  standing-kept c m st = go (goodCall c) refl
     where
       under : {s : Standing} → (c .end ≡ 0 → ⊥) → standing c ≡ s → Under (c .terms) (f s)
-          → SameKey theCalls c (written (f (standing c)))
+          → SameKey theCalls c (written m (f (standing c)))
       under n s u =
-          let q : c .terms ≡ written (f (standing c)) .terms = rw s u in
+          let q : c .terms ≡ written m (f (standing c)) .terms = rw s (u m) in
           (n, ap (λ (t : Terms). (t .rate, t .strictness)) q, ap (λ (t : Terms). t .cipher) q, ap (λ (t : Terms). t .key) q)
 
-      go : (t : Bool) → goodCall c ≡ t → SameKey theCalls c (written (f (standing c)))
+      go : (t : Bool) → goodCall c ≡ t → SameKey theCalls c (written m (f (standing c)))
       go true g =
-          by-stands c g (λ o e s. absurd (st (ended (standing c) s of-closed refl)))
+          by-stands c g (λ o e s. absurd (st (ended m (standing c) s of-closed refl)))
           (λ o e s. under (λ z. omega arith) s (of-sender (c .terms) (c .position) (c .vector)))
           (λ o e s. under (λ z. omega arith) s (of-receiver (c .terms) (c .position) (knownBy (c .known) (c .vector))))
-      go false g = absurd (st (ended (standing c) (stands-bad c g) of-bad refl))
+      go false g = absurd (st (ended m (standing c) (stands-bad c g) of-bad refl))
 
-slot-kept : (c : Call) → KeepsKey theCalls c (written (slotOn (standing c)))
+slot-kept : (c : Call) (m : Counts) → KeepsKey theCalls c (written m (slotOn (standing c)))
 unfolding slotOn
 slot-kept =
     standing-kept slotOn refl refl
-    (λ t p v. picked (ltb (p + 1) (sessionSlots (t .cipher))) (sending t (p + 1) v) (sending t 0 (goingOn (t .cipher) v)) refl refl)
-    (λ t p k. picked (ltb (p + 1) (sessionSlots (t .cipher))) (receiving t (p + 1) k) (receiving t 0 (ridden t k)) refl refl)
+    (λ t p v. picked (ltb (p + 1) (sessionSlots (t .cipher))) (sending t (p + 1) v) (sending t 0 (goingOn (t .cipher) v)) (λ m. refl) (λ m. refl))
+    (λ t p k. picked (ltb (p + 1) (sessionSlots (t .cipher))) (receiving t (p + 1) k) (receiving t 0 (ridden t k)) (λ m. refl) (λ m. refl))
 
-told-kept : (w : List ℕ) (c : Call) → KeepsKey theCalls c (written (withVector w (standing c)))
-told-kept w = standing-kept (withVector w) refl refl (λ t p v. refl) (λ t p k. refl)
+told-kept : (w : List ℕ) (c : Call) (m : Counts) → KeepsKey theCalls c (written m (withVector w (standing c)))
+told-kept w = standing-kept (withVector w) refl refl (λ t p v m. refl) (λ t p k m. refl)
 
 -- open and start
 begun-left : (n : ℕ) (b : List ℕ) (c : Call) (end m i r s : ℕ) (w : List ℕ) (o : CallOperation) → OpensCall n (r, s) m i (OfCall n o)
@@ -88,31 +92,34 @@ unfolding begunRefusals
 begun-left n b c end m i r s w o p =
     let t = termsOf m (keyFor b m i) r s in
     let u : Under t (begun end t (sessionVector m w)) =
-    picked (eqb end sendingEnd) (sending t 0 (sessionVector m w)) (receiving t 0 (told (sessionVector m w))) refl refl in
-    renewing theCalls n b (OfCall n o) c (written (begun end t (sessionVector m w))) (begunRefusals end (standing c) m i r s w b)
+    picked (eqb end sendingEnd) (sending t 0 (sessionVector m w)) (receiving t 0 (told (sessionVector m w))) (λ n. refl) (λ n. refl) in
+    renewing theCalls n b (OfCall n o) c (written noCounts (begun end t (sessionVector m w))) (begunRefusals end (standing c) m i r s w b)
     (vector-never (termsRight end r s) (isBad (standing c)) (stands (standing c)) m i b w (eqb end sendingEnd))
     (λ h x.
     begins (r, s) m i (keyFor b m i) refl p (none-ready-vector (eqb end sendingEnd) (termsRight end r s) (isBad (standing c)) (stands (standing c)) m i b w h)
-    (ap (λ (t : Terms). (t .rate, t .strictness)) u) (ap (λ (t : Terms). t .cipher) u) (ap (λ (t : Terms). t .key) u))
+    (ap (λ (t : Terms). (t .rate, t .strictness)) (u noCounts)) (ap (λ (t : Terms). t .cipher) (u noCounts)) (ap (λ (t : Terms). t .key) (u noCounts)))
 
 call-left : (n : ℕ) (b : List ℕ) (c : Call) (o : CallOperation) → Left theCalls n b (OfCall n o) c (callStep b c o .0) (callStep b c o .1 .0)
 unfolding callStep openOf startOf joinOf voiceBy lostOf endOf announceOf joinRefusals endRefusals
 call-left n b c (Open m i r s w) = begun-left n b c receivingEnd m i r s w (Open m i r s w) (by-open w)
 call-left n b c (Start m i r w) = begun-left n b c sendingEnd m i r byDefault w (Start m i r w) (by-start w refl)
 call-left n b c (Join m i r s) =
-    renewing theCalls n b (OfCall n (Join m i r s)) c (written (joined (termsOf m (keyFor b m i) r s))) (joinRefusals (standing c) m i r s b)
+    renewing theCalls n b (OfCall n (Join m i r s)) c (written noCounts (joined (termsOf m (keyFor b m i) r s))) (joinRefusals (standing c) m i r s b)
     (key-never (termsRight receivingEnd r s) (isBad (standing c)) (stands (standing c)) m i b)
     (λ h x. begins (r, s) m i (keyFor b m i) refl by-join (none-ready (termsRight receivingEnd r s) (isBad (standing c)) (stands (standing c)) m i b h) refl refl refl)
 call-left n b c (Voice mask frame) =
-    keeping theCalls n b (OfCall n (Voice mask frame)) (λ (r : Call × List ℕ). r .0) (c, frame) (voiceRefusals (standing c) mask frame)
-    (voiceAfter streamOf mask frame (standing c)) (and-false-r (eqb n n)) (slot-kept c)
+    keeping theCalls n b (OfCall n (Voice mask frame)) (λ (r : Call × List ℕ). r .0) (c, frame) (voiceRefusals c mask frame)
+    (voiceAfter streamOf mask frame (c .counts) (standing c)) (and-false-r (eqb n n)) (slot-kept c _)
 call-left n b c Lost =
-    keeping theCalls n b (OfCall n Lost) (λ (d : Call). d) c (lostRefusals (standing c)) (Done, written (slotOn (standing c))) (and-false-r (eqb n n))
-    (slot-kept c)
-call-left n b c End = renewing theCalls n b (OfCall n End) c (written closed) (endRefusals (standing c)) refl (λ h s. absurd (s refl))
+    keeping theCalls n b (OfCall n Lost) (λ (d : Call). d) c (lostRefusals c) (Done, written (plus (c .counts) lostWords) (slotOn (standing c))) (and-false-r (eqb n n))
+    (slot-kept c _)
+call-left n b c End =
+    subst (λ (o : Answer × Call). Left theCalls n b (OfCall n End) c (o .0) (o .1))
+    (sym (around (λ (d : Call × Counts). d .0) (c, noCounts) (endRefusals (standing c)) (Done, (noCall, c .counts))))
+    (renewing theCalls n b (OfCall n End) c noCall (endRefusals (standing c)) refl (λ h s. absurd (s refl)))
 call-left n b c (Announce w) =
-    keeping theCalls n b (OfCall n (Announce w)) (λ (d : Call). d) c (announceRefusals (standing c) w) (Done, written (withVector w (standing c)))
-    (and-false-r (eqb n n)) (told-kept w c)
+    keeping theCalls n b (OfCall n (Announce w)) (λ (d : Call). d) c (announceRefusals (standing c) w) (Done, written (c .counts) (withVector w (standing c)))
+    (and-false-r (eqb n n)) (told-kept w c _)
 call-left n b c (NextVector out) = as-it-was theCalls n b (OfCall n (NextVector out)) (and-false-r (eqb n n)) c (nextVectorOf c out .0)
 
 -- ---- the calls of a device

@@ -20,8 +20,10 @@ use Rattle.keybook.specs.History as book
 use Rattle.openings.specs.Ladder as ladder
 use Rattle.openings.specs.Ladder.{sessionVector, keyFor, vectorRefusals}
 use Rattle.openings.proofs.LadderLaws.{vector-in-table}
+use Rattle.voice.specs.Counts.{noCounts, plus, lostWords}
+use Rattle.voice.specs.declared.counts.Counts.{Counts}
 use Rattle.voice.specs.declared.call.Call.{Call}
-use Rattle.voice.specs.Call.{sendingEnd, receivingEnd, byDefault, closed, standing, termsOf, written, knows, endRefusals, endOf}
+use Rattle.voice.specs.Call.{sendingEnd, receivingEnd, byDefault, standing, termsOf, written, knows, endRefusals, endOf, noCall}
 use Rattle.voice.specs.Opening.{joinRefusals, begunRefusals, begun, openOf, startOf, joined, joinOf}
 use Rattle.voice.specs.Slot.{slotOn, lostRefusals, lostOf, voiceRefusals, streamOf, voiceAfter, voiceBy}
 use Rattle.voice.specs.Vector.{withVector, announceRefusals, announceOf, following, nextRefusals, nextVectorOf}
@@ -31,7 +33,7 @@ use Rattle.data.specs.Kinds.{isKind}
 use Rattle.data.specs.Packet as packet
 use Rattle.data.specs.Opening as opening
 use Rattle.data.specs.Message as message
-use Rattle.demands.specs.Device.{withNone, Device, CallOperation, Open, Start, Join, Voice, Lost, End, Announce, NextVector, callStep, lentCall, PacketOperation, OpenPacket, Message, LostMessage, EndPacket, packetStep, lentPacket, Operation, OfBook, OfCall, OfPacket, withNumber, step}
+use Rattle.demands.specs.Device.{withNone, handedOut, Device, CallOperation, Open, Start, Join, Voice, Lost, End, Announce, NextVector, callStep, lentCall, PacketOperation, OpenPacket, Message, LostMessage, EndPacket, packetStep, lentPacket, Operation, OfBook, OfCall, OfPacket, withNumber, step}
 use Rattle.demands.specs.Refusals.{keyRefusals, callRefusals, packetRefusals, refusalsOf, callUnrefused, unrefused}
 use Rattle.demands.specs.Demand1.{Same, SameBeside}
 
@@ -54,14 +56,16 @@ none-lent {S} s = record { number = s .number; answer = s .answer; none-holds = 
 pub call-settles : (b : List ℕ) (c : Call) (o : CallOperation) → Settles (c, lentCall o) (callRefusals b c o) (callUnrefused c o) (callStep b c o)
 unfolding callStep openOf startOf joinOf voiceBy lostOf endOf announceOf nextVectorOf begunRefusals joinRefusals vectorRefusals ladder.keyRefusals ladder.zeroRefusals
     voiceRefusals lostRefusals endRefusals announceRefusals nextRefusals
-call-settles b c (Open n i r s w) = none-lent (settles c (begunRefusals receivingEnd (standing c) n i r s w b) (Done, written (begun receivingEnd (termsOf n (keyFor b n i) r s) (sessionVector n w))) refl (omega arith))
-call-settles b c (Start n i r w) = none-lent (settles c (begunRefusals sendingEnd (standing c) n i r byDefault w b) (Done, written (begun sendingEnd (termsOf n (keyFor b n i) r byDefault) (sessionVector n w))) refl (omega arith))
-call-settles b c (Join n i r s) = none-lent (settles c (joinRefusals (standing c) n i r s b) (Done, written (joined (termsOf n (keyFor b n i) r s))) refl (omega arith))
+call-settles b c (Open n i r s w) = none-lent (settles c (begunRefusals receivingEnd (standing c) n i r s w b) (Done, written noCounts (begun receivingEnd (termsOf n (keyFor b n i) r s) (sessionVector n w))) refl (omega arith))
+call-settles b c (Start n i r w) = none-lent (settles c (begunRefusals sendingEnd (standing c) n i r byDefault w b) (Done, written noCounts (begun sendingEnd (termsOf n (keyFor b n i) r byDefault) (sessionVector n w))) refl (omega arith))
+call-settles b c (Join n i r s) = none-lent (settles c (joinRefusals (standing c) n i r s b) (Done, written noCounts (joined (termsOf n (keyFor b n i) r s))) refl (omega arith))
 call-settles b c (Voice mask frame) =
-    settles (c, frame) (voiceRefusals (standing c) mask frame) (voiceAfter streamOf mask frame (standing c)) refl (taken-under-two (knows (standing c)))
-call-settles b c Lost = none-lent (settles c (lostRefusals (standing c)) (Done, written (slotOn (standing c))) refl (omega arith))
-call-settles b c End = none-lent (settles c (endRefusals (standing c)) (Done, written closed) refl (omega arith))
-call-settles b c (Announce w) = none-lent (settles c (announceRefusals (standing c) w) (Done, written (withVector w (standing c))) refl (omega arith))
+    settles (c, frame) (voiceRefusals c mask frame) (voiceAfter streamOf mask frame (c .counts) (standing c)) refl (taken-under-two (knows (standing c)))
+call-settles b c Lost = none-lent (settles c (lostRefusals c) (Done, written (plus (c .counts) lostWords) (slotOn (standing c))) refl (omega arith))
+call-settles b c End =
+    let s = settles {S = Call × Counts} (c, noCounts) (endRefusals (standing c)) (Done, (noCall, c .counts)) refl (omega arith) in
+    record { number = s .number; answer = s .answer; none-holds = s .none-holds; keeps = λ h. ap (λ (x : Call × Counts). (x .0, handedOut (x .1))) (s .keeps h) }
+call-settles b c (Announce w) = none-lent (settles c (announceRefusals (standing c) w) (Done, written (c .counts) (withVector w (standing c))) refl (omega arith))
 call-settles b c (NextVector out) =
     let s = settles out (nextRefusals (standing c) out) (Done, following (standing c)) refl (omega arith) in
     record { number = s .number; answer = s .answer; none-holds = s .none-holds; keeps = λ h. ap (λ (x : List ℕ). (c, x)) (s .keeps h) }

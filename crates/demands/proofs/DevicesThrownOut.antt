@@ -24,10 +24,11 @@ use Rattle.sizes.specs.Ciphers.{noVector}
 use Rattle.sizes.specs.Frame.{halfRate, fullRate, isRate, width}
 use Rattle.openings.specs.Ladder.{keyRefusals, zeroFor, zeroRefusals, vectorRefusals}
 use Rattle.openings.specs.Samples.{seed, desABCD}
+use Rattle.voice.specs.Counts.{noCounts}
 use Rattle.voice.specs.declared.call.Call.{Call}
-use Rattle.voice.specs.Call.{toldVector, byDefault, strict, termsRight, vectorRight, closedTests, openTests, isClosed, isOpen, goodCall, unknown, told, Standing, sending, receiving, standing, termsOf, noCall, written, widthIn, stands, knows}
+use Rattle.voice.specs.Call.{toldVector, byDefault, strict, termsRight, vectorRight, closedTests, openTests, isClosed, isOpen, goodCall, unknown, told, Standing, sending, receiving, standing, termsOf, noCall, written, widthIn, stands, knows, countsRight}
 use Rattle.voice.specs.Opening.{begunRefusals, joinRefusals}
-use Rattle.voice.specs.Slot.{voiceOf}
+use Rattle.voice.specs.Slot.{voiceOf, isFull}
 use Rattle.voice.specs.Vector.{announceRefusals}
 use Rattle.voice.proofs.CallLaws.{not-bad}
 use Rattle.voice.proofs.SlotSteps.{voice-at}
@@ -48,10 +49,10 @@ having b calls = record { book = b; calls = calls; packets = λ n. packet.noPack
 
 -- a DES receiver that joined, and is strict
 abbrev listening : Call
-listening = written (receiving (termsOf 2 desABCD halfRate strict) 4 unknown)
+listening = written noCounts (receiving (termsOf 2 desABCD halfRate strict) 4 unknown)
 
 listens : standing listening ≡ receiving (termsOf 2 desABCD halfRate strict) 4 unknown
-unfolding standing isClosed closedTests isOpen openTests keyRight isRate termsRight vectorRight keyAllowed desKey oddOctet allZero allBelow
+unfolding standing isClosed closedTests isOpen openTests keyRight isRate termsRight vectorRight countsRight keyAllowed desKey oddOctet allZero allBelow
 listens = refl
 
 pub noisy-thrown-out : Demand1 noisy → ⊥
@@ -60,7 +61,7 @@ noisy-thrown-out meets =
     let d = having [] (λ n. listening) in
     let o = OfCall 0 (Voice 15 (silence halfRate)) in
     let e : numberOf (step d o .0) ≡ 1 =
-    ap (λ (r : Answer × (Call × List ℕ)). numberOf (r .0)) (voice-at listening 15 (silence halfRate) (omega arith) (receiving (termsOf 2 desABCD halfRate strict) 4 unknown) refl listens refl) in
+    ap (λ (r : Answer × (Call × List ℕ)). numberOf (r .0)) (voice-at listening 15 (silence halfRate) (omega arith) (receiving (termsOf 2 desABCD halfRate strict) 4 unknown) refl listens refl refl) in
     let u : pick (eqb (numberOf (step d o .0)) 1) noise (step d o .1 .1) ≡ silence halfRate = meets .untouched d o (λ z. omega arith) in
     let q : noise ≡ silence halfRate = rw e at u in
     let r = ap (λ (xs : List ℕ). getD xs 0 0) q in
@@ -74,7 +75,7 @@ filing-thrown-out meets =
     let d = having [] (λ n. listening) in
     let o = OfCall 0 (Voice 15 (silence halfRate)) in
     let e : numberOf (step d o .0) ≡ 1 =
-    ap (λ (r : Answer × (Call × List ℕ)). numberOf (r .0)) (voice-at listening 15 (silence halfRate) (omega arith) (receiving (termsOf 2 desABCD halfRate strict) 4 unknown) refl listens refl) in
+    ap (λ (r : Answer × (Call × List ℕ)). numberOf (r .0)) (voice-at listening 15 (silence halfRate) (omega arith) (receiving (termsOf 2 desABCD halfRate strict) 4 unknown) refl listens refl refl) in
     let z : numberOf (filing d o .0) ≡ 0 = rw e in
     meets .unopened d o (slot 0 15 (silence halfRate) refl refl) z
 
@@ -154,14 +155,14 @@ module _ (isEager : Call → Bool) (meets : Demand1 (eager isEager)) (c : Call) 
 
 -- such calls there are: joined, in the middle of a session; and told, at full rate and by default
 listening-good : goodCall listening ≡ true
-unfolding goodCall isClosed closedTests isOpen openTests keyRight isRate termsRight vectorRight keyAllowed desKey oddOctet allZero allBelow
+unfolding goodCall isClosed closedTests isOpen openTests keyRight isRate termsRight vectorRight countsRight keyAllowed desKey oddOctet allZero allBelow
 listening-good = refl
 
 abbrev toldAlready : Call
-toldAlready = written (receiving (termsOf 2 desABCD fullRate byDefault) 0 (told seed))
+toldAlready = written noCounts (receiving (termsOf 2 desABCD fullRate byDefault) 0 (told seed))
 
 told-good : goodCall toldAlready ≡ true
-unfolding goodCall isClosed closedTests isOpen openTests keyRight isRate termsRight vectorRight keyAllowed desKey oddOctet allZero allBelow
+unfolding goodCall isClosed closedTests isOpen openTests keyRight isRate termsRight vectorRight countsRight keyAllowed desKey oddOctet allZero allBelow
 told-good = refl
 
 pub always-eager-thrown-out : Demand1 (eager (λ c. true)) → ⊥
@@ -212,15 +213,16 @@ abbrev joinedScramble : ℕ → ℕ → Standing
 joinedScramble r m = receiving (termsOf 1 keptScramble r m) 0 (told noVector)
 
 module _ (r m : ℕ) (low : r ≤ 1) (lows : m ≤ 1) where
-  stand : (standing (written (openedAes r m)) ≡ openedAes r m) × (standing (written (startedAes r)) ≡ startedAes r)
-      × (standing (written (joinedScramble r m)) ≡ joinedScramble r m)
-  unfolding standing isClosed closedTests isOpen openTests keyRight vectorRight keyAllowed scrambleKey allZero allBelow
-  stand = rw (ways-right r m low lows, sender-right r low) (refl, refl, refl)
+  stand : (standing (written noCounts (openedAes r m)) ≡ openedAes r m) × (standing (written noCounts (startedAes r)) ≡ startedAes r)
+      × (standing (written noCounts (joinedScramble r m)) ≡ joinedScramble r m)
+  unfolding standing isClosed closedTests isOpen openTests keyRight vectorRight countsRight keyAllowed scrambleKey allZero allBelow
+  stand = rw (ways-right r m low lows, sender-right r low, and-false-r (eqb m byDefault)) (refl, refl, refl)
 
-  turns : (s : Standing) → widthIn s ≡ width r → standing (written s) ≡ s → stands s ≡ true → knows s ≡ true → numberOf (voiceOf (written s) 15 (silence r) .0) ≡ 0
-  turns s h e o k =
+  turns : (s : Standing) → widthIn s ≡ width r → standing (written noCounts s) ≡ s → stands s ≡ true → isFull s (written noCounts s .counts) ≡ false → knows s ≡ true
+      → numberOf (voiceOf (written noCounts s) 15 (silence r) .0) ≡ 0
+  turns s h e o room k =
       ap (λ (r : Answer × (Call × List ℕ)). numberOf (r .0))
-      (voice-at (written s) 15 (silence r) (omega arith) s (rw h (silent-long r)) e o)
+      (voice-at (written noCounts s) 15 (silence r) (omega arith) s (rw h (silent-long r)) e o room)
       ∙ ap (λ (t : Bool). numberOf (pick t Done Held)) k
 
 -- half a key of cipher c is added, a call is opened all the same, and its first slot is turned
@@ -255,19 +257,19 @@ module _ (isHasty : CallOperation → Bool) where
     unfolding begunRefusals vectorRefusals keyRefusals zeroRefusals zeroFor standing isClosed closedTests allZero allBelow firstBelow entry.inRange entry.isFor
         entry.entryRight entry.usedRight entry.readyRight entry.lacks rules.entryOf rules.findEntry rules.apart rules.goodBook
     hasty-open-thrown-out e =
-        half-key-fails 3 halfAes (books .0) (books .1) (Open 3 0 r m seed) (written (openedAes r m)) (silence r) (rw (e, ways-right r m low lows))
-        (turns r m low lows (openedAes r m) refl (stand r m low lows .0) refl refl)
+        half-key-fails 3 halfAes (books .0) (books .1) (Open 3 0 r m seed) (written noCounts (openedAes r m)) (silence r) (rw (e, ways-right r m low lows))
+        (turns r m low lows (openedAes r m) refl (stand r m low lows .0) refl refl refl)
 
     pub hasty-start-thrown-out : isHasty (Start 3 0 r seed) ≡ true → Demand1 (hasty isHasty) → ⊥
     unfolding begunRefusals vectorRefusals keyRefusals zeroRefusals zeroFor standing isClosed closedTests allZero allBelow firstBelow entry.inRange entry.isFor
         entry.entryRight entry.usedRight entry.readyRight entry.lacks rules.entryOf rules.findEntry rules.apart rules.goodBook
     hasty-start-thrown-out e =
-        half-key-fails 3 halfAes (books .0) (books .1) (Start 3 0 r seed) (written (startedAes r)) (silence r) (rw (e, sender-right r low))
-        (turns r m low lows (startedAes r) refl (stand r m low lows .1) refl refl)
+        half-key-fails 3 halfAes (books .0) (books .1) (Start 3 0 r seed) (written noCounts (startedAes r)) (silence r) (rw (e, sender-right r low))
+        (turns r m low lows (startedAes r) refl (stand r m low lows .1) refl refl refl)
 
     pub hasty-join-thrown-out : isHasty (Join 1 0 r m) ≡ true → Demand1 (hasty isHasty) → ⊥
     unfolding joinRefusals keyRefusals standing isClosed closedTests allZero allBelow firstBelow entry.inRange entry.isFor entry.entryRight entry.usedRight
         entry.readyRight entry.lacks rules.entryOf rules.findEntry rules.apart rules.goodBook
     hasty-join-thrown-out e =
-        half-key-fails 1 halfScramble (books .2) (books .3) (Join 1 0 r m) (written (joinedScramble r m)) (silence r) (rw (e, ways-right r m low lows))
-        (turns r m low lows (joinedScramble r m) refl (stand r m low lows .2) refl refl)
+        half-key-fails 1 halfScramble (books .2) (books .3) (Join 1 0 r m) (written noCounts (joinedScramble r m)) (silence r) (rw (e, ways-right r m low lows))
+        (turns r m low lows (joinedScramble r m) refl (stand r m low lows .2) refl refl refl)

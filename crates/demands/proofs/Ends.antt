@@ -9,7 +9,7 @@ use Rattle.answers.specs.declared.Answer.the-variants.{WrongLength}
 use Rattle.ciphers.specs.Keystream.{feedback, stream}
 use Rattle.sizes.proofs.SizeLaws.{same-rate}
 use Rattle.voice.specs.declared.call.Call.{Call}
-use Rattle.voice.specs.Call.{closedEnd, goodCall}
+use Rattle.voice.specs.Call.{closedEnd, goodCall, receivingEnd}
 use Rattle.voice.specs.Slot.{voiceOf}
 use Rattle.voice.proofs.CallLaws.{rated}
 use Rattle.voice.proofs.SlotSteps.{session-over, session-lost}
@@ -17,6 +17,7 @@ use Rattle.voice.proofs.Exactly.{other-length}
 use Rattle.demands.specs.Rates.{Layout, layout}
 use Rattle.demands.specs.Talk.{Slot, SlotKept}
 use Rattle.demands.specs.Demand2.{VoiceBits}
+use Rattle.demands.specs.Demand1.{BelowLimit}
 use Rattle.demands.specs.SessionEnds.{LastWord, TurnedBy, SessionEnds}
 use Rattle.demands.proofs.Layouts.{layout-is, rate-is}
 use Rattle.demands.proofs.Meets2.{ours-meets-2}
@@ -51,8 +52,8 @@ session-ends =
 -- ---- at the other rate
 
 -- a slot of a sender at another rate is 2, and all stays as it was
-pub other-rate : (call : Call) → goodCall call ≡ true → (call .end ≡ closedEnd → ⊥) → (r : ℕ) → r ≤ 1 → (call .terms .rate ≡ r → ⊥)
+pub other-rate : (call : Call) → goodCall call ≡ true → (call .end ≡ closedEnd → ⊥) → (call .end ≡ receivingEnd → BelowLimit call) → (r : ℕ) → r ≤ 1 → (call .terms .rate ≡ r → ⊥)
     → (ks : ℕ → ℕ) (p : ℕ) (x : Slot) → SlotKept (layout r) ks p x → voiceOf call (x .mask) (x .sent) ≡ (WrongLength, (call, x .sent))
-other-rate call good o r l n ks p x s =
-    other-length call (x .mask) (x .sent) (s .mask) good o
+other-rate call good o below r l n ks p x s =
+    other-length call (x .mask) (x .sent) (s .mask) good o below
     (λ e. n (same-rate (call .terms .rate) (rated call good o) r (rate-is r l) (sym e ∙ s .sent .long ∙ ap (λ (y : Layout). y .frame) (layout-is r))))

@@ -26,6 +26,7 @@ use Rattle.voice.proofs.FrameLaws.{protect-frame, word-stays}
 use Rattle.demands.specs.Marked.{key0001}
 use Rattle.demands.specs.Rates.{Layout, half, full, layout, FrameAt, wordAt}
 use Rattle.demands.specs.Talk.{Slot, Session, Talk, WayIn, opening, joining, OnAir, SlotKept, SessionKept, Kept, HasKey}
+use Rattle.demands.specs.Arrivals.{allSlots}
 use Rattle.demands.specs.Notices.{noticesOf}
 use Rattle.demands.specs.Log.{talkLog}
 use Rattle.demands.specs.Demand3.{Right, ours}
@@ -37,6 +38,7 @@ use Rattle.demands.proofs.Layouts.{layoutBy, layout-is, by-layout}
 use Rattle.demands.proofs.AirLaws.{is-frame, frame-at, word-bits, protected-air}
 use Rattle.demands.proofs.Standing.{eight-slots}
 use Rattle.demands.proofs.ReceiverMeets.{linked-heard, ours-meets-3, handset-meets-3, handset-meets-3-announced}
+use Rattle.demands.proofs.ToldSlots.{within-limit}
 use Rattle.demands.proofs.Settled.{answers, due, strict-settled, default-settled}
 use Rattle.demands.proofs.SenderKeeps.{ours-keeps, ours-generated}
 use Rattle.demands.proofs.Samples.{silence, silence-frame, loud, loud-frame, saying, repeating, saying-kept, repeating-kept, seed-vector, seed-starts}
@@ -86,13 +88,13 @@ pub record Heard (t : Talk) : Type 0 where
   -- and however it comes in, each word that it hands out is the one that was spoken
   pub right : (e : WayIn) → Each Right (talkLog ours bookOfThree 0 t e)
 
-module _ (t : Talk) (k : Kept t) (h : HasKey bookOfThree (t .cipher) 0 (t .key)) where
+module _ (t : Talk) (k : Kept t) (few : length (allSlots (t .sessions)) ≤ 1000000) (h : HasKey bookOfThree (t .cipher) 0 (t .key)) where
   settled : (e : WayIn) → answers (talkLog ours bookOfThree 0 t e) ≡ map due (noticesOf t e)
-  settled e = strict-settled ours bookOfThree 0 t e (ours-meets-3 t k bookOfThree 0 h e)
+  settled e = strict-settled ours bookOfThree 0 t e (ours-meets-3 t k bookOfThree 0 h e (within-limit t few e))
 
   heard : map due (noticesOf t opening) ≡ whenOpened → map due (noticesOf t (joining 0)) ≡ whenJoined → map due (noticesOf t (joining 1)) ≡ whenLater → Heard t
   heard o j l =
-      record { kept = k; opened = settled opening ∙ o; joined = settled (joining 0) ∙ j; joined-later = settled (joining 1) ∙ l; right = ours-meets-3 t k bookOfThree 0 h }
+      record { kept = k; opened = settled opening ∙ o; joined = settled (joining 0) ∙ j; joined-later = settled (joining 1) ∙ l; right = λ e. ours-meets-3 t k bookOfThree 0 h e (within-limit t few e) }
 
 -- a call of our sender
 abbrev pub mixed : ℕ → ℕ → List ℕ → Talk
@@ -124,7 +126,7 @@ module _ (c : ℕ) (g : (1 ≤ c) × (c ≤ 3)) (n : scrambles c ≡ false) (r :
       (record { each = (said others, (said others, (said (true ∷ []), tt))); full = (eight, (eight, omega (arith, eight))) })
 
   mixed-heard : Heard (mixed c r frame)
-  mixed-heard = heard (mixed c r frame) mixed-kept (has-key c g) (rw n) (rw n) (rw n)
+  mixed-heard = heard (mixed c r frame) mixed-kept (omega arith) (has-key c g) (rw n) (rw n) (rw n)
 
   session-kept : (v : List ℕ) → length v ≡ 8 → (announced : Bool) (arriving : List Bool) → SessionKept (layout r) c (keyOf c) (sessionOf c r frame v announced arriving)
   session-kept v k announced arriving = record { vector = k; slots = repeating-kept r frame f (stream c (keyOf c) v) 0 arriving }
@@ -140,7 +142,7 @@ module _ (c : ℕ) (g : (1 ≤ c) × (c ≤ 3)) (n : scrambles c ≡ false) (r :
 
   -- and its vectors are the generator's: zeros are their own next
   zeros-heard : Heard (zeros c r frame true) × Follows c noVector (zeros c r frame true .sessions)
-  zeros-heard = (heard (zeros c r frame true) (zeros-kept true) (has-key c g) (rw n) (rw n) (rw n), rw (n, zeros-next, zeros-next) (refl, (refl, (refl, tt))))
+  zeros-heard = (heard (zeros c r frame true) (zeros-kept true) (omega arith) (has-key c g) (rw n) (rw n) (rw n), rw (n, zeros-next, zeros-next) (refl, (refl, (refl, tt))))
 
 -- ---- DES and AES in the default way
 
@@ -205,14 +207,14 @@ pub record Ridden (P : Session → Session → Type 0) (t : Talk) (e : WayIn) (n
   pub right : Each Right (defaultLog handset bookOfThree 0 t e)
 
 module _ (c : ℕ) (g : (1 ≤ c) × (c ≤ 3)) (n : scrambles c ≡ false) (r : ℕ) (l : r ≤ 1) (frame : List ℕ) (f : FrameAt (layout r) frame) where
-  rode : (P : Session → Session → Type 0) (t : Talk) → MeetsTalkDefault P handset t → t .cipher ≡ c → t .key ≡ keyOf c → Kept t → (e : WayIn) → Successive P (heardFrom e (t .sessions))
+  rode : (P : Session → Session → Type 0) (t : Talk) → MeetsTalkDefault P handset t → t .cipher ≡ c → t .key ≡ keyOf c → Kept t → (e : WayIn) → Successive P (heardFrom e (t .sessions)) → length (allSlots (t .sessions)) ≤ 1000000
       → (numbers : List ℕ) → map due (defaultNotices t e) ≡ numbers → Ridden P t e numbers
-  rode P t m q o k e s numbers d =
-      let h = m k e (λ z. s) bookOfThree 0 (rw (q, o) (has-key c g)) in
+  rode P t m q o k e s few numbers d =
+      let h = m k e (λ z. s) (within-limit t few e) bookOfThree 0 (rw (q, o) (has-key c g)) in
       record { kept = k; vectors = s; answered = default-settled handset bookOfThree 0 t e h ∙ d; right = h }
 
   -- of our sender
-  made : (said : List Saying) → AllSaid c r said → (e : WayIn) (numbers : List ℕ)
+  made : (said : List Saying) → AllSaid c r said → (e : WayIn) → length (allSlots (talkMade c (keyOf c) 0 r seed bookOfThree said .sessions)) ≤ 1000000 → (numbers : List ℕ)
       → map due (defaultNotices (talkMade c (keyOf c) 0 r seed bookOfThree said) e) ≡ numbers → Ridden Generated (talkMade c (keyOf c) 0 r seed bookOfThree said) e numbers
   made said a e =
       let t = talkMade c (keyOf c) 0 r seed bookOfThree said in
@@ -230,19 +232,19 @@ module _ (c : ℕ) (g : (1 ≤ c) × (c ≤ 3)) (n : scrambles c ≡ false) (r :
   faded-ridden =
       let e = eight c g n r l frame f in
       made (fading frame)
-      (record { each = (wholly-kept, (wholly-kept, (begun-kept, tt))); full = (e, (e, omega (arith, e))) }) opening (replicate 18 0) (rw n)
+      (record { each = (wholly-kept, (wholly-kept, (begun-kept, tt))); full = (e, (e, omega (arith, e))) }) opening (omega arith) (replicate 18 0) (rw n)
 
   later-ridden : Ridden Generated (later c r frame) (joining 0) untilAnnounced
   later-ridden =
       let e = eight c g n r l frame f in
       made (lateOnes frame)
-      (record { each = (wholly-kept, (wholly-kept, (wholly-kept, (wholly-kept, (begun-kept, tt))))); full = (e, (e, (e, (e, omega (arith, e))))) }) (joining 0) untilAnnounced (rw n)
+      (record { each = (wholly-kept, (wholly-kept, (wholly-kept, (wholly-kept, (begun-kept, tt))))); full = (e, (e, (e, (e, omega (arith, e))))) }) (joining 0) (omega arith) untilAnnounced (rw n)
 
   -- carried zeros are not unknown
   zeros-ridden : Ridden Generated (zeros c r frame false) opening (replicate 18 0)
   zeros-ridden =
       let t = zeros c r frame false in
-      rode Generated t (handset-meets-3 t) refl refl (zeros-kept c g n r l frame f false) opening (sym zeros-next, (sym zeros-next, tt)) (replicate 18 0) (rw n)
+      rode Generated t (handset-meets-3 t) refl refl (zeros-kept c g n r l frame f false) opening (sym zeros-next, (sym zeros-next, tt)) (omega arith) (replicate 18 0) (rw n)
 
   -- the announced vector wins, and is ridden on from
   jumped-kept : Kept (jumped c r frame)
@@ -259,7 +261,7 @@ module _ (c : ℕ) (g : (1 ≤ c) × (c ≤ 3)) (n : scrambles c ≡ false) (r :
   jumped-ridden : Ridden GeneratedOrAnnounced (jumped c r frame) opening (replicate 19 0)
   jumped-ridden =
       let t = jumped c r frame in
-      rode GeneratedOrAnnounced t (handset-meets-3-announced t) refl refl jumped-kept opening (inl refl, (inr (sym zeros-next), tt)) (replicate 19 0) (rw n)
+      rode GeneratedOrAnnounced t (handset-meets-3-announced t) refl refl jumped-kept opening (inl refl, (inr (sym zeros-next), tt)) (omega arith) (replicate 19 0) (rw n)
 
   -- a late entry into its second session: what was before doesn't count
   reseeded-kept : Kept (reseeded c r frame)
@@ -276,7 +278,7 @@ module _ (c : ℕ) (g : (1 ≤ c) × (c ≤ 3)) (n : scrambles c ≡ false) (r :
   reseeded-ridden : Ridden Generated (reseeded c r frame) (joining 1) afterEntry
   reseeded-ridden =
       let t = reseeded c r frame in
-      rode Generated t (handset-meets-3 t) refl refl reseeded-kept (joining 1) (sym zeros-next, (sym zeros-next, tt)) afterEntry (rw n)
+      rode Generated t (handset-meets-3 t) refl refl reseeded-kept (joining 1) (sym zeros-next, (sym zeros-next, tt)) (omega arith) afterEntry (rw n)
 
 -- ---- at either rate, whatever one frame is said in every slot
 
@@ -431,7 +433,7 @@ module _ (r : ℕ) (l : r ≤ 1) where
       }
 
   replacing-settled : (e : WayIn) → answers (talkLog ours bookOfThree 0 (replacing r) e) ≡ map due (noticesOf (replacing r) e)
-  replacing-settled e = strict-settled ours bookOfThree 0 (replacing r) e (ours-meets-3 (replacing r) replacing-kept bookOfThree 0 (has-key 1 (omega arith, omega arith)) e)
+  replacing-settled e = strict-settled ours bookOfThree 0 (replacing r) e (ours-meets-3 (replacing r) replacing-kept bookOfThree 0 (has-key 1 (omega arith, omega arith)) e (within-limit (replacing r) (omega arith) e))
 
   -- by the opening, and joining in the first session: all 0
   pub replacing-opened : answers (talkLog ours bookOfThree 0 (replacing r) opening) ≡ 0 ∷ (0 ∷ 0 ∷ 0 ∷ 0 ∷ (0 ∷ 0 ∷ []))

@@ -4,10 +4,12 @@ use mathlib.Core.Path.{_≡_, refl, sym, ap, _∙_}
 use mathlib.Core.List.{List, [], _∷_, _++_}
 use Prim.Native.Nat.{ℕ, _≤_}
 use native.Mathlib.Omega.{arith}
+use lib.Dec.{eqb}
 use lib.ListN.{replicate}
 use Rattle.octets.specs.Tests.{allBelow, firstBelow}
 use Rattle.octets.specs.Lists.{replaced, allZero}
 use Rattle.ciphers.specs.Keys.{oddOctet, desKey, keyAllowed, keyRight}
+use Rattle.octets.proofs.TestLaws.{and-false-r}
 use Rattle.answers.specs.declared.Answer.{Answer}
 use Rattle.answers.specs.declared.Answer.the-variants.{Done}
 use Rattle.answers.specs.Numbers.{numberOf}
@@ -17,8 +19,9 @@ use Rattle.keybook.specs.Book as rules
 use Rattle.keybook.specs.Operations as operations
 use Rattle.keybook.specs.History as book
 use Rattle.openings.specs.Ladder.{keyRefusals, zeroFor, zeroRefusals, vectorRefusals}
+use Rattle.voice.specs.Counts.{noCounts}
 use Rattle.voice.specs.declared.call.Call.{Call}
-use Rattle.voice.specs.Call.{vectorRight, closedTests, openTests, isClosed, isOpen, told, Standing, receiving, standing, termsOf, noCall, written}
+use Rattle.voice.specs.Call.{vectorRight, closedTests, openTests, isClosed, isOpen, told, Standing, receiving, standing, termsOf, noCall, written, countsRight, byDefault}
 use Rattle.voice.specs.Opening.{begunRefusals, openOf}
 use Rattle.voice.specs.Slot.{voiceOf}
 use Rattle.voice.proofs.SlotSteps.{voice-at}
@@ -46,7 +49,7 @@ first = 0xAB ∷ 0xCD ∷ 0xEF ∷ 0x01 ∷ []
 abbrev last : List ℕ
 last = 0x23 ∷ 0x45 ∷ 0x67 ∷ 0x89 ∷ []
 
-abbrev ready : List ℕ
+abbrev pub ready : List ℕ
 ready = 2 ∷ 0 ∷ 8 ∷ 1 ∷ (keyABCD ++ replicate 564 0)
 
 books : (book.step (book.Begin 2 0) (replicate 576 0) ≡ (Done, holding 2 []))
@@ -60,7 +63,7 @@ unfolding book.step operations.beginOf operations.addOf operations.finishOf oper
 books = (refl, refl, refl, refl)
 
 -- a device with this book, no call and no packet
-abbrev withBook : List ℕ → Device
+abbrev pub withBook : List ℕ → Device
 withBook b = record { book = b; calls = λ n. noCall; packets = λ n. packet.noPacket }
 
 loads : (os : List Operation) (o : book.Operation) {b c : List ℕ} → deviceAfter step os ≡ withBook b → book.step o b ≡ (Done, c)
@@ -76,7 +79,7 @@ none-yet : deviceAfter step [] ≡ withBook (replicate 576 0)
 unfolding deviceAfter
 none-yet = refl
 
-is-loaded : deviceAfter step loading ≡ withBook ready
+pub is-loaded : deviceAfter step loading ≡ withBook ready
 is-loaded =
     loads (OfBook (book.Add 2 0 last) ∷ OfBook (book.Add 2 0 first) ∷ OfBook (book.Begin 2 0) ∷ []) (book.Finish 2 0)
     (loads (OfBook (book.Add 2 0 first) ∷ OfBook (book.Begin 2 0) ∷ []) (book.Add 2 0 last)
@@ -86,22 +89,22 @@ is-loaded =
 -- ---- it opens a call, at either rate and of either strictness
 
 module _ (r m : ℕ) (low : r ≤ 1) (lows : m ≤ 1) where
-  abbrev heard : Standing
+  abbrev pub heard : Standing
   heard = receiving (termsOf 2 desABCD r m) 0 (told seed)
 
-  opens : openOf noCall 2 0 r m seed ready ≡ (Done, written heard)
+  pub opens : openOf noCall 2 0 r m seed ready ≡ (Done, written noCounts heard)
   unfolding openOf begunRefusals vectorRefusals keyRefusals zeroRefusals standing isClosed closedTests allZero allBelow firstBelow entry.inRange entry.isFor
       entry.entryRight entry.usedRight entry.readyRight entry.lacks rules.entryOf rules.findEntry rules.apart rules.goodBook keyAllowed desKey oddOctet
   opens = rw (ways-right r m low lows)
 
-  heard-stands : standing (written heard) ≡ heard
-  unfolding standing isClosed closedTests isOpen openTests keyRight vectorRight keyAllowed desKey oddOctet allZero allBelow
-  heard-stands = rw (ways-right r m low lows)
+  heard-stands : standing (written noCounts heard) ≡ heard
+  unfolding standing isClosed closedTests isOpen openTests keyRight vectorRight countsRight keyAllowed desKey oddOctet allZero allBelow
+  heard-stands = rw (ways-right r m low lows, and-false-r (eqb m byDefault))
 
   abbrev pub opening-call : List Operation
   opening-call = OfCall 0 (Open 2 0 r m seed) ∷ loading
 
-  is-open : deviceAfter step opening-call .calls 0 ≡ written heard
+  pub is-open : deviceAfter step opening-call .calls 0 ≡ written noCounts heard
   unfolding deviceAfter step callStep
   is-open = ap (λ (d : Device). step d (OfCall 0 (Open 2 0 r m seed)) .1 .0 .calls 0) is-loaded ∙ ap (λ (r : Answer × Call). r .1) opens
 
@@ -110,7 +113,7 @@ module _ (r m : ℕ) (low : r ≤ 1) (lows : m ≤ 1) where
   unfolding step callStep
   word-done =
       ap (λ (c : Call). numberOf (voiceOf c 15 (silence r) .0)) is-open
-      ∙ ap (λ (r : Answer × (Call × List ℕ)). numberOf (r .0)) (voice-at (written heard) 15 (silence r) (omega arith) heard (silent-long r) heard-stands refl)
+      ∙ ap (λ (r : Answer × (Call × List ℕ)). numberOf (r .0)) (voice-at (written noCounts heard) 15 (silence r) (omega arith) heard (silent-long r) heard-stands refl refl)
 
   pub word-turned : WordsTurned (history step opening-call) 0 (deviceAfter step opening-call .calls 0) 15 (silence r) (step (deviceAfter step opening-call) (OfCall 0 (Voice 15 (silence r))) .1 .1)
   word-turned = ours-meets-1 .words opening-call 0 15 (silence r) word-done

@@ -5,6 +5,7 @@ pub mod Layouts
 pub mod AirLaws
 pub mod Standing
 pub mod Marking
+pub mod ToldSlots
 pub mod ReceiverMeets
 pub mod LogComplete
 pub mod ScrambleAlike
@@ -27,10 +28,12 @@ pub mod TimeLaws
 pub mod RefusedLaws
 pub mod LoadedLaws
 pub mod CallsLoaded
+pub mod Counting
 pub mod PacketOpens
 pub mod PacketsLoaded
 pub mod Meets1
 pub mod ThrownOut1
 pub mod DevicesThrownOut
 pub mod Instance1
+pub mod CountsThrownOut
 pub mod ThrownOut2

@@ -4,8 +4,7 @@ use mathlib.Core.List.{List, [], _∷_, _++_}
 use mathlib.Core.Bool.{Bool, true, false, _&&_, not}
 use Prim.Native.Nat.{ℕ}
 use lib.ListN.{drop}
-use Rattle.sizes.specs.Ciphers.{scrambles}
-use Rattle.voice.specs.Opening.{superframeSlots}
+use Rattle.sizes.specs.Ciphers.{scrambles, superframeSlots}
 use Rattle.octets.specs.Tests.{pick}
 use Rattle.demands.specs.Talk.{Slot, Session, Talk, WayIn, opening, joining}
 use Rattle.demands.specs.Arrivals.{Shown, shownIn, arriving, allSlots, slotsFrom, slotsAfter}

@@ -13,7 +13,7 @@ use Rattle.keybook.specs.Book.{entryOf, apart, goodBook, findEntry, bookRefusal
 use Rattle.keybook.specs.Operations.{finishRefusals, finishOf}
 use Rattle.voice.specs.Slot.{slotOn}
 use Rattle.demands.specs.Marked.{Marked, finishNumber}
-use Rattle.demands.proofs.MarkedVoice.{openings, example-2, held-on, to-next, after-four, after-three}
+use Rattle.demands.proofs.MarkedVoice.{openings, example-2, from-join, held-on, to-next, after-four, after-three}
 use Rattle.demands.proofs.MarkedData.{example-3, example-10}
 
 pub marked : Marked
@@ -33,9 +33,8 @@ marked =
       example-11 = λ n low. (
         openings n low .3,
         λ mask frame m l.
-            (held-on n low 4 (omega arith) mask frame m l, held-on n low 5 (omega arith) mask frame m l, held-on n low 6 (omega arith) mask frame m l, to-next n low mask frame m l),
-        after-four n low,
-        after-three n low,
+            (from-join n low mask frame m l, held-on n low 5 (omega arith) mask 1 (omega arith) refl frame m l, held-on n low 6 (omega arith) mask 2 (omega arith) refl frame m l, to-next n low mask frame m l),
+        λ mask w l. (after-four n low mask w l, after-three n low mask w l),
       );
       example-12 = λ n low. (openings n low .0, openings n low .1, openings n low .2);
     }

@@ -4,7 +4,7 @@ use mathlib.Core.Path.{_≡_, refl, sym, ap, _∙_}
 use mathlib.Core.Bool.{Bool, true, false, _&&_, _||_, not, or-true, or-false, true≢false}
 use mathlib.Core.Logic.{_⊎_, inl, inr}
 use mathlib.Core.List.{List, [], _∷_, _++_}
-use Prim.Native.Nat.{ℕ, zero, suc, _+_, _≤_, _<_}
+use Prim.Native.Nat.{ℕ, zero, suc, _+_, _≤_, _<_, _*_}
 use native.Mathlib.Nat.{add-zero, zero-add}
 use native.Mathlib.Numerals.{add-one}
 use native.Mathlib.Omega.{arith}
@@ -16,26 +16,29 @@ use Rattle.octets.specs.Lists.{Each}
 use Rattle.answers.specs.declared.Answer.the-variants.{Done, Held}
 use Rattle.answers.specs.Numbers.{numberOf}
 use Rattle.generator.specs.Generator.{nextVector}
-use Rattle.sizes.specs.Frame.{width}
-use Rattle.sizes.specs.Ciphers.{keyOctets, sessionSlots, vectorOctets, noVector, scrambles}
+use Rattle.sizes.specs.Frame.{width, mostWords}
+use Rattle.sizes.specs.Ciphers.{keyOctets, sessionSlots, vectorOctets, noVector, scrambles, superframeSlots}
 use Rattle.ciphers.specs.Keystream.{stream}
 use Rattle.openings.specs.Ladder.{sessionVector, keyFor}
 use Rattle.voice.specs.declared.call.Terms.{Terms}
+use Rattle.voice.specs.Counts.{plus, total, lostWords, arrivedWords}
+use Rattle.voice.specs.declared.counts.Counts.{Counts}
+use Rattle.voice.proofs.CountLaws.{Fits, lost-fits, arrived-fits}
 use Rattle.voice.specs.declared.call.Call.{Call}
 use Rattle.voice.specs.Frame.{inMask}
 use Rattle.voice.specs.Call.{receivingEnd, byDefault, strict, termsRight, Known, unknown, told, carried, isKnown, isTold, knownVector, untold, Standing, receiving, standing, termsOf, noCall, written}
-use Rattle.voice.specs.Opening.{superframeSlots}
 use Rattle.voice.specs.Slot.{ridden, streamOf, inSlot, voiceOf}
 use Rattle.demands.specs.Rates.{Layout, wordAt}
 use Rattle.demands.specs.Talk.{Slot, Session, Talk, WayIn, opening, joining, SlotKept, SlotsKept, SessionKept, Full, slotCounts, Kept, HasKey}
-use Rattle.demands.specs.Notices.{Notice, hear, join, isReached, slotNotice, slotNotices, startNotices, openingNotices}
+use Rattle.demands.specs.Notices.{Notice, hear, join, isReached, slotNotice, slotNotices, startNotices, firstNotices, openingNotices, slotsTold, WithinLimit}
 use Rattle.demands.specs.Log.{Receiver, Report, Event, event, events, talkLog}
 use Rattle.demands.specs.Demand3.{RightSlot, Right, Meets3, oursIn, ours}
 use Rattle.demands.specs.Demand3Default.{sinceKnown, defaultLog, heardFrom, Successive, Generated, GeneratedOrAnnounced, Meets3Default, Meets3Announced, handset}
 use Rattle.demands.proofs.Layouts.{layoutBy, layout-is, ways-right}
 use Rattle.demands.proofs.AirLaws.{opened-word}
 use Rattle.demands.proofs.Marking.{knownNext, sessionsBy, firstBy, strict-first, default-first}
-use Rattle.demands.proofs.Standing.{key-ranged, slots-some, fresh, place, place-end, place-lost, place-voice, place-on, same-slot, place-opened, opened-stands, place-joined, joined-stands, place-announced, announced-stands, place-untold}
+use Rattle.demands.proofs.ToldSlots.{told-slot, since-told}
+use Rattle.demands.proofs.Standing.{key-ranged, slots-some, fresh, place, place-end, place-lost, place-voice, place-on, same-slot, place-opened, opened-stands, place-joined, joined-stands, place-announced, announced-stands, place-untold, place-counts}
 
 each-drop : {A : Type 0} (P : A → Type 0) (n : ℕ) (xs : List A) → Each P xs → Each P (drop n xs)
 each-drop P zero xs h = h
@@ -77,9 +80,13 @@ module _ (b : List ℕ) (c i : ℕ) (key : List ℕ) (h : HasKey b c i key) (lon
   abbrev log : Call → List Notice → List Event
   log = events (oursIn m) b c i rt
 
+  -- below the slot limit to the end of what it is told
+  abbrev Room : Call → List Notice → Type 0
+  Room d ns = total (d .counts) + 4 * slotsTold ns ≤ 4000000
+
   -- from wherever it stands so, what it is told is answered right
   abbrev RightFrom : Standing → List Notice → Type 0
-  RightFrom s ns = (d : Call) → standing d ≡ s → Each Right (log d ns)
+  RightFrom s ns = (d : Call) → standing d ≡ s → Room d ns → Each Right (log d ns)
 
   -- ---- the slots of a session
 
@@ -88,42 +95,54 @@ module _ (b : List ℕ) (c i : ℕ) (key : List ℕ) (h : HasKey b c i key) (lon
     pub known : isKnown k ≡ reached
     pub vector : reached ≡ true → knownVector k ≡ sessionVector c v
 
-  -- a slot is answered right, and it stands at the next one
-  abbrev Steps : Known → ℕ → Event × Call → Type 0
-  Steps k p out = Right (out .0) × (standing (out .1) ≡ place t k (p + 1))
+  -- a slot is answered right, and it stands at the next one, with four words more
+  abbrev Steps : Known → ℕ → Call → Event × Call → Type 0
+  Steps k p d out = Right (out .0) × (standing (out .1) ≡ place t k (p + 1)) × (total (out .1 .counts) ≡ total (d .counts) + 4)
+
+  four-more : (k : Known) (p : ℕ) (d : Call) (w : Counts) {u : Bool} → Fits u w → total (written (plus (d .counts) w) (place t k (p + 1)) .counts) ≡ total (d .counts) + 4
+  four-more k p d w f = ap total (place-counts t k (plus (d .counts) w) (p + 1)) ∙ omega (arith, f .four)
 
   -- a slot that arrives
   slot-heard : (reached : Bool) (v : List ℕ) (k : Known) → Knowing reached v k → (p : ℕ) → p < sessionSlots c → (x : Slot) → SlotKept its (stream c key v) p x
-      → (d : Call) → standing d ≡ place t k p
-      → voiceOf d (x .mask) (x .sent) ≡ (pick reached Done Held, (written (place t k (p + 1)), pick reached (inSlot streamOf (x .mask) (x .sent) (written (receiving t p k))) (x .sent)))
-  slot-heard reached v k n p l x s d e =
-      place-voice t k p l d e (x .mask) (x .sent) (s .mask) (s .sent .long)
-      ∙ ap (λ (r : Bool). (pick r Done Held, (written (place t k (p + 1)), pick r (inSlot streamOf (x .mask) (x .sent) (written (receiving t p k))) (x .sent)))) (n .known)
+      → (d : Call) → standing d ≡ place t k p → total (d .counts) < mostWords
+      → voiceOf d (x .mask) (x .sent)
+      ≡ (pick reached Done Held, (written (plus (d .counts) (arrivedWords (x .mask) (isKnown k))) (place t k (p + 1)), pick reached (inSlot streamOf (x .mask) (x .sent) (written (d .counts) (receiving t p k))) (x .sent)))
+  slot-heard reached v k n p l x s d e room =
+      place-voice t k p l d e room (x .mask) (x .sent) (s .mask) (s .sent .long)
+      ∙ ap
+      (λ (r : Bool).
+      (pick r Done Held, (written (plus (d .counts) (arrivedWords (x .mask) (isKnown k))) (place t k (p + 1)), pick r (inSlot streamOf (x .mask) (x .sent) (written (d .counts) (receiving t p k))) (x .sent))))
+      (n .known)
 
   slot-steps : (reached : Bool) (v : List ℕ) (k : Known) → Knowing reached v k → (p : ℕ) → p < sessionSlots c → (x : Slot) → SlotKept its (stream c key v) p x
-      → (d : Call) → standing d ≡ place t k p → (arrived : Bool) → Steps k p (event (oursIn m) b c i rt (slotNotice reached arrived x) d)
-  slot-steps true v k n p l x s d e true =
-      rw (slot-heard true v k n p l x s d e, same-slot b c i key h rt m right long k v (n .vector refl) p (x .mask) (x .sent))
-      (right-handed _ refl refl (opened-word (width rt) (stream c key v) p x s), place-on t k p l d e)
-  slot-steps false v k n p l x s d e true =
-      rw (slot-heard false v k n p l x s d e) (right-held _ refl refl refl, place-on t k p l d e)
-  slot-steps reached v k n p l x s d e false = rw (place-lost t k p l d e) (refl, place-on t k p l d e)
+      → (d : Call) → standing d ≡ place t k p → total (d .counts) < mostWords → (arrived : Bool) → Steps k p d (event (oursIn m) b c i rt (slotNotice reached arrived x) d)
+  slot-steps true v k n p l x s d e room true =
+      let w = arrived-fits (x .mask) (isKnown k) in
+      rw (slot-heard true v k n p l x s d e room, same-slot b c i key h rt m right long (d .counts) k v (n .vector refl) p (x .mask) (x .sent))
+      (right-handed _ refl refl (opened-word (width rt) (stream c key v) p x s), place-on t k p l d e room _ w, four-more k p d _ w)
+  slot-steps false v k n p l x s d e room true =
+      let w = arrived-fits (x .mask) (isKnown k) in
+      rw (slot-heard false v k n p l x s d e room) (right-held _ refl refl refl, place-on t k p l d e room _ w, four-more k p d _ w)
+  slot-steps reached v k n p l x s d e room false =
+      let w = lost-fits (isKnown k) in
+      rw (place-lost t k p l d e room) (refl, place-on t k p l d e room lostWords w, four-more k p d lostWords w)
 
   module _ (reached : Bool) (v : List ℕ) (k : Known) (n : Knowing reached v k) where
     -- the slots from slot p on, and then whatever is right after them
     slots-right : (p : ℕ) (xs : List Slot) → p + length xs ≤ sessionSlots c → SlotsKept its (stream c key v) p xs
         → (ns : List Notice) → RightFrom (place t k (p + length xs)) ns → RightFrom (place t k p) (slotNotices reached xs ++ ns)
-    slots-right p [] l s ns r d e = r d (e ∙ ap (place t k) (sym (add-zero p)))
-    slots-right p (x ∷ xs) l s ns r d e =
-        let o = slot-steps reached v k n p (omega arith) x (s .0) d e (x .arrived) in
+    slots-right p [] l s ns r d e room = r d (e ∙ ap (place t k) (sym (add-zero p))) room
+    slots-right p (x ∷ xs) l s ns r d e room =
+        let one = told-slot reached (x .arrived) x (slotNotices reached xs ++ ns) in
+        let o = slot-steps reached v k n p (omega arith) x (s .0) d e (omega (arith, one)) (x .arrived) in
         let q : p + suc (length xs) ≡ suc p + length xs = omega arith in
-        (o .0, slots-right (suc p) xs (omega arith) (s .1) ns (rw q at r) _ (rw add-one at (o .1)))
+        (o .0, slots-right (suc p) xs (omega arith) (s .1) ns (rw q at r) _ (rw add-one at (o .1)) (omega (arith, one, o .2)))
 
     -- the rest of a session, whole or the call's last, and those after it
     part-right : (p : ℕ) (xs : List Slot) → p + length xs ≤ sessionSlots c → SlotsKept its (stream c key v) p xs
         → (now : Bool) (ys : List Session) → ((ys ≡ []) ⊎ (p + length xs ≡ sessionSlots c)) → RightFrom (fresh t k) (sessionsBy m c now ys)
         → RightFrom (place t k p) (slotNotices reached xs ++ sessionsBy m c now ys)
-    part-right p xs l s now ys (inl e) r = rw e (slots-right p xs l s [] (λ d q. tt))
+    part-right p xs l s now ys (inl e) r = rw e (slots-right p xs l s [] (λ d q w. tt))
     part-right p xs l s now ys (inr e) r =
         slots-right p xs l s (sessionsBy m c now ys) (λ d q. r d (q ∙ place-end t k (p + length xs) e))
 
@@ -192,24 +211,24 @@ module _ (b : List ℕ) (c i : ℕ) (key : List ℕ) (h : HasKey b c i key) (lon
       → RightFrom (receiving t 0 k) (startNotices (not (scrambles c) && x .announced) (x .vector) ++ ns)
   start-right known k x r l ns next d q = go (scrambles c) (x .announced) refl refl
     where
-      go : (u a : Bool) → scrambles c ≡ u → x .announced ≡ a → Each Right (log d (startNotices (not u && a) (x .vector) ++ ns))
-      go true a e f =
+      go : (u a : Bool) → scrambles c ≡ u → x .announced ≡ a → Room d (startNotices (not u && a) (x .vector) ++ ns) → Each Right (log d (startNotices (not u && a) (x .vector) ++ ns))
+      go true a e f room =
           next k
           (record { known = r .knows ∙ sym (some-known known k x r e (x .announced)); vector = λ z. r .vector (rw e) (sym (r .knows) ∙ told-known k (r .untold ∙ e)) }) d
-          (place-untold b c i key h rt m right d k q)
-      go false true e f =
+          (place-untold b c i key h rt m right d k q) room
+      go false true e f room =
           rw (place-announced b c i key h rt m right d k q (x .vector) l e (r .untold ∙ e)) (
             refl,
             next (told (x .vector))
                 (record { known = sym (or-true known) ∙ ap (λ (a : Bool). known || a) (sym f); vector = λ z. sym (ap (λ (u : Bool). pick u noVector (x .vector)) e) }) _
-                (announced-stands b c i key h rt m right d k q (x .vector) l e (r .untold ∙ e)),
+                (announced-stands b c i key h rt m right d k q (x .vector) l e (r .untold ∙ e)) room,
           )
-      go false false e f =
+      go false false e f room =
           next k
           (record {
             known = r .knows ∙ sym (or-false known) ∙ ap (λ (a : Bool). known || a) (sym f);
             vector = λ z. r .vector (rw (e, f)) (sym (or-false known) ∙ ap (λ (a : Bool). known || a) (sym f) ∙ z);
-          }) d (place-untold b c i key h rt m right d k q)
+          }) d (place-untold b c i key h rt m right d k q) room
 
   -- ---- the sessions
 
@@ -249,7 +268,7 @@ module _ (b : List ℕ) (c i : ℕ) (key : List ℕ) (h : HasKey b c i key) (lon
 
   sessions-right : (known : Bool) (k : Known) (xs : List Session) → ReadyFor known k xs → Each (SessionKept its c key) xs → Full c (slotCounts xs) → Linked xs
       → RightFrom (receiving t 0 k) (sessionsBy m c known xs)
-  sessions-right known k [] r kept f link = λ d q. tt
+  sessions-right known k [] r kept f link = λ d q w. tt
   sessions-right known k (x ∷ ys) r kept f link =
       start-right known k x r (kept .0 .vector) (firstBy m c (known || x .announced) 0 (x ∷ ys))
       (λ k′ n.
@@ -269,22 +288,22 @@ module _ (b : List ℕ) (c i : ℕ) (key : List ℕ) (h : HasKey b c i key) (lon
   -- ---- how it comes in
 
   opened-right : (reached : Bool) → reached ≡ true → (x : Session) (xs : List Session) → Each (SessionKept its c key) (x ∷ xs) → Full c (slotCounts (x ∷ xs))
-      → Linked (x ∷ xs) → Each Right (log noCall (hear (x .vector) ∷ firstBy m c reached 0 (x ∷ xs)))
-  opened-right reached e x xs kept f link =
+      → Linked (x ∷ xs) → slotsTold (firstBy m c reached 0 (x ∷ xs)) ≤ 1000000 → Each Right (log noCall (hear (x .vector) ∷ firstBy m c reached 0 (x ∷ xs)))
+  opened-right reached e x xs kept f link few =
       rw (place-opened b c i key h rt m right (x .vector) (kept .0 .vector)) (
         refl,
         first-right reached (told (sessionVector c (x .vector))) 0 (omega arith) x xs (record { known = sym e; vector = λ z. refl }) (λ u. e) kept f link _
-            (opened-stands b c i key h rt m right (x .vector) (kept .0 .vector)),
+            (opened-stands b c i key h rt m right (x .vector) (kept .0 .vector)) (omega arith),
       )
 
   joined-right : (reached : Bool) → reached ≡ scrambles c → (xs : List Session) → Each (SessionKept its c key) xs → Full c (slotCounts xs) → Linked xs
-      → Each Right (log noCall (join ∷ firstBy m c reached superframeSlots xs))
-  joined-right reached e [] kept f link = rw (place-joined b c i key h rt m right) (refl, tt)
-  joined-right reached e (x ∷ xs) kept f link =
+      → slotsTold (firstBy m c reached superframeSlots xs) ≤ 1000000 → Each Right (log noCall (join ∷ firstBy m c reached superframeSlots xs))
+  joined-right reached e [] kept f link few = rw (place-joined b c i key h rt m right) (refl, tt)
+  joined-right reached e (x ∷ xs) kept f link few =
       rw (place-joined b c i key h rt m right) (
         refl,
         first-right reached (untold c) superframeSlots (slots-some c (key-ranged b c i key h)) x xs (nothing (scrambles c) refl) (λ u. e ∙ u) kept f link _
-            (joined-stands b c i key h rt m right),
+            (joined-stands b c i key h rt m right) (omega arith),
       )
     where
       nothing : (u : Bool) → scrambles c ≡ u → Knowing reached (x .vector) (untold c)
@@ -311,43 +330,49 @@ module _ (t : Talk) (k : Kept t) (b : List ℕ) (i : ℕ) (h : HasKey b (t .ciph
   not-default : {A : Type 0} → strict ≡ byDefault → A
   not-default e = absurd (omega arith)
 
-  strict-right : (e : WayIn) → Each Right (talkLog ours b i t e)
-  strict-right opening = go (t .sessions) kept-by (k .full)
+  -- as many slots, whatever counts as reached
+  as-told : (known : Bool) (ns : List Notice) {ms : List Notice} → sinceKnown known ns ≡ ms → slotsTold ns ≤ 1000000 → slotsTold ms ≤ 1000000
+  as-told known ns e few = rw (← ap slotsTold e, since-told known ns) few
+
+  strict-right : (e : WayIn) → WithinLimit t e → Each Right (talkLog ours b i t e)
+  strict-right opening few = go (t .sessions) kept-by (k .full) few
     where
-      go : (xs : List Session) → Each (SessionKept (layoutBy (width (t .rate))) (t .cipher) (t .key)) xs → Full (t .cipher) (slotCounts xs)
+      go : (xs : List Session) → Each (SessionKept (layoutBy (width (t .rate))) (t .cipher) (t .key)) xs → Full (t .cipher) (slotCounts xs) → slotsTold (openingNotices (t .cipher) xs) ≤ 1000000
           → Each Right (events ours b (t .cipher) i (t .rate) noCall (openingNotices (t .cipher) xs))
-      go [] a f = tt
-      go (x ∷ xs) a f =
+      go [] a f few = tt
+      go (x ∷ xs) a f few =
           rw (← strict-first (t .cipher) true 0 (x ∷ xs))
           (opened-right b (t .cipher) i (t .key) h (k .key) (t .rate) strict (ways-right (t .rate) strict (k .rate) (omega arith)) (isReached (t .cipher) true)
-          (or-true (scrambles (t .cipher))) x xs a f (λ d u. not-default d))
-  strict-right (joining n) =
+          (or-true (scrambles (t .cipher))) x xs a f (λ d u. not-default d) (rw (strict-first (t .cipher) true 0 (x ∷ xs)) few))
+  strict-right (joining n) few =
       rw (← strict-first (t .cipher) false superframeSlots (drop n (t .sessions)))
       (joined-right b (t .cipher) i (t .key) h (k .key) (t .rate) strict (ways-right (t .rate) strict (k .rate) (omega arith)) (isReached (t .cipher) false)
       (or-false (scrambles (t .cipher))) (drop n (t .sessions)) (each-drop (SessionKept (layoutBy (width (t .rate))) (t .cipher) (t .key)) n (t .sessions) kept-by)
-      (full-drop (t .cipher) n (t .sessions) (k .full)) (λ d u. not-default d))
+      (full-drop (t .cipher) n (t .sessions) (k .full)) (λ d u. not-default d) (rw (strict-first (t .cipher) false superframeSlots (drop n (t .sessions))) few))
 
-  default-right : (e : WayIn) → (scrambles (t .cipher) ≡ false → Successive GeneratedOrAnnounced (heardFrom e (t .sessions))) → Each Right (defaultLog handset b i t e)
-  default-right opening link = go (t .sessions) kept-by (k .full) link
+  default-right : (e : WayIn) → (scrambles (t .cipher) ≡ false → Successive GeneratedOrAnnounced (heardFrom e (t .sessions))) → WithinLimit t e → Each Right (defaultLog handset b i t e)
+  default-right opening link few = go (t .sessions) kept-by (k .full) link few
     where
       go : (xs : List Session) → Each (SessionKept (layoutBy (width (t .rate))) (t .cipher) (t .key)) xs → Full (t .cipher) (slotCounts xs)
-          → (scrambles (t .cipher) ≡ false → Successive GeneratedOrAnnounced xs)
+          → (scrambles (t .cipher) ≡ false → Successive GeneratedOrAnnounced xs) → slotsTold (openingNotices (t .cipher) xs) ≤ 1000000
           → Each Right (events handset b (t .cipher) i (t .rate) noCall (sinceKnown (scrambles (t .cipher)) (openingNotices (t .cipher) xs)))
-      go [] a f l = tt
-      go (x ∷ xs) a f l =
+      go [] a f l few = tt
+      go (x ∷ xs) a f l few =
           rw (default-first (t .cipher) true true (λ u. refl) 0 (x ∷ xs))
-          (opened-right b (t .cipher) i (t .key) h (k .key) (t .rate) byDefault (ways-right (t .rate) byDefault (k .rate) (omega arith)) true refl x xs a f (λ d. l))
-  default-right (joining n) link =
+          (opened-right b (t .cipher) i (t .key) h (k .key) (t .rate) byDefault (ways-right (t .rate) byDefault (k .rate) (omega arith)) true refl x xs a f (λ d. l)
+          (as-told true (firstNotices (t .cipher) true 0 (x ∷ xs)) (default-first (t .cipher) true true (λ u. refl) 0 (x ∷ xs)) few))
+  default-right (joining n) link few =
       rw (default-first (t .cipher) (scrambles (t .cipher)) false (λ u. u) superframeSlots (drop n (t .sessions)))
       (joined-right b (t .cipher) i (t .key) h (k .key) (t .rate) byDefault (ways-right (t .rate) byDefault (k .rate) (omega arith)) (scrambles (t .cipher)) refl
       (drop n (t .sessions)) (each-drop (SessionKept (layoutBy (width (t .rate))) (t .cipher) (t .key)) n (t .sessions) kept-by)
-      (full-drop (t .cipher) n (t .sessions) (k .full)) (λ d. link))
+      (full-drop (t .cipher) n (t .sessions) (k .full)) (λ d. link)
+      (as-told (scrambles (t .cipher)) (firstNotices (t .cipher) false superframeSlots (drop n (t .sessions))) (default-first (t .cipher) (scrambles (t .cipher)) false (λ u. u) superframeSlots (drop n (t .sessions))) few))
 
 pub ours-meets-3 : Meets3 ours
-ours-meets-3 t k b i h e = strict-right t k b i h e
+ours-meets-3 t k b i h e few = strict-right t k b i h e few
 
 pub handset-meets-3-announced : Meets3Announced handset
-handset-meets-3-announced t k e l b i h = default-right t k b i h e l
+handset-meets-3-announced t k e l few b i h = default-right t k b i h e l few
 
 -- the generator's are among these
 generated-linked : (xs : List Session) → Successive Generated xs → Successive GeneratedOrAnnounced xs
@@ -363,5 +388,5 @@ handset-meets-3 = announced-default handset handset-meets-3-announced
 
 -- the request's own reading: of the whole call
 pub whole-call : (R : Receiver) → Meets3Default R → (t : Talk) → Kept t → (scrambles (t .cipher) ≡ false → Successive Generated (t .sessions))
-    → (b : List ℕ) (i : ℕ) → HasKey b (t .cipher) i (t .key) → (e : WayIn) → Each Right (defaultLog R b i t e)
-whole-call R m t k l b i h e = m t k e (λ u. linked-heard Generated e (t .sessions) (l u)) b i h
+    → (b : List ℕ) (i : ℕ) → HasKey b (t .cipher) i (t .key) → (e : WayIn) → WithinLimit t e → Each Right (defaultLog R b i t e)
+whole-call R m t k l b i h e few = m t k e (λ u. linked-heard Generated e (t .sessions) (l u)) few b i h

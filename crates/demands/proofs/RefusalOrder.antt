@@ -71,7 +71,7 @@ unfolding begunRefusals opening.openRefusals vectorRefusals keyRefusals zeroRefu
 vector-orders d n kind c i r m w = (refl, refl, refl, refl, refl)
 
 -- the two exceptions are all of their own lists
-pub voice-order : (d : Device) (n mask : ℕ) (frame : List ℕ) → numbersOf (refusalsOf d (OfCall n (Voice mask frame))) ≡ 10 ∷ 4 ∷ 9 ∷ 2 ∷ []
+pub voice-order : (d : Device) (n mask : ℕ) (frame : List ℕ) → numbersOf (refusalsOf d (OfCall n (Voice mask frame))) ≡ 10 ∷ 4 ∷ 9 ∷ 16 ∷ 2 ∷ []
 unfolding voiceRefusals
 voice-order d n mask frame = refl
 

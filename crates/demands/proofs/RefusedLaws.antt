@@ -25,8 +25,10 @@ use Rattle.sizes.specs.Ciphers.{vectorOctets}
 use Rattle.sizes.specs.Frame.{isRate}
 use Rattle.sizes.proofs.SizeLaws.{by-rate}
 use Rattle.openings.specs.Ladder as ladder
+use Rattle.voice.specs.Counts.{noCounts}
+use Rattle.voice.specs.declared.counts.Counts.{Counts}
 use Rattle.voice.specs.declared.call.Call.{Call}
-use Rattle.voice.specs.Call.{sendingEnd, receivingEnd, unknownVector, byDefault, strict, termsRight, goodCall, standing, knows, endRefusals}
+use Rattle.voice.specs.Call.{sendingEnd, receivingEnd, unknownVector, byDefault, strict, termsRight, goodCall, standing, knows, endRefusals, noCall, endOf}
 use Rattle.voice.specs.Opening.{joinRefusals, begunRefusals}
 use Rattle.voice.specs.Slot.{lostRefusals, voiceRefusals, streamOf, voiceOf}
 use Rattle.voice.specs.Vector.{announceRefusals, following, nextRefusals, nextVectorOf}
@@ -39,7 +41,7 @@ use Rattle.data.proofs.KindLaws.{kind-range}
 use Rattle.data.specs.Packet as packet
 use Rattle.data.specs.Opening as opening
 use Rattle.data.specs.Message as message
-use Rattle.demands.specs.Device.{Device, CallOperation, Open, Start, Join, Voice, Lost, End, Announce, NextVector, callStep, lentCall, PacketOperation, OpenPacket, Message, LostMessage, EndPacket, packetStep, lentPacket, Operation, OfBook, OfCall, OfPacket, step, lent}
+use Rattle.demands.specs.Device.{Device, CallOperation, Open, Start, Join, Voice, Lost, End, Announce, NextVector, callStep, lentCall, PacketOperation, OpenPacket, Message, LostMessage, EndPacket, packetStep, lentPacket, Operation, OfBook, OfCall, OfPacket, step, lent, handedOut}
 use Rattle.demands.specs.Refusals.{keyRefusals, callRefusals, packetRefusals, refusalsOf}
 use Rattle.demands.specs.Demand1.{Keyed, RightBook, NotZeros, RightCall, RightPacket, RightInput, InTime, Unknown, slot}
 use Rattle.demands.specs.Rates.{Layout}
@@ -169,13 +171,14 @@ undone : {S : Type 0} (before after : S) (rs : Refusals) → (numberOf (outcome 
 undone before after rs n = refusal-keeps before rs (Done, after) (λ e. n (ap numberOf e))
 
 call-untouched : (b : List ℕ) (c : Call) (o : CallOperation) → (numberOf (callStep b c o .0) ≡ 0 → ⊥) → callStep b c o .1 .1 ≡ lentCall o
-unfolding callStep nextVectorOf
+unfolding callStep nextVectorOf endOf
 call-untouched b c (Open m i r s w) n = refl
 call-untouched b c (Start m i r w) n = refl
 call-untouched b c (Join m i r s) n = refl
 call-untouched b c (Voice mask frame) n = undone-stays streamOf c mask frame n
 call-untouched b c Lost n = refl
-call-untouched b c End n = refl
+call-untouched b c End n =
+    ap (λ (x : Call × Counts). handedOut (x .1)) (undone {S = Call × Counts} (c, noCounts) (noCall, c .counts) (endRefusals (standing c)) n)
 call-untouched b c (Announce w) n = refl
 call-untouched b c (NextVector out) n = undone out (following (standing c)) (nextRefusals (standing c) out) n
 

@@ -15,6 +15,7 @@ use Rattle.demands.specs.Talk.{Talk, opening, joining, Kept}
 use Rattle.demands.specs.Log.{Receiver}
 use Rattle.demands.specs.Demand3Default.{GeneratedOrAnnounced}
 use Rattle.demands.specs.Others.{MeetsIn, MeetsDefaultIn}
+use Rattle.demands.proofs.ToldSlots.{within-limit}
 use Rattle.demands.proofs.Standing.{eight-slots}
 use Rattle.demands.proofs.Samples.{quiet, quiet-kept}
 use Rattle.demands.proofs.SampleKeys.{keyOf, bookOfThree, has-key, key-long}
@@ -57,15 +58,15 @@ module _ (c : ℕ) (r : (1 ≤ c) × (c ≤ 3)) (n : scrambles c ≡ false) (rt 
     halfOn = R .lost (R .lost (R .lost (R .lost joined .1) .1) .1) .1
 
     heard : (v : List ℕ) → length v ≡ 8 → Meets → numberOf (R .hear c 0 rt v bookOfThree (R .idle) .0) ≡ 0
-    heard v l (inl m) = m (fading v) refl refl (fading-kept v l) bookOfThree 0 (has-key c r) opening .0
-    heard v l (inr m) = m (fading v) refl refl (fading-kept v l) opening (λ z. (inl refl, tt)) bookOfThree 0 (has-key c r) .0
+    heard v l (inl m) = m (fading v) refl refl (fading-kept v l) bookOfThree 0 (has-key c r) opening (within-limit (fading v) (omega arith) opening) .0
+    heard v l (inr m) = m (fading v) refl refl (fading-kept v l) opening (λ z. (inl refl, tt)) (within-limit (fading v) (omega arith) opening) bookOfThree 0 (has-key c r) .0
 
     -- joining, the first lost slot, and the announcement
     late : (v : List ℕ) → length v ≡ 8 → Meets
         → (numberOf (R .join c 0 rt bookOfThree (R .idle) .0) ≡ 0) × (numberOf (R .lost joined .0) ≡ 0) × (numberOf (R .announce v halfOn .0) ≡ 0)
-    late v l (inl m) = let h = rw n at (m (fading v) refl refl (fading-kept v l) bookOfThree 0 (has-key c r) (joining 0)) in (h .0, h .1 .0, h .1 .1 .1 .1 .1 .0)
+    late v l (inl m) = let h = rw n at (m (fading v) refl refl (fading-kept v l) bookOfThree 0 (has-key c r) (joining 0) (within-limit (fading v) (omega arith) (joining 0))) in (h .0, h .1 .0, h .1 .1 .1 .1 .1 .0)
     late v l (inr m) =
-        let h = rw n at (m (fading v) refl refl (fading-kept v l) (joining 0) (λ z. (inl refl, tt)) bookOfThree 0 (has-key c r)) in
+        let h = rw n at (m (fading v) refl refl (fading-kept v l) (joining 0) (λ z. (inl refl, tt)) (within-limit (fading v) (omega arith) (joining 0)) bookOfThree 0 (has-key c r)) in
         (h .0, h .1 .0, h .1 .1 .1 .1 .1 .0)
 
     pub never-joined-fails : Meets → ((i : ℕ) (b : List ℕ) (s : R .State) → 1 ≤ numberOf (R .join c i rt b s .0)) → ⊥

@@ -22,6 +22,8 @@ use Rattle.answers.specs.declared.Answer.{Answer}
 use Rattle.answers.specs.declared.Answer.the-variants.{Done}
 use Rattle.keybook.proofs.GoodLaws.{good-sized}
 use Rattle.voice.specs.declared.call.Terms.{Terms}
+use Rattle.voice.specs.Counts.{noCounts, plus, arrivedWords}
+use Rattle.voice.specs.declared.counts.Counts.{Counts}
 use Rattle.voice.specs.declared.call.Call.{Call}
 use Rattle.voice.specs.Frame.{ofSlot, protect}
 use Rattle.openings.specs.Ladder.{sessionVector, keyFor, keyRefusals, zeroRefusals, vectorRefusals}
@@ -40,6 +42,7 @@ use Rattle.voice.proofs.NeverZero.{Sends, zeros-vector, going-vector, voice-sen
 use Rattle.voice.proofs.SlotSteps.{voice-at}
 use Rattle.demands.specs.Rates.{Layout, layout}
 use Rattle.demands.specs.Talk.{Slot, Session, SlotKept, SlotsKept, SessionKept, Full, slotCounts, Kept, HasKey, WayIn}
+use Rattle.demands.specs.Notices.{WithinLimit}
 use Rattle.demands.specs.Log.{talkLog}
 use Rattle.demands.specs.Demand3Default.{defaultLog, Successive, Generated, handset}
 use Rattle.demands.specs.Demand3.{Right, ours}
@@ -97,12 +100,20 @@ module _ (b : List ℕ) (c i : ℕ) (key : List ℕ) (h : HasKey b c i key) (lon
 
   -- after p slots of a session; after the last it is in the next one, with the next vector
   abbrev spot : List ℕ → ℕ → Call
-  spot v p = written (pick (ltb p (sessionSlots c)) (sending t p v) (sending t 0 (goingOn c v)))
+  spot v p = written noCounts (pick (ltb p (sessionSlots c)) (sending t p v) (sending t 0 (goingOn c v)))
 
-  spot-in : (v : List ℕ) (p : ℕ) → p < sessionSlots c → spot v p ≡ written (sending t p v)
+  -- a sender counts nothing
+  spot-counts : (v : List ℕ) (n : Counts) (p : ℕ) → written n (pick (ltb p (sessionSlots c)) (sending t p v) (sending t 0 (goingOn c v))) ≡ spot v p
+  spot-counts v n p = go (ltb p (sessionSlots c))
+    where
+      go : (b : Bool) → written n (pick b (sending t p v) (sending t 0 (goingOn c v))) ≡ written noCounts (pick b (sending t p v) (sending t 0 (goingOn c v)))
+      go true = refl
+      go false = refl
+
+  spot-in : (v : List ℕ) (p : ℕ) → p < sessionSlots c → spot v p ≡ written noCounts (sending t p v)
   spot-in v p l = rw (lt-ltb _ _ l)
 
-  spot-end : (v : List ℕ) (p : ℕ) → p ≡ sessionSlots c → spot v p ≡ written (sending t 0 (goingOn c v))
+  spot-end : (v : List ℕ) (p : ℕ) → p ≡ sessionSlots c → spot v p ≡ written noCounts (sending t 0 (goingOn c v))
   spot-end v p l = rw (le-ltb p (sessionSlots c) (omega arith))
 
   some : 0 < sessionSlots c
@@ -111,8 +122,8 @@ module _ (b : List ℕ) (c i : ℕ) (key : List ℕ) (h : HasKey b c i key) (lon
   spot-read : (v : List ℕ) → Sound c v → (p : ℕ) → p < sessionSlots c → standing (spot v p) ≡ sending t p v
   spot-read v kept p l =
       ap standing (spot-in v p l)
-      ∙ read-written (sending t p v) refl
-      (good-sender t p (placed l) v (kept .right))
+      ∙ read-written noCounts (sending t p v) refl
+      (good-sender t p (placed l) v (kept .right) noCounts)
 
   -- ---- the slots of a session
 
@@ -123,7 +134,8 @@ module _ (b : List ℕ) (c i : ℕ) (key : List ℕ) (h : HasKey b c i key) (lon
     spot-voice : (p : ℕ) → p < sessionSlots c → (x : Said) → SaidKept its x → voiceOf (spot v p) (x .mask) (x .spoken) ≡ (Done, (spot v (p + 1), out p x))
     unfolding slotOn
     spot-voice p l x s =
-        voice-at (spot v p) (x .mask) (x .spoken) (s .mask) (sending t p v) (s .frame .long) (spot-read v sound p l) refl
+        voice-at (spot v p) (x .mask) (x .spoken) (s .mask) (sending t p v) (s .frame .long) (spot-read v sound p l) refl refl
+        ∙ ap (λ (d : Call). (Done, (d, out p x))) (spot-counts v (plus (spot v p .counts) (arrivedWords (x .mask) true)) (p + 1))
 
     abbrev made : ℕ → Said → List ℕ → Slot
     made p x f = record { mask = x .mask; spoken = x .spoken; sent = f; arrived = x .arrives }
@@ -159,7 +171,7 @@ module _ (b : List ℕ) (c i : ℕ) (key : List ℕ) (h : HasKey b c i key) (lon
   counts-made s (x ∷ xs) = ap₂ _∷_ (made-length s (x .slots)) (counts-made (afterwards s (x .slots)) xs)
 
   abbrev from : List ℕ → Call
-  from v = written (sending t 0 v)
+  from v = written noCounts (sending t 0 v)
 
   session-made : (v : List ℕ) → Sound c v → (x : Saying) → length (x .slots) ≤ sessionSlots c → Each (SaidKept its) (x .slots)
       → SlotsKept its (stream c key v) 0 (slotsMade (from v) (x .slots))
@@ -191,12 +203,12 @@ module _ (b : List ℕ) (c i : ℕ) (key : List ℕ) (h : HasKey b c i key) (lon
   -- what next vector writes at any slot of a session is the vector of the next one
   pub next-announced : (v : List ℕ) → Sound c v → scrambles c ≡ false → (p : ℕ) → p < sessionSlots c → (lent : List ℕ) → length lent ≡ 8
       → (x : Saying) → length (x .slots) ≡ sessionSlots c → Each (SaidKept its) (x .slots)
-      → nextVectorOf (written (sending t p v)) lent ≡ (Done, afterwards (from v) (x .slots) .vector)
+      → nextVectorOf (written noCounts (sending t p v)) lent ≡ (Done, afterwards (from v) (x .slots) .vector)
   unfolding goingOn
   next-announced v a e p l lent h8 x f s =
       let g : goingOn c v ≡ nextVector v = rw e in
-      next-given (written (sending t p v)) lent
-      (record { long = h8; good = good-sender t p (placed l) v (a .right); sends = refl; vectored = e })
+      next-given (written noCounts (sending t p v)) lent
+      (record { long = h8; good = good-sender t p (placed l) v (a .right) noCounts; sends = refl; vectored = e })
       ∙ ap (λ (w : List ℕ). (Done, w)) (sym g)
       ∙ ap (λ (d : Call). (Done, d .vector)) (sym (session-after v a x f s))
 
@@ -241,15 +253,15 @@ module _ (b : List ℕ) (c i : ℕ) (key : List ℕ) (h : HasKey b c i key) (lon
 
   -- our sender to our receiver, whose book has the key under an ID of its own
   pub ours-to-ours : (v : List ℕ) → StartVector c v → (said : List Saying) → AllSaid c rt said
-      → (b′ : List ℕ) (i′ : ℕ) → HasKey b′ c i′ key → (e : WayIn) → Each Right (talkLog ours b′ i′ (talkMade c key i rt v b said) e)
+      → (b′ : List ℕ) (i′ : ℕ) → HasKey b′ c i′ key → (e : WayIn) → WithinLimit (talkMade c key i rt v b said) e → Each Right (talkLog ours b′ i′ (talkMade c key i rt v b said) e)
   ours-to-ours v s said a = ours-meets-3 (talkMade c key i rt v b said) (ours-keeps v s said a)
 
   -- and to our receiver in the default way
   pub ours-to-handset : (v : List ℕ) → StartVector c v → (said : List Saying) → AllSaid c rt said
-      → (b′ : List ℕ) (i′ : ℕ) → HasKey b′ c i′ key → (e : WayIn) → Each Right (defaultLog handset b′ i′ (talkMade c key i rt v b said) e)
-  ours-to-handset v s said a b′ i′ h e =
+      → (b′ : List ℕ) (i′ : ℕ) → HasKey b′ c i′ key → (e : WayIn) → WithinLimit (talkMade c key i rt v b said) e → Each Right (defaultLog handset b′ i′ (talkMade c key i rt v b said) e)
+  ours-to-handset v s said a b′ i′ h e few =
       let t = talkMade c key i rt v b said in
-      handset-meets-3 t (ours-keeps v s said a) e (λ n. linked-heard Generated e (t .sessions) (ours-generated v s said a n)) b′ i′ h
+      handset-meets-3 t (ours-keeps v s said a) e (λ n. linked-heard Generated e (t .sessions) (ours-generated v s said a n)) few b′ i′ h
 
   -- ---- whatever slots it was given, done or refused
 
@@ -266,7 +278,7 @@ module _ (b : List ℕ) (c i : ℕ) (key : List ℕ) (h : HasKey b c i key) (lon
         let sound = starts-sound c v s in
         let first : Sends t (from (sessionVector c v)) =
         record {
-          good = good-sender t 0 (placed some) (sessionVector c v) (sound .right);
+          good = good-sender t 0 (placed some) (sessionVector c v) (sound .right) noCounts;
           sends = refl;
           terms = refl;
           vector = λ e d. sound .vector;
@@ -277,7 +289,7 @@ module _ (b : List ℕ) (c i : ℕ) (key : List ℕ) (h : HasKey b c i key) (lon
     pub ours-never-refused : (mask : ℕ) (frame : List ℕ) → mask ≤ 15 → length frame ≡ layout rt .frame → voiceOf sender mask frame .0 ≡ Done
     ours-never-refused mask frame m l =
         let long-enough : length frame ≡ frameOctets (width (sender .terms .rate)) = rw (still .terms) (l ∙ ap (λ (x : Layout). x .frame) (layout-is rt)) in
-        ap (λ (r : Answer × (Call × List ℕ)). r .0) (voice-at sender mask frame m (sending (sender .terms) (sender .position) (sender .vector)) long-enough (is-sender sender (still .good) (still .sends)) refl)
+        ap (λ (r : Answer × (Call × List ℕ)). r .0) (voice-at sender mask frame m (sending (sender .terms) (sender .position) (sender .vector)) long-enough (is-sender sender (still .good) (still .sends)) refl refl)
 
     module _ (e : scrambles c ≡ false) where
       vectored : scrambles (sender .terms .cipher) ≡ false

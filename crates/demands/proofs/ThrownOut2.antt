@@ -1,20 +1,25 @@
 -- What demand 2 throws out: slot operations that answer 0 with the speech of a fixed frame, or with speech as it came, whatever they do else.
 use mathlib.Core.Path.{_≡_, refl, sym, ap, _∙_}
-use mathlib.Core.Bool.{Bool, true, false}
+use mathlib.Core.Bool.{Bool, true, false, _&&_}
 use mathlib.Core.List.{List}
 use Prim.Native.Nat.{ℕ, _+_, _-_, _*_, _≤_, _<_}
 use native.Mathlib.Omega.{arith}
+use lib.Dec.{leb, eqb}
 use lib.ListN.{length}
 use borrow.Author.Tests.{le-ltb}
-use Rattle.octets.specs.Tests.{pick}
+use Rattle.octets.specs.Tests.{pick, every}
 use Rattle.octets.specs.Bits.{bit, flip, Octets}
 use Rattle.answers.specs.declared.Answer.{Answer}
 use Rattle.answers.specs.Numbers.{numberOf}
 use Rattle.sizes.specs.Ciphers.{sessionSlots, noVector, scrambles}
 use Rattle.ciphers.proofs.KeystreamLaws.{bits-stream}
+use Rattle.sizes.specs.Frame.{mostWords}
+use Rattle.sizes.proofs.Cases.{by-range}
+use Rattle.voice.specs.Counts.{countsOf, noCounts, total, countTests}
+use Rattle.voice.specs.declared.counts.Counts.{Counts}
 use Rattle.voice.specs.declared.call.Call.{Call}
 use Rattle.voice.specs.Frame.{inMask}
-use Rattle.voice.specs.Call.{strict, told, Standing, receiving, standing, termsOf, written}
+use Rattle.voice.specs.Call.{strict, told, Standing, receiving, standing, termsOf, written, receivingEnd, toldVector, byDefault, countsRight}
 use Rattle.voice.specs.Slot.{voiceRefusals, streamOf, voiceOf}
 use Rattle.voice.proofs.GoodLaws.{good-receiver, read-written}
 use Rattle.voice.proofs.OpeningGood.{heard-right}
@@ -27,6 +32,7 @@ use Rattle.demands.specs.Rates.{Layout, layout}
 use Rattle.demands.specs.Demand2.{OnSlot, OnMessage, Demand2}
 use Rattle.demands.specs.Others.{SameSpeech, Fixed, AsItCame, fixing, onlyMoves}
 use Rattle.demands.proofs.MarkedVoice.{example-2}
+use Rattle.octets.proofs.TestLaws.{and-false-r}
 use Rattle.octets.proofs.Zeros.{zeros-octets}
 use Rattle.demands.proofs.Standing.{has-key-right, slots-some, same-stream}
 use Rattle.demands.proofs.Layouts.{layout-is, layout-some, ways-right}
@@ -41,8 +47,16 @@ module _ (call : Call) (mask : ℕ) (f g : List ℕ) where
   opens-too z l =
       let n = voice-taken streamOf call mask f (omega arith) in
       let q : length g ≡ length f = l ∙ ap (λ (x : Layout). x .frame) (layout-is (call .terms .rate)) ∙ sym (none-long call mask f n) in
-      ap (λ (o : Answer × (Call × List ℕ)). numberOf (o .0)) (sym (voice-done streamOf call mask g (n .0, (n .1 .0, (n .1 .1 .0, (rw q (n .1 .1 .1 .0), tt))))))
+      ap (λ (o : Answer × (Call × List ℕ)). numberOf (o .0)) (sym (voice-done streamOf call mask g (n .0, (n .1 .0, (n .1 .1 .0, (n .1 .1 .1 .0, (rw q (n .1 .1 .1 .1 .0), tt)))))))
       ∙ ap (λ (o : Answer × (Call × List ℕ)). numberOf (o .0)) (voice-done streamOf call mask f n) ∙ z
+
+-- the counts of one that lost all slots of its session but the last
+lost-right : (c : ℕ) → (1 ≤ c) × (c ≤ 3) → (m : ℕ) → countsRight receivingEnd c m toldVector (sessionSlots c - 1) (countsOf 0 0 0 (4 * (sessionSlots c - 1))) ≡ true
+unfolding countsRight
+lost-right c r m = rw (and-false-r (eqb m byDefault)) (by-range (λ c. every (countTests (scrambles c) false (sessionSlots c - 1) (countsOf 0 0 0 (4 * (sessionSlots c - 1)))) ≡ true) refl refl refl c r)
+
+few-lost : (c : ℕ) → (1 ≤ c) × (c ≤ 3) → (true && leb mostWords (total (countsOf 0 0 0 (4 * (sessionSlots c - 1))))) ≡ false
+few-lost = by-range (λ c. (true && leb mostWords (total (countsOf 0 0 0 (4 * (sessionSlots c - 1))))) ≡ false) refl refl refl
 
 turned-apart : (a b k : ℕ) → a ≡ 0 → b ≡ 1 → flip a k ≡ flip b k → ⊥
 turned-apart a b k x y e = omega arith
@@ -77,15 +91,19 @@ module _ (voice : OnSlot) (send : OnMessage) where
     abbrev at-last : Standing
     at-last = receiving (termsOf c (keyFor bookOfThree c 0) rt st) (sessionSlots c - 1) (told (sessionVector c v))
 
+    -- it lost the slots before
+    abbrev lately : Counts
+    lately = countsOf 0 0 0 (4 * (sessionSlots c - 1))
+
     abbrev last : Call
-    last = written at-last
+    last = written lately at-last
 
     last-stands : standing last ≡ at-last
     last-stands =
         let l : sessionSlots c - 1 < sessionSlots c = let s = slots-some c r in omega arith in
-        read-written at-last refl
+        read-written lately at-last refl
         (good-receiver (termsOf c (keyFor bookOfThree c 0) rt st) (sessionSlots c - 1)
-        (record { key = has-key-right bookOfThree c 0 (keyOf c) (has-key c r); terms = ways-right rt st lt ls; place = l }) (told (sessionVector c v)) (heard-right c st v))
+        (record { key = has-key-right bookOfThree c 0 (keyOf c) (has-key c r); terms = ways-right rt st lt ls; place = l }) (told (sessionVector c v)) (heard-right c st v) lately (lost-right c r st))
 
     vector-octets : (t : Bool) → Octets (pick t noVector v)
     vector-octets true = zeros-octets 8
@@ -104,13 +122,13 @@ module _ (voice : OnSlot) (send : OnMessage) where
         opened : numberOf (voiceOf last 15 (silence rt) .0) ≡ 0
         opened =
             ap (λ (a : Answer × (Call × List ℕ)). numberOf (a .0))
-            (voice-at last 15 (silence rt) (omega arith) at-last (silent-long rt) last-stands refl)
+            (voice-at last 15 (silence rt) (omega arith) at-last (silent-long rt) last-stands refl (few-lost c r))
 
 -- ---- two of them
 
 pub fixing-fails-2 : (g : List ℕ) (send : OnMessage) → Demand2 (fixing g) send → ⊥
 fixing-fails-2 g send =
-    fixed-fails-2 (fixing g) send (scrambling strict 0) 3 0 (omega arith) refl (silence 0) (ap (λ (o : Answer × (Call × List ℕ)). numberOf (o .0)) (example-2 strict (omega arith))) g
+    fixed-fails-2 (fixing g) send (scrambling strict 0 noCounts) 3 0 (omega arith) refl (silence 0) (ap (λ (o : Answer × (Call × List ℕ)). numberOf (o .0)) (example-2 strict (omega arith))) g
     (λ frame z. (z, λ w j lw lj h. refl))
 
 pub onlyMoves-fails-2 : (n : ℕ) → n < 8 → (send : OnMessage) → Demand2 (onlyMoves n) send → ⊥

@@ -15,7 +15,7 @@ use Rattle.octets.proofs.Zeros.{zeros-bit}
 use Rattle.generator.specs.Generator.{nextVector}
 use Rattle.generator.proofs.VectorLaws.{next-is-vector}
 use Rattle.sizes.specs.Ciphers.{sessionSlots, noVector, scrambles}
-use Rattle.sizes.specs.Frame.{width}
+use Rattle.sizes.specs.Frame.{width, mostWords}
 use Rattle.ciphers.specs.Keystream.{stream}
 use Rattle.ciphers.proofs.KeystreamLaws.{bits-stream}
 use Rattle.answers.specs.declared.Answer.{Answer}
@@ -23,22 +23,26 @@ use Rattle.answers.specs.Numbers.{numberOf}
 use Rattle.openings.specs.Ladder.{sessionVector, keyFor}
 use Rattle.openings.specs.Samples.{seed}
 use Rattle.voice.specs.declared.call.Terms.{Terms}
+use Rattle.voice.specs.Counts.{countsOf, noCounts, plus, total, lostWords}
+use Rattle.voice.specs.declared.counts.Counts.{Counts}
 use Rattle.voice.specs.declared.call.Call.{Call}
 use Rattle.voice.specs.Frame.{ofSlot}
-use Rattle.voice.specs.Call.{receivingEnd, carriedVector, byDefault, termsRight, vectorRight, Known, told, carried, Standing, receiving, standing, termsOf, callAt, noCall, written}
+use Rattle.voice.specs.Call.{receivingEnd, carriedVector, byDefault, termsRight, vectorRight, Known, told, carried, Standing, receiving, standing, termsOf, callAt, noCall, written, countsRight}
 use Rattle.voice.specs.Slot.{ridden, voiceOf}
+use Rattle.voice.proofs.CountLaws.{lost-fits}
 use Rattle.voice.proofs.FrameLaws.{protect-frame}
 use Rattle.voice.proofs.GoodLaws.{good-receiver, read-written}
 use Rattle.voice.proofs.SlotSteps.{voice-at}
 use Rattle.demands.specs.Rates.{layout}
 use Rattle.demands.specs.Talk.{Session, Talk, opening, Kept}
-use Rattle.demands.specs.Notices.{Notice, voice, slotNotices, startNotices, sessionNotices, noticesOf}
+use Rattle.demands.specs.Notices.{Notice, voice, slotNotices, startNotices, sessionNotices, noticesOf, WithinLimit}
 use Rattle.demands.specs.Log.{Receiver, events}
 use Rattle.demands.specs.Demand3.{Right, ours}
 use Rattle.demands.specs.Demand3Default.{sinceKnown, defaultNotices, defaultLog, Generated, GeneratedOrAnnounced, handset}
 use Rattle.demands.specs.Others.{SameSpeech, MeetsIn, MeetsDefaultIn, wentOn, goingOnWith, staying, stubborn, turning}
 use Rattle.demands.proofs.Layouts.{ways-right, layout-speech}
-use Rattle.demands.proofs.Standing.{has-key-right, same-stream, eight-slots, place, place-in, place-end, place-lost, place-on, place-opened, opened-stands}
+use Rattle.demands.proofs.ToldSlots.{within-limit}
+use Rattle.demands.proofs.Standing.{has-key-right, same-stream, eight-slots, place, place-in, place-end, place-lost, place-on, place-opened, opened-stands, place-counts}
 use Rattle.demands.proofs.ReceiverMeets.{ours-meets-3, handset-meets-3}
 use Rattle.demands.proofs.Settled.{due, both-settled}
 use Rattle.demands.proofs.Samples.{silence, silence-frame, silent-long, saying, quiet, saying-kept, quiet-kept}
@@ -55,12 +59,15 @@ turned-back x y l m e = omega arith
 -- ---- DES or AES, at one rate
 
 module _ (c : ℕ) (g : (1 ≤ c) × (c ≤ 3)) (n : scrambles c ≡ false) (rt : ℕ) (lt : rt ≤ 1) where
+  faded-few : WithinLimit (faded c rt (silence rt)) opening
+  faded-few = within-limit (faded c rt (silence rt)) (omega arith) opening
+
   -- no receiver meets both demands: demand 3 asks it to hold where this one asks it to ride
   pub not-both : (R : Receiver) → MeetsIn c rt R → MeetsDefaultIn Generated c rt R → ⊥
   not-both R s d =
       let t = faded c rt (silence rt) in
       let f = faded-ridden c g n rt lt (silence rt) (silence-frame rt) in
-      let q = both-settled R bookOfThree 0 t opening (s t refl refl (f .kept) bookOfThree 0 (has-key c g) opening) (d t refl refl (f .kept) opening (λ z. f .vectors) bookOfThree 0 (has-key c g)) in
+      let q = both-settled R bookOfThree 0 t opening (s t refl refl (f .kept) bookOfThree 0 (has-key c g) opening faded-few) (d t refl refl (f .kept) opening (λ z. f .vectors) faded-few bookOfThree 0 (has-key c g)) in
       let a : getD (map due (noticesOf t opening)) 9 0 ≡ 1 = rw n in
       let b : getD (map due (defaultNotices t opening)) 9 0 ≡ 0 = rw n in
       let z : _≡_ {A = ℕ} 1 0 = sym a ∙ ap (λ (xs : List ℕ). getD xs 9 0) q ∙ b in
@@ -84,14 +91,18 @@ module _ (c : ℕ) (g : (1 ≤ c) × (c ≤ 3)) (n : scrambles c ≡ false) (rt 
   eight : sessionSlots c ≡ 8
   eight = eight-slots c g n
 
+  -- after p lost slots
+  abbrev lostSlots : ℕ → Counts
+  lostSlots p = countsOf 0 0 0 (4 * p)
+
   abbrev carrying : List ℕ → Call
-  carrying u = callAt receivingEnd terms 0 carriedVector u
+  carrying u = callAt receivingEnd terms 0 carriedVector u (lostSlots 8)
 
   carrying-stands : (u : List ℕ) → standing (carrying u) ≡ receiving terms 0 (carried u)
-  unfolding vectorRight
+  unfolding vectorRight countsRight
   carrying-stands u =
-      read-written (receiving terms 0 (carried u)) refl
-      (good-receiver terms 0 (record { key = has-key-right bookOfThree c 0 (keyOf c) (has-key c g); terms = right; place = omega (arith, eight) }) (carried u) (rw n))
+      read-written (lostSlots 8) (receiving terms 0 (carried u)) refl
+      (good-receiver terms 0 (record { key = has-key-right bookOfThree c 0 (keyOf c) (has-key c g); terms = right; place = omega (arith, eight) }) (carried u) (rw n) (lostSlots 8) (rw n))
 
   -- what is on the air in the first slot of a session of vector v, all silence
   abbrev aired : List ℕ → List ℕ
@@ -113,7 +124,7 @@ module _ (c : ℕ) (g : (1 ≤ c) × (c ≤ 3)) (n : scrambles c ≡ false) (rt 
       done =
           ap (λ (o : Answer × (Call × List ℕ)). numberOf (o .0))
           (voice-at (carrying u) 15 (aired v) (omega arith) (receiving terms 0 (carried u))
-          (protect-frame (width rt) (ofSlot (width rt) (stream c (keyOf c) v) 0) 15 (silence rt) (silent-long rt) .long) (carrying-stands u) refl)
+          (protect-frame (width rt) (ofSlot (width rt) (stream c (keyOf c) v) 0) 15 (silence rt) (silent-long rt) .long) (carrying-stands u) refl refl)
 
   -- ---- a session of S of which every slot is lost, and a slot of the next one
 
@@ -153,37 +164,54 @@ module _ (c : ℕ) (g : (1 ≤ c) × (c ≤ 3)) (n : scrambles c ≡ false) (rt 
 
     -- it stands at slot p, with S
     record At (p : ℕ) (s : Call) : Type 0 where
-      is : s ≡ written (place terms opened p)
+      is : s ≡ written (lostSlots p) (place terms opened p)
       stands : standing s ≡ place terms opened p
 
     at-first : At 0 (R .hear c 0 rt seed bookOfThree noCall .1)
     at-first =
         let o = ap (λ (o : Answer × Call). o .1) (place-opened bookOfThree c 0 (keyOf c) (has-key c g) rt byDefault right seed refl) in
         let s = opened-stands bookOfThree c 0 (keyOf c) (has-key c g) rt byDefault right seed refl in
-        record { is = o ∙ ap written (sym (place-in terms opened 0 (omega (arith, eight)))); stands = ap standing o ∙ s }
+        record { is = o ∙ ap (written noCounts) (sym (place-in terms opened 0 (omega (arith, eight)))); stands = ap standing o ∙ s }
+
+    -- its counts
+    module _ (p : ℕ) where
+      counted : (s : Call) → At p s → s .counts ≡ lostSlots p
+      counted s a = ap (λ (d : Call). d .counts) (a .is) ∙ place-counts terms opened (lostSlots p) p
+
+      few : p < 8 → (s : Call) → At p s → total (s .counts) < mostWords
+      few l s a = rw (counted s a) (omega arith)
+
+      lost-one : (s : Call) → At p s → plus (s .counts) lostWords ≡ lostSlots (p + 1)
+      lost-one s a =
+          let e : 4 * p + 4 ≡ 4 * (p + 1) = omega arith in
+          rw (counted s a, e)
 
     at-next : (p : ℕ) → p < 7 → (s : Call) → At p s → At (p + 1) (on s)
     at-next p l s a =
         let l′ : p < sessionSlots c = omega (arith, eight) in
-        let q : on s ≡ written (place terms opened (p + 1)) =
-        ap (λ (o : Answer × Call). wentOn f s (o .1)) (place-lost terms opened p l′ s (a .stands))
-        ∙ ap (λ (x : Standing). wentOn f s (written x)) (place-in terms opened (p + 1) (omega (arith, eight)))
-        ∙ ap written (sym (place-in terms opened (p + 1) (omega (arith, eight)))) in
-        record { is = q; stands = ap standing q ∙ place-on terms opened p l′ s (a .stands) }
+        let room = few p (omega arith) s a in
+        let q : on s ≡ written (lostSlots (p + 1)) (place terms opened (p + 1)) =
+        ap (λ (o : Answer × Call). wentOn f s (o .1)) (place-lost terms opened p l′ s (a .stands) room)
+        ∙ ap (λ (m : Counts). wentOn f s (written m (place terms opened (p + 1)))) (lost-one p s a)
+        ∙ ap (λ (x : Standing). wentOn f s (written (lostSlots (p + 1)) x)) (place-in terms opened (p + 1) (omega (arith, eight)))
+        ∙ ap (written (lostSlots (p + 1))) (sym (place-in terms opened (p + 1) (omega (arith, eight)))) in
+        let stood = place-on terms opened p l′ s (a .stands) room lostWords (lost-fits true) in
+        record { is = q; stands = ap standing q ∙ rw (lost-one p s a) at stood }
 
     at-end : (s : Call) → At 7 s → on s ≡ carrying (f seed)
     at-end s a =
-        ap (λ (o : Answer × Call). wentOn f s (o .1)) (place-lost terms opened 7 (omega (arith, eight)) s (a .stands))
-        ∙ ap (λ (x : Standing). wentOn f s (written x)) (place-end terms opened 8 (sym eight))
-        ∙ ap (λ (x : Known). wentOn f s (written (receiving terms 0 x))) riding
+        ap (λ (o : Answer × Call). wentOn f s (o .1)) (place-lost terms opened 7 (omega (arith, eight)) s (a .stands) (few 7 (omega arith) s a))
+        ∙ ap (λ (m : Counts). wentOn f s (written m (place terms opened 8))) (lost-one 7 s a)
+        ∙ ap (λ (x : Standing). wentOn f s (written (lostSlots 8) x)) (place-end terms opened 8 (sym eight))
+        ∙ ap (λ (x : Known). wentOn f s (written (lostSlots 8) (receiving terms 0 x))) riding
         ∙ ap (λ (d : Call). wentOn f d (carrying (nextVector (sessionVector c seed)))) last
         ∙ ap (λ (u : Bool). carrying (f (pick u noVector seed))) n
       where
         riding : ridden terms opened ≡ carried (nextVector (sessionVector c seed))
         riding = rw n
 
-        last : s ≡ written (receiving terms 7 opened)
-        last = a .is ∙ ap written (place-in terms opened 7 (omega (arith, eight)))
+        last : s ≡ written (lostSlots 7) (receiving terms 7 opened)
+        last = a .is ∙ ap (written (lostSlots 7)) (place-in terms opened 7 (omega (arith, eight)))
 
     eight-lost : on (on (on (on (on (on (on (on (R .hear c 0 rt seed bookOfThree noCall .1)))))))) ≡ carrying (f seed)
     eight-lost =
@@ -208,7 +236,7 @@ module _ (c : ℕ) (g : (1 ≤ c) × (c ≤ 3)) (n : scrambles c ≡ false) (rt 
   -- on S, and not L(S)
   pub staying-thrown-out : MeetsDefaultIn Generated c rt staying → ⊥
   staying-thrown-out m =
-      let h = m (two (nextVector seed) false) refl refl (two-kept (nextVector seed) (next-is-vector seed .long) false) opening (λ z. (refl, tt)) bookOfThree 0 (has-key c g) in
+      let h = m (two (nextVector seed) false) refl refl (two-kept (nextVector seed) (next-is-vector seed .long) false) opening (λ z. (refl, tt)) (within-limit (two (nextVector seed) false) (omega arith) opening) bookOfThree 0 (has-key c g) in
       let a = apart c g n in
       a .2 (first-right (λ v. v) (handset .announce) (nextVector seed) (not-told (scrambles c) n (at-second (λ v. v) (handset .announce) (nextVector seed) false h)) (a .0) (a .1))
     where
@@ -221,7 +249,7 @@ module _ (c : ℕ) (g : (1 ≤ c) × (c ≤ 3)) (n : scrambles c ≡ false) (rt 
   -- the announced vector does not win
   pub stubborn-thrown-out : MeetsDefaultIn GeneratedOrAnnounced c rt stubborn → ⊥
   stubborn-thrown-out m =
-      let h = m (two seed true) refl refl (two-kept seed refl true) opening (λ z. (inl refl, tt)) bookOfThree 0 (has-key c g) in
+      let h = m (two seed true) refl refl (two-kept seed refl true) opening (λ z. (inl refl, tt)) (within-limit (two seed true) (omega arith) opening) bookOfThree 0 (has-key c g) in
       let a = apart c g n in
       a .2 (sym (first-right nextVector (stubborn .announce) seed (told-in-vain (scrambles c) n (at-second nextVector (stubborn .announce) seed true h)) (a .0) (a .1)))
     where

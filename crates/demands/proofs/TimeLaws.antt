@@ -9,6 +9,7 @@ use Rattle.octets.proofs.TestLaws.{or-neither}
 use Rattle.answers.proofs.OutcomeLaws.{NoneHolds}
 use Rattle.sizes.specs.Ciphers.{scrambles}
 use Rattle.openings.specs.Ladder as ladder
+use Rattle.voice.proofs.SlotLaws.{below-limit}
 use Rattle.voice.specs.declared.call.Call.{Call}
 use Rattle.voice.specs.Call.{closedEnd, sendingEnd, receivingEnd, Standing, standing, isBad, stands, receives, endRefusals}
 use Rattle.voice.specs.Opening.{joinRefusals, begunRefusals}
@@ -58,8 +59,10 @@ unfolding begunRefusals joinRefusals ladder.vectorRefusals ladder.keyRefusals vo
 call-time b c (Open m i r s w) n = closed-time c (n .1 .1 .1 .0) (n .1 .1 .1 .1 .0)
 call-time b c (Start m i r w) n = closed-time c (n .1 .1 .1 .0) (n .1 .1 .1 .1 .0)
 call-time b c (Join m i r s) n = closed-time c (n .1 .1 .0) (n .1 .1 .1 .0)
-call-time b c (Voice mask frame) n = standing-time c (n .1 .0) (n .1 .1 .0)
-call-time b c Lost n = receiving-time c (n .0) (n .1 .0)
+call-time b c (Voice mask frame) n = (standing-time c (n .1 .0) (n .1 .1 .0), below-limit c (good-by c (n .1 .0)) (n .1 .1 .1 .0))
+call-time b c Lost n =
+    let e = receiving-time c (n .0) (n .1 .0) in
+    (e, below-limit c (good-by c (n .0)) (n .1 .1 .0) e)
 call-time b c End n = standing-time c (n .0) (n .1 .0)
 call-time b c (Announce w) n =
     let t = timely c w n in

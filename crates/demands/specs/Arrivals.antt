@@ -3,7 +3,7 @@ use mathlib.Core.List.{List, [], _∷_, _++_}
 use Prim.Native.Nat.{ℕ}
 use lib.ListN.{drop}
 use Rattle.octets.specs.Tests.{pick}
-use Rattle.voice.specs.Opening.{superframeSlots}
+use Rattle.sizes.specs.Ciphers.{superframeSlots}
 use Rattle.demands.specs.Talk.{Slot, Session, Talk, WayIn, opening, joining}
 use Rattle.demands.specs.Log.{Event, answered, arrived}
 

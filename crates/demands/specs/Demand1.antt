@@ -14,6 +14,7 @@ use Rattle.keybook.specs.Book.{goodBook}
 use Rattle.keybook.specs.History as book
 use Rattle.keybook.specs.History.{Told}
 use Rattle.voice.specs.declared.call.Call.{Call}
+use Rattle.voice.specs.Counts.{total}
 use Rattle.voice.specs.Slot.{streamOf, inSlot}
 use Rattle.voice.specs.Call.{closedEnd, sendingEnd, receivingEnd, unknownVector, carriedVector, goodCall}
 use Rattle.data.specs.declared.packet.Packet.{Packet}
@@ -73,14 +74,18 @@ RightInput d (OfPacket n o) = RightPacket (d .book) (d .packets n) o
 abbrev pub NotTold : Call → Type 0
 NotTold c = (c .known ≡ unknownVector) ⊎ ((c .known ≡ carriedVector) × (c .terms .strictness ≡ 0))
 
--- open, join and start while no call stands, the others while one does; a lost slot and announce are a receiver's, and announce is right only for DES or
--- AES at position 0, where no vector was told; next vector is a sender's, for DES or AES
+-- it was told of fewer than 1,000,000 slots, four words to each (document 02, W-207)
+abbrev pub BelowLimit : Call → Type 0
+BelowLimit c = total (c .counts) < 4000000
+
+-- open, join and start while no call stands, the others while one does; a receiver is told of no slot past its limit, and a sender has none; a lost slot and
+-- announce are a receiver's, and announce is right only for DES or AES at position 0, where no vector was told; next vector is a sender's, for DES or AES
 abbrev pub TimeOfCall : Call → CallOperation → Type 0
 TimeOfCall c (Open cipher i rate strictness w) = c .end ≡ closedEnd
 TimeOfCall c (Start cipher i rate w) = c .end ≡ closedEnd
 TimeOfCall c (Join cipher i rate strictness) = c .end ≡ closedEnd
-TimeOfCall c (Voice mask frame) = c .end ≡ closedEnd → ⊥
-TimeOfCall c Lost = c .end ≡ receivingEnd
+TimeOfCall c (Voice mask frame) = (c .end ≡ closedEnd → ⊥) × (c .end ≡ receivingEnd → BelowLimit c)
+TimeOfCall c Lost = (c .end ≡ receivingEnd) × BelowLimit c
 TimeOfCall c End = c .end ≡ closedEnd → ⊥
 TimeOfCall c (Announce w) = (c .end ≡ receivingEnd) × (c .terms .cipher ≡ 1 → ⊥) × (c .position ≡ 0) × NotTold c
 TimeOfCall c (NextVector out) = (c .end ≡ sendingEnd) × (c .terms .cipher ≡ 1 → ⊥)

@@ -14,6 +14,7 @@ use Rattle.voice.specs.Vector.{announceOf}
 use Rattle.octets.specs.Lists.{Each}
 use Rattle.demands.specs.Rates.{layout, wordAt}
 use Rattle.demands.specs.Talk.{Talk, WayIn, Kept, HasKey}
+use Rattle.demands.specs.Notices.{WithinLimit}
 use Rattle.demands.specs.Log.{Receiver, Report, Event, answered, arrived, talkLog}
 
 pub record RightSlot (r : Report) : Type 0 where
@@ -30,9 +31,9 @@ abbrev pub Right : Event → Type 0
 Right (answered a) = numberOf a ≡ 0
 Right (arrived r) = RightSlot r
 
--- one call of a sender that keeps the rules, a receiver with the same key and at the same rate, and either way in
+-- one call of a sender that keeps the rules, a receiver with the same key and at the same rate, and either way in, up to the slot limit
 abbrev pub MeetsTalk : Receiver → Talk → Type 0
-MeetsTalk R t = Kept t → (b : List ℕ) (i : ℕ) → HasKey b (t .cipher) i (t .key) → (e : WayIn) → Each Right (talkLog R b i t e)
+MeetsTalk R t = Kept t → (b : List ℕ) (i : ℕ) → HasKey b (t .cipher) i (t .key) → (e : WayIn) → WithinLimit t e → Each Right (talkLog R b i t e)
 
 abbrev pub Meets3 : Receiver → Type 0
 Meets3 R = (t : Talk) → MeetsTalk R t

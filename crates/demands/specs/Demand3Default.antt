@@ -10,7 +10,7 @@ use Rattle.octets.specs.Lists.{Each}
 use Rattle.generator.specs.Generator.{nextVector}
 use Rattle.sizes.specs.Ciphers.{scrambles}
 use Rattle.demands.specs.Talk.{Session, Talk, WayIn, opening, joining, Kept, HasKey}
-use Rattle.demands.specs.Notices.{Notice, hear, join, announce, lost, voice, noticesOf}
+use Rattle.demands.specs.Notices.{Notice, hear, join, announce, lost, voice, noticesOf, WithinLimit}
 use Rattle.demands.specs.Log.{Receiver, Event, events}
 use Rattle.demands.specs.Demand3.{Right, oursIn}
 
@@ -56,7 +56,7 @@ GeneratedOrAnnounced x y = (y .announced ≡ true) ⊎ Generated x y
 
 -- scramble has no vectors. What a right log is, is demand 3's: a slot that counts as reached is handed out, and any other is held as it came
 abbrev pub MeetsTalkDefault : (Session → Session → Type 0) → Receiver → Talk → Type 0
-MeetsTalkDefault P R t = Kept t → (e : WayIn) → (scrambles (t .cipher) ≡ false → Successive P (heardFrom e (t .sessions)))
+MeetsTalkDefault P R t = Kept t → (e : WayIn) → (scrambles (t .cipher) ≡ false → Successive P (heardFrom e (t .sessions))) → WithinLimit t e
     → (b : List ℕ) (i : ℕ) → HasKey b (t .cipher) i (t .key) → Each Right (defaultLog R b i t e)
 
 abbrev pub Meets3Default : Receiver → Type 0

@@ -8,7 +8,9 @@ use Rattle.octets.specs.Tests.{pick}
 use Rattle.answers.specs.declared.Answer.{Answer}
 use Rattle.keybook.specs.Book.{bookOctets}
 use Rattle.keybook.specs.History as book
+use Rattle.voice.specs.declared.counts.Counts.{Counts}
 use Rattle.voice.specs.declared.call.Call.{Call}
+use Rattle.voice.specs.Counts.{noCounts}
 use Rattle.voice.specs.Call.{noCall, endOf}
 use Rattle.voice.specs.Opening.{openOf, startOf, joinOf}
 use Rattle.voice.specs.Slot.{lostOf, voiceOf}
@@ -23,6 +25,10 @@ module _ {S : Type 0} where
   abbrev pub withNone : Answer × S → Answer × (S × List ℕ)
   withNone o = (o .0, (o .1, []))
 
+-- what end hands out, in this order; zeros where it isn't done
+abbrev pub handedOut : Counts → List ℕ
+handedOut n = n .opened ∷ n .held ∷ n .replaced ∷ n .lost ∷ []
+
 pub record Device : Type 0 where
   pub book : List ℕ
   pub calls : ℕ → Call
@@ -32,7 +38,7 @@ pub record Device : Type 0 where
 abbrev pub atFirst : Device
 atFirst = record { book = replicate bookOctets 0; calls = λ n. noCall; packets = λ n. packet.noPacket }
 
--- ---- every operation, with all that it is given; what it answers and leaves, and the octets that it may write
+-- ---- every operation, with all that it is given; what it answers and leaves, and the octets that it may write, or the counts that end hands out
 
 -- on a call
 pub data CallOperation : Type 0 where
@@ -57,7 +63,7 @@ module _ (b : List ℕ) (c : Call) where
   callStep (Join cipher i rate strictness) = withNone (joinOf c cipher i rate strictness b)
   callStep (Voice mask frame) = voiceOf c mask frame
   callStep Lost = withNone (lostOf c)
-  callStep End = withNone (endOf c)
+  callStep End = let o = endOf c in (o .0, (o .1 .0, handedOut (o .1 .1)))
   callStep (Announce w) = withNone (announceOf c w)
   callStep (NextVector out) = let o = nextVectorOf c out in (o .0, (c, o .1))
 
@@ -67,7 +73,7 @@ lentCall (Start c i r w) = []
 lentCall (Join c i r s) = []
 lentCall (Voice mask frame) = frame
 lentCall Lost = []
-lentCall End = []
+lentCall End = handedOut noCounts
 lentCall (Announce w) = []
 lentCall (NextVector out) = out
 

@@ -11,6 +11,7 @@ pub mod OurSender
 pub mod Device
 pub mod Refusals
 pub mod Demand1
+pub mod Counted
 pub mod OtherDevices
 pub mod Demand2
 pub mod SessionEnds

@@ -14,7 +14,10 @@ use Rattle.answers.specs.Numbers.{numberOf}
 use Rattle.keyentry.specs.Entry.{entryOctets, keyPlace}
 use Rattle.keybook.specs.Book.{bookOctets}
 use Rattle.keybook.specs.Operations.{finishOf}
+use Rattle.voice.specs.declared.counts.Counts.{Counts}
 use Rattle.voice.specs.declared.call.Call.{Call}
+use Rattle.voice.specs.Frame.{wordsIn}
+use Rattle.voice.specs.Counts.{countsOf, noCounts}
 use Rattle.sizes.specs.Frame.{halfRate}
 use Rattle.sizes.specs.Ciphers.{vectorOctets, noVector}
 use Rattle.openings.specs.Samples.{scramble0001, desABCD, seed}
@@ -42,12 +45,16 @@ finishNumber c k = numberOf (finishOf (holding c k) c 0 .0)
 abbrev pub bookOfTwo : List ℕ
 bookOfTwo = (1 ∷ 0 ∷ 2 ∷ 1 ∷ scramble0001) ++ ((2 ∷ 0 ∷ 8 ∷ 1 ∷ desABCD) ++ replicate (14 * entryOctets) 0)
 
--- at half rate a scramble receiver at position p, and a DES receiver at position p that does not know its session's vector
-abbrev pub scrambling : ℕ → ℕ → Call
-scrambling m p = written (receiving (termsOf 1 scramble0001 halfRate m) p (told noVector))
+-- at half rate a scramble receiver at position p, and a DES receiver at position p that does not know its session's vector, by what they have counted
+abbrev pub scrambling : ℕ → ℕ → Counts → Call
+scrambling m p n = written n (receiving (termsOf 1 scramble0001 halfRate m) p (told noVector))
 
-abbrev pub waiting : ℕ → ℕ → Call
-waiting m p = written (receiving (termsOf 2 desABCD halfRate m) p unknown)
+abbrev pub waiting : ℕ → ℕ → Counts → Call
+waiting m p n = written n (receiving (termsOf 2 desABCD halfRate m) p unknown)
+
+-- after s held slots of one mask
+abbrev pub heldCounts : ℕ → ℕ → Counts
+heldCounts mask s = countsOf 0 (s * wordsIn mask) (s * (4 - wordsIn mask)) 0
 
 -- 8001000600140000F002200CC0000000000000000000000000000000
 abbrev pub frame8001 : List ℕ
@@ -71,7 +78,7 @@ pub record Marked : Type 0 where
   -- scramble key 0001: P0 to P31 are 80010006
   pub example-1 : octetsFrom 4 (P key0001) ≡ 0x80 ∷ 0x01 ∷ 0x00 ∷ 0x06 ∷ []
   -- an all-zero frame, mask 3, that key, slot 0: the frame above
-  pub example-2 : (m : ℕ) → m ≤ 1 → voiceOf (scrambling m 0) 3 (replicate 28 0) ≡ (Done, (scrambling m 1, frame8001))
+  pub example-2 : (m : ℕ) → m ≤ 1 → voiceOf (scrambling m 0 noCounts) 3 (replicate 28 0) ≡ (Done, (scrambling m 1 (countsOf 2 0 2 0), frame8001))
   -- "ABCDEFGHIJKLMNOPQRST", that key: C143434245524730485A4D2C580E30D150545540. Whatever the two octets before them
   pub example-3 : (h0 h1 : ℕ) → messageOf dcalls (h0 ∷ h1 ∷ letters) ≡ (Done, (counted dcalls, h0 ∷ h1 ∷ lettersTurned))
   -- L(ABCDEF1234567890) = 8B8DDEEB890F4CF1
@@ -95,16 +102,17 @@ pub record Marked : Type 0 where
       × (ofMessage (stream 2 key vector) 3 1 0 ≡ bit (usedBlock (des key) vector 1) 48)
   -- a DES join, then four voice slots: 1 each; then announce: 0. Announce after three: 9. With any mask, any frame and any vector
   pub example-11 : (m : ℕ) → m ≤ 1
-      → (joinOf noCall 2 0 halfRate m bookOfTwo ≡ (Done, waiting m 4))
+      → (joinOf noCall 2 0 halfRate m bookOfTwo ≡ (Done, waiting m 4 noCounts))
       × ((mask : ℕ) (frame : List ℕ) → mask ≤ topMask → length frame ≡ 28
-      → (voiceOf (waiting m 4) mask frame ≡ (Held, (waiting m 5, frame)))
-      × (voiceOf (waiting m 5) mask frame ≡ (Held, (waiting m 6, frame)))
-      × (voiceOf (waiting m 6) mask frame ≡ (Held, (waiting m 7, frame)))
-      × (voiceOf (waiting m 7) mask frame ≡ (Held, (waiting m 0, frame))))
-      × ((w : List ℕ) → length w ≡ vectorOctets → announceOf (waiting m 0) w ≡ (Done, written (receiving (termsOf 2 desABCD halfRate m) 0 (told w))))
-      × ((w : List ℕ) → length w ≡ vectorOctets → announceOf (waiting m 7) w ≡ (NotNow, waiting m 7))
+      → (voiceOf (waiting m 4 noCounts) mask frame ≡ (Held, (waiting m 5 (heldCounts mask 1), frame)))
+      × (voiceOf (waiting m 5 (heldCounts mask 1)) mask frame ≡ (Held, (waiting m 6 (heldCounts mask 2), frame)))
+      × (voiceOf (waiting m 6 (heldCounts mask 2)) mask frame ≡ (Held, (waiting m 7 (heldCounts mask 3), frame)))
+      × (voiceOf (waiting m 7 (heldCounts mask 3)) mask frame ≡ (Held, (waiting m 0 (heldCounts mask 4), frame))))
+      × ((mask : ℕ) (w : List ℕ) → length w ≡ vectorOctets
+      → (announceOf (waiting m 0 (heldCounts mask 4)) w ≡ (Done, written (heldCounts mask 4) (receiving (termsOf 2 desABCD halfRate m) 0 (told w))))
+      × (announceOf (waiting m 7 (heldCounts mask 3)) w ≡ (NotNow, waiting m 7 (heldCounts mask 3))))
   -- vector zero, as document 02 has it: DES open 0, DES start 8; scramble open 0
   pub example-12 : (m : ℕ) → m ≤ 1
-      → (openOf noCall 2 0 halfRate m noVector bookOfTwo ≡ (Done, written (receiving (termsOf 2 desABCD halfRate m) 0 (told noVector))))
+      → (openOf noCall 2 0 halfRate m noVector bookOfTwo ≡ (Done, written noCounts (receiving (termsOf 2 desABCD halfRate m) 0 (told noVector))))
       × (startOf noCall 2 0 halfRate noVector bookOfTwo ≡ (ZeroVector, noCall))
-      × (openOf noCall 1 0 halfRate m noVector bookOfTwo ≡ (Done, scrambling m 0))
+      × (openOf noCall 1 0 halfRate m noVector bookOfTwo ≡ (Done, scrambling m 0 noCounts))

@@ -1,10 +1,9 @@
 -- Demand 3, what a receiver is told of a call: the opening, or that it joins; each slot in turn; and a vector as its session starts.
 use mathlib.Core.List.{List, [], _∷_, _++_, map}
 use mathlib.Core.Bool.{Bool, true, false, _&&_, _||_, not}
-use Prim.Native.Nat.{ℕ}
+use Prim.Native.Nat.{ℕ, suc, _≤_}
 use lib.ListN.{drop}
-use Rattle.sizes.specs.Ciphers.{scrambles}
-use Rattle.voice.specs.Opening.{superframeSlots}
+use Rattle.sizes.specs.Ciphers.{scrambles, superframeSlots}
 use Rattle.demands.specs.Talk.{Slot, Session, Talk, WayIn, opening, joining}
 
 pub data Notice : Type 0 where
@@ -16,6 +15,15 @@ pub data Notice : Type 0 where
   lost : Notice
   -- a slot that arrives, and whether its session counts as reached
   voice : Bool → Slot → Notice
+
+-- how many slots it is told of, arrived or lost
+abbrev pub slotsTold : List Notice → ℕ
+slotsTold [] = 0
+slotsTold (hear v ∷ ns) = slotsTold ns
+slotsTold (join ∷ ns) = slotsTold ns
+slotsTold (announce v ∷ ns) = slotsTold ns
+slotsTold (lost ∷ ns) = suc (slotsTold ns)
+slotsTold (voice reached x ∷ ns) = suc (slotsTold ns)
 
 -- a session counts as reached where its vector reached the receiver; scramble needs none
 abbrev pub isReached : ℕ → Bool → Bool
@@ -52,3 +60,7 @@ openingNotices c (x ∷ xs) = hear (x .vector) ∷ firstNotices c true 0 (x ∷ 
 abbrev pub noticesOf : Talk → WayIn → List Notice
 noticesOf t opening = openingNotices (t .cipher) (t .sessions)
 noticesOf t (joining n) = join ∷ firstNotices (t .cipher) false superframeSlots (drop n (t .sessions))
+
+-- at most as many slots as one receiving call may be told of (document 02, W-207)
+abbrev pub WithinLimit : Talk → WayIn → Type 0
+WithinLimit t e = slotsTold (noticesOf t e) ≤ 1000000

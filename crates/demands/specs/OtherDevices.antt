@@ -1,18 +1,19 @@
--- Devices that demand 1 throws out: each does what the user fears.
-use mathlib.Core.Bool.{Bool, true, false}
+-- Devices that demand 1 throws out: each does what the user fears. And devices that count wrong (document 02, W-207).
+use mathlib.Core.Bool.{Bool, true, false, _&&_}
 use mathlib.Core.List.{List, [], _∷_}
-use Prim.Native.Nat.{ℕ}
+use Prim.Native.Nat.{ℕ, _+_}
 use lib.Dec.{leb, eqb}
-use lib.ListN.{replicate}
+use lib.ListN.{getD, replicate}
 use Rattle.octets.specs.Tests.{pick}
 use Rattle.answers.specs.declared.Answer.{Answer}
 use Rattle.answers.specs.declared.Answer.the-variants.{Done, Held, NotReady, NotNow}
-use Rattle.answers.specs.Numbers.{numberOf}
+use Rattle.answers.specs.Numbers.{numberOf, isDone}
 use Rattle.answers.specs.Outcomes.{Refusals, outcome}
 use Rattle.keybook.specs.Book.{bookOctets, goodBook}
 use Rattle.openings.specs.Ladder.{sessionVector, keyFor}
 use Rattle.voice.specs.declared.call.Call.{Call}
 use Rattle.voice.specs.Call.{sendingEnd, receivingEnd, byDefault, standing, termsOf, noCall, written}
+use Rattle.voice.specs.Counts.{noCounts}
 use Rattle.voice.specs.Opening.{begun, joined}
 use Rattle.voice.specs.Slot.{streamOf, inSlot}
 use Rattle.voice.specs.Vector.{withVector}
@@ -93,9 +94,9 @@ module _ (isHasty : CallOperation → Bool) where
   hastily b c o after = withNone (outcome c (pick (isHasty o) (unasked (numberOf NotReady) (callRefusals b c o)) (callRefusals b c o)) after)
 
   abbrev pub hastyCall : List ℕ → Call → CallOperation → Answer × (Call × List ℕ)
-  hastyCall b c (Open cipher i rate s w) = hastily b c (Open cipher i rate s w) (written (begun receivingEnd (termsOf cipher (keyFor b cipher i) rate s) (sessionVector cipher w)))
-  hastyCall b c (Start cipher i rate w) = hastily b c (Start cipher i rate w) (written (begun sendingEnd (termsOf cipher (keyFor b cipher i) rate byDefault) (sessionVector cipher w)))
-  hastyCall b c (Join cipher i rate s) = hastily b c (Join cipher i rate s) (written (joined (termsOf cipher (keyFor b cipher i) rate s)))
+  hastyCall b c (Open cipher i rate s w) = hastily b c (Open cipher i rate s w) (written noCounts (begun receivingEnd (termsOf cipher (keyFor b cipher i) rate s) (sessionVector cipher w)))
+  hastyCall b c (Start cipher i rate w) = hastily b c (Start cipher i rate w) (written noCounts (begun sendingEnd (termsOf cipher (keyFor b cipher i) rate byDefault) (sessionVector cipher w)))
+  hastyCall b c (Join cipher i rate s) = hastily b c (Join cipher i rate s) (written noCounts (joined (termsOf cipher (keyFor b cipher i) rate s)))
   hastyCall b c (Voice mask frame) = callStep b c (Voice mask frame)
   hastyCall b c Lost = callStep b c Lost
   hastyCall b c End = callStep b c End
@@ -115,8 +116,41 @@ module _ (isEager : Call → Bool) where
   eagerCall b c Lost = callStep b c Lost
   eagerCall b c End = callStep b c End
   eagerCall b c (Announce w) =
-      withNone (outcome c (pick (isEager c) (unasked (numberOf NotNow) (callRefusals b c (Announce w))) (callRefusals b c (Announce w))) (written (withVector w (standing c))))
+      withNone (outcome c (pick (isEager c) (unasked (numberOf NotNow) (callRefusals b c (Announce w))) (callRefusals b c (Announce w))) (written (c .counts) (withVector w (standing c))))
   eagerCall b c (NextVector out) = callStep b c (NextVector out)
 
   abbrev pub eager : Step
   eager = byCalls eagerCall
+
+-- ---- devices that are ours but for the counts that they hand out
+
+abbrev ends : CallOperation → Bool
+ends (Open c i r s w) = false
+ends (Start c i r w) = false
+ends (Join c i r s) = false
+ends (Voice mask frame) = false
+ends Lost = false
+ends End = true
+ends (Announce w) = false
+ends (NextVector out) = false
+
+abbrev endsOne : Operation → Bool
+endsOne (OfBook o) = false
+endsOne (OfCall n o) = ends o
+endsOne (OfPacket n o) = false
+
+-- where end is done it hands out f of the counts
+abbrev pub handing : (List ℕ → List ℕ) → Step
+handing f d o = let r = step d o in (r .0, (r .1 .0, pick (isDone (r .0) && endsOne o) (f (r .1 .1)) (r .1 .1)))
+
+-- it never counts
+abbrev pub uncounted : List ℕ → List ℕ
+uncounted xs = 0 ∷ 0 ∷ 0 ∷ 0 ∷ []
+
+-- held and replaced words are exchanged
+abbrev pub exchanged : List ℕ → List ℕ
+exchanged xs = getD xs 0 0 ∷ getD xs 2 0 ∷ getD xs 1 0 ∷ getD xs 3 0 ∷ []
+
+-- held words are passed off as opened
+abbrev pub passedOff : List ℕ → List ℕ
+passedOff xs = (getD xs 0 0 + getD xs 1 0) ∷ 0 ∷ getD xs 2 0 ∷ getD xs 3 0 ∷ []

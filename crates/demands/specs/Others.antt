@@ -4,7 +4,7 @@ use mathlib.Core.Path.{_≡_}
 use mathlib.Core.Bool.{true, _&&_, not}
 use mathlib.Core.Logic.{_⊎_}
 use mathlib.Core.List.{List}
-use Prim.Native.Nat.{ℕ, zero, suc, _+_, _*_, _/_, _%_, _<_}
+use Prim.Native.Nat.{ℕ, suc, _+_, _*_, _/_, _%_, _<_}
 use lib.Dec.{ltb, eqb}
 use Rattle.octets.specs.Tests.{pick}
 use Rattle.octets.specs.Bits.{bit}
@@ -14,7 +14,7 @@ use Rattle.generator.specs.Generator.{nextVector}
 use Rattle.sizes.specs.Ciphers.{sessionSlots}
 use Rattle.voice.specs.declared.call.Call.{Call}
 use Rattle.sizes.specs.Frame.{width}
-use Rattle.voice.specs.Frame.{inMask, ofSlot, protect}
+use Rattle.voice.specs.Frame.{inMask, wordsBefore, ofSlot, protect}
 use Rattle.voice.specs.Call.{carriedVector, callAt, noCall}
 use Rattle.voice.specs.Opening.{openOf}
 use Rattle.voice.specs.Slot.{lostOf, voiceOf}
@@ -121,7 +121,7 @@ atOnce strictness w =
 
 abbrev pub wentOn : (List ℕ → List ℕ) → Call → Call → Call
 wentOn f s d =
-    pick (eqb (d .known) carriedVector && (eqb (d .position) 0 && not (eqb (s .position) 0))) (callAt (d .end) (d .terms) 0 carriedVector (f (s .vector))) d
+    pick (eqb (d .known) carriedVector && (eqb (d .position) 0 && not (eqb (s .position) 0))) (callAt (d .end) (d .terms) 0 carriedVector (f (s .vector)) (d .counts)) d
 
 abbrev pub goingOnWith : (List ℕ → List ℕ) → (List ℕ → Call → Answer × Call) → Receiver
 goingOnWith f announce =
@@ -159,10 +159,6 @@ identity r ks p mask frame = frame
 abbrev pub restarting : Sending
 restarting r ks p mask frame = protect (width r) (ofSlot (width r) ks 0) mask frame
 
--- version two: keystream is spent only on the words that are sent. How many words before word w are
-abbrev pub spent : ℕ → ℕ → ℕ
-spent mask zero = 0
-spent mask (suc w) = pick (inMask mask w) 1 0 + spent mask w
-
+-- version two: keystream is spent only on the words that are sent
 abbrev pub saving : Sending
-saving r ks p mask frame = protect (width r) (λ n. ofSlot (width r) ks p (width r * spent mask (n / width r) + n % width r)) mask frame
+saving r ks p mask frame = protect (width r) (λ n. ofSlot (width r) ks p (width r * wordsBefore mask (n / width r) + n % width r)) mask frame

@@ -30,8 +30,8 @@ abbrev pub callRefusals : List ℕ → Call → CallOperation → Refusals
 callRefusals b c (Open cipher i rate s w) = begunRefusals receivingEnd (standing c) cipher i rate s w b
 callRefusals b c (Start cipher i rate w) = begunRefusals sendingEnd (standing c) cipher i rate byDefault w b
 callRefusals b c (Join cipher i rate s) = joinRefusals (standing c) cipher i rate s b
-callRefusals b c (Voice mask frame) = voiceRefusals (standing c) mask frame
-callRefusals b c Lost = lostRefusals (standing c)
+callRefusals b c (Voice mask frame) = voiceRefusals c mask frame
+callRefusals b c Lost = lostRefusals c
 callRefusals b c End = endRefusals (standing c)
 callRefusals b c (Announce w) = announceRefusals (standing c) w
 callRefusals b c (NextVector out) = nextRefusals (standing c) out
@@ -71,10 +71,10 @@ withoutCall = ofGiven ++ ofBook
 abbrev pub withoutBook : List ℕ
 withoutBook = ofGiven ++ ofCall
 
--- the paper's two exceptions: a frame's length depends on its call (document 02, W-205), so there 10, 4 and 9 come before 2; and a data message's
+-- the paper's two exceptions: a frame's length depends on its call (document 02, W-205), so there 10, 4, 9 and 16 come before 2; and a data message's
 -- on its packet, so there 4 and 9 do
 abbrev pub voiceOrder : List ℕ
-voiceOrder = 10 ∷ 4 ∷ 9 ∷ 2 ∷ []
+voiceOrder = 10 ∷ 4 ∷ 9 ∷ 16 ∷ 2 ∷ []
 
 abbrev pub messageOrder : List ℕ
 messageOrder = 4 ∷ 9 ∷ 2 ∷ []

@@ -16,6 +16,7 @@ use Rattle.voice.specs.Frame.{inMask}
 use Rattle.voice.specs.Call.{receivingEnd, goodCall}
 use Rattle.voice.specs.Slot.{lostOf, voiceOf}
 use Rattle.demands.specs.Rates.{half, full}
+use Rattle.demands.specs.Demand1.{BelowLimit}
 
 -- a slot that is done, and whose mask has its last word
 pub record LastWord (call : Call) (mask : ℕ) (frame : List ℕ) : Type 0 where
@@ -40,6 +41,6 @@ pub record SessionEnds : Type 0 where
   -- and after the last slot, done or held, a call is at position 0 under the same terms, its rate among them, at either end
   pub next : (call : Call) → call .position + 1 ≡ sessionSlots (call .terms .cipher) → (mask : ℕ) (frame : List ℕ) → numberOf (voiceOf call mask frame .0) < 2
       → (voiceOf call mask frame .1 .0 .position ≡ 0) × (voiceOf call mask frame .1 .0 .terms ≡ call .terms)
-  -- and so is a good receiver after a lost one
-  pub next-lost : (call : Call) → goodCall call ≡ true → call .end ≡ receivingEnd → call .position + 1 ≡ sessionSlots (call .terms .cipher)
+  -- and so is a good receiver after a lost one, below its limit
+  pub next-lost : (call : Call) → goodCall call ≡ true → call .end ≡ receivingEnd → BelowLimit call → call .position + 1 ≡ sessionSlots (call .terms .cipher)
       → (lostOf call .1 .position ≡ 0) × (lostOf call .1 .terms ≡ call .terms)

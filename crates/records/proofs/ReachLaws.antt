@@ -21,6 +21,7 @@ use Rattle.keybook.proofs.GoodLaws.{good-sized, found-for}
 use Rattle.openings.specs.Ladder.{keyRefusals, zeroRefusals, vectorRefusals}
 use Rattle.voice.specs.declared.call.Call.{Call}
 use Rattle.voice.specs.Call.{receivingEnd, strict, termsRight, standing, isBad, widthIn, stands, knows, endRefusals, endOf}
+use Rattle.voice.specs.Counts.{noCounts}
 use Rattle.voice.specs.Opening.{joinRefusals, begunRefusals, openOf, joinOf}
 use Rattle.sizes.specs.Frame.{halfRate, isRate, width, frameOctets}
 use Rattle.voice.specs.Slot.{lostRefusals, lostOf, voiceRefusals, streamOf, voiceAfter, voiceBy, voiceOf}
@@ -126,9 +127,9 @@ module _ (book : List ℕ) (call : Call) (s : Sound book call) where
   voice-can : (mask : ℕ) (frame : List ℕ) → length frame ≡ recordFrame → Can (Voice mask frame) (voiceOf call mask frame .0)
   unfolding voiceBy voiceRefusals
   voice-can mask frame l =
-      gives (Can (Voice mask frame)) (call, frame) (voiceRefusals (standing call) mask frame) (voiceAfter streamOf mask frame (standing call))
-      (λ h. refl, λ _. (good-stays, λ _. (λ h. refl, λ n. (never-not (eq-eqb _ _ (as-long frame l n)), λ _. tt))))
-      (taken (numberOf (voiceAfter streamOf mask frame (standing call) .0)) (taken-under-two (knows (standing call))))
+      gives (Can (Voice mask frame)) (call, frame) (voiceRefusals call mask frame) (voiceAfter streamOf mask frame (call .counts) (standing call))
+      (λ h. refl, λ _. (good-stays, λ _. (λ h. refl, λ n. (λ h. refl, λ _. (never-not (eq-eqb _ _ (as-long frame l n)), λ _. tt)))))
+      (taken (numberOf (voiceAfter streamOf mask frame (call .counts) (standing call) .0)) (taken-under-two (knows (standing call))))
     where
       taken : (n : ℕ) → n < 2 → isOneOf n (answersTo (Voice mask frame)) ≡ true
       taken zero h = refl
@@ -143,11 +144,11 @@ module _ (book : List ℕ) (call : Call) (s : Sound book call) where
 
   lost-can : Can Lost (lostOf call .0)
   unfolding lostOf lostRefusals
-  lost-can = gives (Can Lost) call (lostRefusals (standing call)) _ (good-stays, λ _. (λ h. refl, λ _. tt)) refl
+  lost-can = gives (Can Lost) call (lostRefusals call) _ (good-stays, λ _. (λ h. refl, λ _. (λ h. refl, λ _. tt))) refl
 
   end-can : Can End (endOf call .0)
   unfolding endOf endRefusals
-  end-can = gives (Can End) call (endRefusals (standing call)) _ (good-stays, λ _. (λ h. refl, λ _. tt)) refl
+  end-can = gives (Can End) (call, noCounts) (endRefusals (standing call)) _ (good-stays, λ _. (λ h. refl, λ _. tt)) refl
 
   pub step-can : (line : List ℕ) (r : Record) → lineOf line ≡ r → Can r (stepOf r book call .answer)
   unfolding stepOf

@@ -23,8 +23,10 @@ use Rattle.keybook.proofs.GoodLaws.{entry-octet}
 use Rattle.keybook.proofs.HoldLaws.{always-good}
 use Rattle.openings.specs.Ladder.{sessionVector, keyFor}
 use Rattle.voice.specs.declared.call.Terms.{Terms}
+use Rattle.voice.specs.declared.counts.Counts.{Counts}
 use Rattle.voice.specs.declared.call.Call.{Call}
-use Rattle.voice.specs.Call.{sendingEnd, receivingEnd, carriedVector, strict, goodCall, Known, knownBy, Standing, closed, receiving, standing, termsOf, noCall, written, endRefusals, endOf}
+use Rattle.voice.specs.Call.{sendingEnd, receivingEnd, carriedVector, strict, goodCall, Known, knownBy, Standing, closed, receiving, standing, termsOf, noCall, written, knows, endRefusals, endOf}
+use Rattle.voice.specs.Counts.{noCounts, plus, lostWords, arrivedWords}
 use Rattle.voice.specs.Opening.{joinRefusals, begunRefusals, begun, openOf, joined, joinOf}
 use Rattle.voice.specs.Slot.{ridden, slotOn, lostRefusals, lostOf, voiceRefusals, streamOf, voiceAfter, voiceBy, voiceOf}
 use Rattle.voice.specs.Vector.{withVector, announceRefusals, announceOf}
@@ -97,43 +99,44 @@ Heard c = HeardBy (c .end) (c .terms)
 none-heard : Heard noCall
 none-heard = (λ e. omega arith, refl, λ e. absurd (omega arith))
 
-one-of-two : (t : Bool) (x y : Standing) → Heard (written x) → Heard (written y) → Heard (written (pick t x y))
-one-of-two true x y p q = p
-one-of-two false x y p q = q
+one-of-two : (n : Counts) (t : Bool) (x y : Standing) → Heard (written n x) → Heard (written n y) → Heard (written n (pick t x y))
+one-of-two n true x y p q = p
+one-of-two n false x y p q = q
 
 module _ (c : Call) (good : goodCall c ≡ true) (h : Heard c) where
   -- by what it stands for, closed or receiving
-  by-receiver : (f : Standing → Standing) → Heard (written (f closed))
-      → ((t : Terms) → HeardBy receivingEnd t → (p : ℕ) (k : Known) → Heard (written (f (receiving t p k)))) → Heard (written (f (standing c)))
-  by-receiver f p q = by-stands c good (λ o e s. rw s p) (λ o e s. absurd (h .0 e)) (λ o e s. rw s (q (c .terms) (rw e at h) (c .position) (knownBy (c .known) (c .vector))))
+  by-receiver : (n : Counts) (f : Standing → Standing) → Heard (written n (f closed))
+      → ((t : Terms) → HeardBy receivingEnd t → (p : ℕ) (k : Known) → Heard (written n (f (receiving t p k)))) → Heard (written n (f (standing c)))
+  by-receiver n f p q = by-stands c good (λ o e s. rw s p) (λ o e s. absurd (h .0 e)) (λ o e s. rw s (q (c .terms) (rw e at h) (c .position) (knownBy (c .known) (c .vector))))
 
-  slot-ends : Heard (written (slotOn (standing c)))
+  slot-ends : (n : Counts) → Heard (written n (slotOn (standing c)))
   unfolding slotOn
-  slot-ends =
-      by-receiver slotOn none-heard
-      (λ t r p k. one-of-two (ltb (p + 1) (sessionSlots (t .cipher))) (receiving t (p + 1) k) (receiving t 0 (ridden t k)) r r)
+  slot-ends n =
+      by-receiver n slotOn none-heard
+      (λ t r p k. one-of-two n (ltb (p + 1) (sessionSlots (t .cipher))) (receiving t (p + 1) k) (receiving t 0 (ridden t k)) r r)
 
   unless : {S : Type 0} (f : S → Call) (before : S) (rs : Refusals) (last : Answer × S) → Heard (f before) → Heard (f (last .1)) → Heard (f (settled before rs last .1))
   unless f before rs last p q = by-refusals (λ o. Heard (f (o .1))) before rs last (λ a m. p) (λ n. q)
 
-  end-ends : Heard (endOf c .1)
+  end-ends : Heard (endOf c .1 .0)
   unfolding endOf
-  end-ends = unless (λ d. d) c (endRefusals (standing c)) (Done, written closed) h none-heard
+  end-ends = unless (λ (d : Call × Counts). d .0) (c, noCounts) (endRefusals (standing c)) (Done, (noCall, c .counts)) h none-heard
 
   lost-ends : Heard (lostOf c .1)
   unfolding lostOf
-  lost-ends = unless (λ d. d) c (lostRefusals (standing c)) (Done, written (slotOn (standing c))) h slot-ends
+  lost-ends = unless (λ d. d) c (lostRefusals c) (Done, written (plus (c .counts) lostWords) (slotOn (standing c))) h (slot-ends (plus (c .counts) lostWords))
 
   voice-ends : (mask : ℕ) (frame : List ℕ) → Heard (voiceOf c mask frame .1 .0)
   unfolding voiceBy
   voice-ends mask frame =
-      unless (λ (d : Call × List ℕ). d .0) (c, frame) (voiceRefusals (standing c) mask frame) (voiceAfter streamOf mask frame (standing c)) h slot-ends
+      unless (λ (d : Call × List ℕ). d .0) (c, frame) (voiceRefusals c mask frame) (voiceAfter streamOf mask frame (c .counts) (standing c)) h
+      (slot-ends (plus (c .counts) (arrivedWords mask (knows (standing c)))))
 
   announce-ends : (w : List ℕ) → Heard (announceOf c w .1)
   unfolding announceOf
   announce-ends w =
-      unless (λ d. d) c (announceRefusals (standing c) w) (Done, written (withVector w (standing c))) h
-      (by-receiver (withVector w) none-heard (λ t r p k. r))
+      unless (λ d. d) c (announceRefusals (standing c) w) (Done, written (c .counts) (withVector w (standing c))) h
+      (by-receiver (c .counts) (withVector w) none-heard (λ t r p k. r))
 
   module _ (n i : ℕ) (b : List ℕ) where
     abbrev terms : Terms
@@ -144,11 +147,11 @@ module _ (c : Call) (good : goodCall c ≡ true) (h : Heard c) where
 
     open-ends : (w : List ℕ) → Heard (openOf c n i halfRate strict w b .1)
     unfolding openOf
-    open-ends w = unless (λ d. d) c (begunRefusals receivingEnd (standing c) n i halfRate strict w b) (Done, written (begun receivingEnd terms (sessionVector n w))) h asked
+    open-ends w = unless (λ d. d) c (begunRefusals receivingEnd (standing c) n i halfRate strict w b) (Done, written noCounts (begun receivingEnd terms (sessionVector n w))) h asked
 
     join-ends : Heard (joinOf c n i halfRate strict b .1)
     unfolding joinOf
-    join-ends = unless (λ d. d) c (joinRefusals (standing c) n i halfRate strict b) (Done, written (joined terms)) h asked
+    join-ends = unless (λ d. d) c (joinRefusals (standing c) n i halfRate strict b) (Done, written noCounts (joined terms)) h asked
 
 -- ---- so each record keeps them
 

@@ -31,7 +31,7 @@ use Rattle.lines.specs.declared.record.Parsed.the-variants as code
 use Rattle.lines.specs.Record.{recordFrame, recordRoom, recordIn, keyCount}
 use Rattle.records.specs.declared.step.Outcome.{Outcome}
 use Rattle.keybook.specs.Operations.{loadOf}
-use Rattle.records.specs.Step.{Effect, bookStep, callStep, slotStep, stepOf, asEffect}
+use Rattle.records.specs.Step.{Effect, bookStep, callStep, withoutCounts, slotStep, stepOf, asEffect}
 use Rattle.records.specs.Lent.{heldOctets, Cached}
 
 -- ---- the session's octets
@@ -62,12 +62,12 @@ refused-by : (c : Call) (session : List ℕ) (mask : ℕ) (frame : List ℕ) →
 unfolding voiceBy
 refused-by c session mask frame r =
     let same : voiceBy (λ d. bit session) c mask frame ≡ voiceOf c mask frame =
-    refused-alike (c, frame) (voiceRefusals (standing c) mask frame) (voiceAfter (λ d. bit session) mask frame (standing c))
-    (voiceAfter streamOf mask frame (standing c)) (taken-under-two (knows (standing c))) r in
+    refused-alike (c, frame) (voiceRefusals c mask frame) (voiceAfter (λ d. bit session) mask frame (c .counts) (standing c))
+    (voiceAfter streamOf mask frame (c .counts) (standing c)) (taken-under-two (knows (standing c))) r in
     by-refused session c mask frame (rw same r) ∙ same
 
 -- and so is every slot of a V record's frame at full rate: one that is not refused is at half rate
-taken-half : (c : Call) (mask : ℕ) (frame : List ℕ) → length frame ≡ recordFrame → NoneHolds (voiceRefusals (standing c) mask frame) → c .terms .rate ≡ halfRate
+taken-half : (c : Call) (mask : ℕ) (frame : List ℕ) → length frame ≡ recordFrame → NoneHolds (voiceRefusals c mask frame) → c .terms .rate ≡ halfRate
 unfolding isRate
 taken-half c mask frame l n =
     same-rate (c .terms .rate) (rated c (none-good c mask frame n) (none-open c mask frame n)) halfRate refl (sym (none-long c mask frame n) ∙ l)
@@ -76,7 +76,7 @@ module _ (c : Call) (session : List ℕ) {held : Bool} (k : c .terms .rate ≡ h
     (mask : ℕ) (frame : List ℕ) (l : length frame ≡ recordFrame) where
   -- a slot that is taken is at half rate
   module _ (taken : numberOf (voiceOf c mask frame .0) < 2) where
-    none : NoneHolds (voiceRefusals (standing c) mask frame)
+    none : NoneHolds (voiceRefusals c mask frame)
     none = voice-taken streamOf c mask frame taken
 
     half : c .terms .rate ≡ halfRate
@@ -152,7 +152,7 @@ module _ (p : Parsed) (octets book : List ℕ) (call : Call) where
   unfolding stepOf
   lost-is e = rw e
 
-  pub end-is : p ≡ code.End → stepOf (recordIn p octets) book call ≡ callStep book (endOf call)
+  pub end-is : p ≡ code.End → stepOf (recordIn p octets) book call ≡ callStep book (withoutCounts (endOf call))
   unfolding stepOf
   end-is e = rw e
 

@@ -6,6 +6,7 @@ use Rattle.answers.specs.declared.Answer.{Answer}
 use Rattle.answers.specs.Numbers.{isDone}
 use Rattle.answers.specs.declared.Answer.the-variants as answer
 use Rattle.sizes.specs.Frame.{halfRate}
+use Rattle.voice.specs.declared.counts.Counts.{Counts}
 use Rattle.voice.specs.declared.call.Call.{Call}
 use Rattle.voice.specs.Call.{strict, endOf}
 use Rattle.voice.specs.Opening.{openOf, joinOf}
@@ -28,6 +29,10 @@ bookStep call o = record { answer = o .0; book = o .1; call = call; frame = [] }
 abbrev pub callStep : List ℕ → Answer × Call → Effect
 callStep book o = record { answer = o .0; book = book; call = o .1; frame = [] }
 
+-- the counts that end hands out are not printed
+abbrev pub withoutCounts : Answer × (Call × Counts) → Answer × Call
+withoutCounts o = (o .0, o .1 .0)
+
 -- a slot shows its frame where it is done; a held one does not
 abbrev pub slotStep : List ℕ → Answer × (Call × List ℕ) → Effect
 slotStep book o = record { answer = o .0; book = book; call = o .1 .0; frame = pick (isDone (o .0)) (o .1 .1) [] }
@@ -40,7 +45,7 @@ stepOf (Join c i) book call = callStep book (joinOf call c i halfRate strict boo
 stepOf (Voice mask frame) book call = slotStep book (voiceOf call mask frame)
 stepOf (Announce vector) book call = callStep book (announceOf call vector)
 stepOf Lost book call = callStep book (lostOf call)
-stepOf End book call = callStep book (endOf call)
+stepOf End book call = callStep book (withoutCounts (endOf call))
 stepOf Malformed book call = callStep book (answer.Malformed, call)
 
 -- as the code has it

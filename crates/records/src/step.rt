@@ -6,11 +6,11 @@ ghost use lib.ListN.{length, take};
 ghost use Rattle.octets.specs.Tests.{pick};
 ghost use Rattle.answers.specs.Numbers.{numberOf, isDone};
 ghost use Rattle.sizes.specs.Ciphers.{scrambles};
-ghost use Rattle.voice.specs.Call.{standing, knows};
+ghost use Rattle.voice.specs.Call.{standing, knows, endOf};
 ghost use Rattle.sizes.specs.Frame.{halfRate};
 ghost use Rattle.voice.specs.Slot.{lostOf, voiceOf};
 ghost use Rattle.lines.specs.Record.{recordFrame, recordRoom, recordIn, keyCount};
-ghost use Rattle.records.specs.Step.{asEffect, stepOf};
+ghost use Rattle.records.specs.Step.{withoutCounts, asEffect, stepOf};
 ghost use Rattle.records.specs.Lent.{Cached};
 use answers::Answer;
 use keybook::load;
@@ -21,6 +21,7 @@ use sizes::frame::HALF_FRAME_OCTETS;
 use sizes::frame::Half;
 use voice::call::Call;
 use voice::call::STRICT;
+use voice::call::Stepped;
 use voice::call::UNKNOWN;
 use voice::call::end;
 use voice::call::good_call;
@@ -84,7 +85,7 @@ fn no_frame(answer: Answer, call: Call, made: bool) -> Outcome
 }
 
 // A record after which the session's keystream is to be made anew. A refusal leaves the call, and its session as it was.
-fn anew(stepped: voice::call::Stepped, made: bool) -> Outcome
+fn anew(stepped: Stepped, made: bool) -> Outcome
     ensures { λ r. ⌜ (r .answer ≡ stepped .answer) × (r .call ≡ stepped .call) × (r .shown ≡ 0) ⌝ }
     ensures { λ r. ⌜ (r .made ≡ true → (made ≡ true) × (2 ≤ numberOf (stepped .answer))) ⌝ }
 {
@@ -141,6 +142,15 @@ fn lost_slot(call: Call, made: bool) -> Outcome
     }
 }
 
+fn ended(call: Call) -> Stepped
+    ensures { λ r. ⌜ (r .answer, r .call) ≡ withoutCounts (endOf call) ⌝ }
+{
+    let ended = end(call);
+    let answer = ended.answer;
+    let call = ended.call;
+    Stepped { answer, call }
+}
+
 // A record whose octets stand beside it: the frame of a voice slot is turned there.
 pub fn step(
     parsed: Parsed,
@@ -182,7 +192,7 @@ pub fn step(
         ),
         Parsed::Announce => anew(announce(call, &octets[..VECTOR_OCTETS]), made),
         Parsed::Lost => lost_slot(call, made),
-        Parsed::End => anew(end(call), made),
+        Parsed::End => anew(ended(call), made),
         Parsed::Malformed => no_frame(Answer::Malformed, call, made),
     }
 }

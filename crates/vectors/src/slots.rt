@@ -13,6 +13,7 @@ use voice::call::SENDING;
 use voice::call::Stepped;
 use voice::call::TOLD;
 use voice::call::Terms;
+use voice::counts::Counts;
 use voice::slot::voice;
 
 // The call after so many slots in which no word is turned, or the first answer that is not 0.
@@ -99,6 +100,12 @@ pub fn holds(row: &[u8], heard: bool) -> bool {
         position: 0,
         known: TOLD,
         vector,
+        counts: Counts {
+            opened: 0,
+            held: 0,
+            replaced: 0,
+            lost: 0,
+        },
     };
     let mut frame = [0u8; 36];
     turns_in(row, call, mask[0], &mut frame)

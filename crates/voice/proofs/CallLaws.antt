@@ -13,15 +13,18 @@ use Rattle.octets.specs.Lists.{allZero}
 use Rattle.octets.proofs.ListLaws.{zeros-are}
 use Rattle.octets.proofs.TestLaws.{and-left, and-right, or-right, or-left, not-so, every-at}
 use Rattle.sizes.specs.Ciphers.{sessionSlots, vectorOctets, noVector, scrambles}
-use Rattle.sizes.specs.Frame.{isRate}
+use Rattle.sizes.specs.Frame.{isRate, mostWords}
 use Rattle.sizes.proofs.SizeLaws.{by-rate}
 use Rattle.answers.specs.declared.Answer.{Answer}
 use Rattle.answers.specs.declared.Answer.the-variants.{Done}
 use Rattle.answers.proofs.OutcomeLaws.{NoneHolds, none-settles, Refuses, answerAt, refused-at}
+use Rattle.voice.specs.declared.counts.Counts.{Counts}
 use Rattle.voice.specs.declared.call.Terms.{Terms}
 use Rattle.voice.specs.declared.call.Call.{Call}
 use Rattle.ciphers.specs.Keys.{keyRight}
-use Rattle.voice.specs.Call.{closedEnd, sendingEnd, receivingEnd, unknownVector, toldVector, carriedVector, byDefault, termsRight, vectorRight, closedTests, openTests, isClosed, isOpen, goodCall, Known, isKnown, knownNumber, knownVector, knownBy, unknown, told, carried, isTold, untold, Standing, closed, bad, sending, receiving, standing, callAt, widthOf, written, isBad, widthIn, stands, receives, knows, endRefusals, endOf}
+use Rattle.voice.specs.Counts.{noCounts, total}
+use Rattle.voice.proofs.CountLaws.{none-counted, tallied}
+use Rattle.voice.specs.Call.{closedEnd, sendingEnd, receivingEnd, unknownVector, toldVector, carriedVector, byDefault, termsRight, vectorRight, countsRight, closedTests, openTests, isClosed, isOpen, goodCall, Known, isKnown, knownNumber, knownVector, knownBy, unknown, told, carried, isTold, untold, Standing, closed, bad, sending, receiving, standing, callAt, widthOf, noCall, written, isBad, widthIn, stands, receives, knows, endRefusals, endOf}
 
 -- ---- what is known of a vector
 
@@ -104,17 +107,17 @@ is-told n v = go (eqb n unknownVector) (eqb n toldVector) refl refl
     go false false p q = refl
 
 -- a receiver's struct, by what is known of its vector
-pub receiver-is : (t : Terms) (p known : ℕ) (v : List ℕ) → length v ≡ vectorOctets → vectorRight receivingEnd (t .cipher) (t .strictness) known (allZero v) ≡ true
-    → callAt receivingEnd t p known v ≡ written (receiving t p (knownBy known v))
-receiver-is t p known v l right =
-    by-known (λ n. callAt receivingEnd t p n v ≡ written (receiving t p (knownBy n v))) (t .cipher) (t .strictness) known (allZero v) right
-    (λ z. ap (callAt receivingEnd t p unknownVector) (zeros-are v vectorOctets l z)) refl refl
+pub receiver-is : (t : Terms) (p known : ℕ) (v : List ℕ) (n : Counts) → length v ≡ vectorOctets → vectorRight receivingEnd (t .cipher) (t .strictness) known (allZero v) ≡ true
+    → callAt receivingEnd t p known v n ≡ written n (receiving t p (knownBy known v))
+receiver-is t p known v n l right =
+    by-known (λ k. callAt receivingEnd t p k v n ≡ written n (receiving t p (knownBy k v))) (t .cipher) (t .strictness) known (allZero v) right
+    (λ z. ap (λ (w : List ℕ). callAt receivingEnd t p unknownVector w n) (zeros-are v vectorOctets l z)) refl refl
 
 -- and of one that was told no vector
-pub untold-is : (t : Terms) (p : ℕ) {n : ℕ} → n ≡ knownNumber (untold (t .cipher)) → callAt receivingEnd t p n noVector ≡ written (receiving t p (untold (t .cipher)))
-untold-is t p e = ap (λ (n : ℕ). callAt receivingEnd t p n noVector) e ∙ go (scrambles (t .cipher))
+pub untold-is : (t : Terms) (p : ℕ) (n : Counts) {k : ℕ} → k ≡ knownNumber (untold (t .cipher)) → callAt receivingEnd t p k noVector n ≡ written n (receiving t p (untold (t .cipher)))
+untold-is t p n e = ap (λ (k : ℕ). callAt receivingEnd t p k noVector n) e ∙ go (scrambles (t .cipher))
   where
-    go : (b : Bool) → callAt receivingEnd t p (knownNumber (pick b (told noVector) unknown)) noVector ≡ written (receiving t p (pick b (told noVector) unknown))
+    go : (b : Bool) → callAt receivingEnd t p (knownNumber (pick b (told noVector) unknown)) noVector n ≡ written n (receiving t p (pick b (told noVector) unknown))
     go true = refl
     go false = refl
 
@@ -162,6 +165,10 @@ module _ (c : Call) where
   pub open-vector : isOpen c ≡ true → vectorRight (c .end) (c .terms .cipher) (c .terms .strictness) (c .known) (allZero (c .vector)) ≡ true
   unfolding isOpen openTests
   open-vector = every-at (openTests c) 5
+
+  pub open-counts : isOpen c ≡ true → countsRight (c .end) (c .terms .cipher) (c .terms .strictness) (c .known) (c .position) (c .counts) ≡ true
+  unfolding isOpen openTests
+  open-counts = every-at (openTests c) 6
 
   not-closed : (c .end ≡ 0 → ⊥) → isClosed c ≡ false
   not-closed n = not-so (isClosed c) (λ e. n (closed-end e))
@@ -259,6 +266,9 @@ module _ (c : Call) where
     pub is-receiver : c .end ≡ receivingEnd → standing c ≡ receiving (c .terms) (c .position) (knownBy (c .known) (c .vector))
     is-receiver z = by-stands c good (λ o e s. absurd (omega arith)) (λ o e s. absurd (omega arith)) (λ o e s. s)
 
+    pub receives-some : c .end ≡ receivingEnd → not (receives (standing c)) ≡ false
+    receives-some e = ap (λ (s : Standing). not (receives s)) (is-receiver e)
+
     pub receiver-right : c .end ≡ receivingEnd → vectorRight receivingEnd (c .terms .cipher) (c .terms .strictness) (c .known) (allZero (c .vector)) ≡ true
     receiver-right z = rw z at (open-vector c (open-by c good (λ e. omega arith)))
 
@@ -289,6 +299,18 @@ module _ (c : Call) where
       go : (t : Bool) → goodCall c ≡ t → t ≡ true
       go true g = refl
       go false g = absurd (true≢false (sym k ∙ knows-not g))
+
+  -- a sender's counts are zeros
+  pub open-none : isOpen c ≡ true → c .end ≡ sendingEnd → c .counts ≡ noCounts
+  unfolding countsRight
+  open-none o e = none-counted (c .counts) (eqb-true _ _ (rw e at (open-counts c o)))
+
+  -- and no good call's are more than a million slots'
+  pub counts-most : goodCall c ≡ true → total (c .counts) ≤ mostWords
+  unfolding isClosed closedTests countsRight
+  counts-most good =
+      by-stands c good (λ o e s. omega (arith, eqb-true (total (c .counts)) 0 (every-at (closedTests c) 8 o))) (λ o e s. rw (open-none o e) (omega arith))
+      (λ o e s. tallied (scrambles (c .terms .cipher)) (eqb (c .terms .strictness) byDefault && eqb (c .known) unknownVector) (c .position) (c .counts) (rw e at (open-counts c o)) .most)
 
   closed-unknown : isClosed c ≡ true → c .known ≡ unknownVector
   unfolding isClosed closedTests
@@ -333,27 +355,28 @@ module _ (c : Call) where
   known-width k = by-stands c (knows-good k) (λ o e s. absurd (true≢false (sym k ∙ ap knows s))) (λ o e s. ap widthIn s) (λ o e s. ap widthIn s)
 
   -- one that knows its vector is the struct of what it stands for
-  call-is : {e n : ℕ} → c .end ≡ e → c .known ≡ n → callAt e (c .terms) (c .position) n (c .vector) ≡ c
-  call-is p q = ap₂ (λ (e n : ℕ). callAt e (c .terms) (c .position) n (c .vector)) (sym p) (sym q)
+  call-is : {e n : ℕ} → c .end ≡ e → c .known ≡ n → callAt e (c .terms) (c .position) n (c .vector) (c .counts) ≡ c
+  call-is p q = ap₂ (λ (e n : ℕ). callAt e (c .terms) (c .position) n (c .vector) (c .counts)) (sym p) (sym q)
 
-  pub known-written : knows (standing c) ≡ true → written (standing c) ≡ c
+  pub known-written : knows (standing c) ≡ true → written (c .counts) (standing c) ≡ c
   known-written k =
-      by-stands c (knows-good k) (λ o e s. absurd (true≢false (sym k ∙ ap knows s))) (λ o e s. ap written s ∙ call-is e (open-told o e))
+      by-stands c (knows-good k) (λ o e s. absurd (true≢false (sym k ∙ ap knows s)))
+      (λ o e s. ap (written (c .counts)) s ∙ ap (callAt sendingEnd (c .terms) (c .position) toldVector (c .vector)) (sym (open-none o e)) ∙ call-is e (open-told o e))
       (λ o e s.
-      ap written s
-      ∙ by-known (λ n. c .known ≡ n → written (receiving (c .terms) (c .position) (knownBy n (c .vector))) ≡ c) (c .terms .cipher) (c .terms .strictness) (c .known)
+      ap (written (c .counts)) s
+      ∙ by-known (λ n. c .known ≡ n → written (c .counts) (receiving (c .terms) (c .position) (knownBy n (c .vector))) ≡ c) (c .terms .cipher) (c .terms .strictness) (c .known)
       (allZero (c .vector)) (rw e at (open-vector c o)) (λ z n. absurd (true≢false (sym k ∙ knows-no n))) (call-is e) (call-is e) refl)
 
 -- ---- its end
 
 module _ (c : Call) where
-  pub end-refused : (n : ℕ) → Refuses (endRefusals (standing c)) n → (answerAt (endRefusals (standing c)) n, c) ≡ endOf c
+  pub end-refused : (n : ℕ) → Refuses (endRefusals (standing c)) n → (answerAt (endRefusals (standing c)) n, (c, noCounts)) ≡ endOf c
   unfolding endOf
-  end-refused = refused-at c (endRefusals (standing c)) (Done, written closed)
+  end-refused = refused-at (c, noCounts) (endRefusals (standing c)) (Done, (noCall, c .counts))
 
-  pub end-done : NoneHolds (endRefusals (standing c)) → (Done, written closed) ≡ endOf c
+  pub end-done : NoneHolds (endRefusals (standing c)) → (Done, (noCall, c .counts)) ≡ endOf c
   unfolding endOf
-  end-done n = sym (none-settles (endRefusals (standing c)) c (Done, written closed) n)
+  end-done n = sym (none-settles (endRefusals (standing c)) (c, noCounts) (Done, (noCall, c .counts)) n)
 
 -- ---- a refusal, as the code hands it back
 

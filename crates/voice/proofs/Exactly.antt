@@ -15,33 +15,35 @@ use Rattle.octets.specs.Lists.{allZero}
 use Rattle.octets.proofs.TestLaws.{and-left, and-right, and-false-r, not-so}
 use Rattle.generator.specs.Generator.{nextVector}
 use Rattle.answers.specs.declared.Answer.{Answer}
-use Rattle.answers.specs.declared.Answer.the-variants.{Done, Held, WrongLength, OutOfRange, ZeroVector, NotNow}
+use Rattle.answers.specs.declared.Answer.the-variants.{Done, Held, WrongLength, OutOfRange, ZeroVector, NotNow, PastLimit}
 use Rattle.answers.specs.Numbers.{numberOf, isDone}
 use Rattle.answers.specs.Outcomes.{Refusals, outcome}
-use Rattle.answers.proofs.OutcomeLaws.{NoneHolds, Refusal, fromTwo, among-refuses, by-refusals, some-refuses}
+use Rattle.answers.proofs.OutcomeLaws.{NoneHolds, Refusal, fromTwo, among-refuses, by-refusals, some-refuses, gives}
 use Rattle.answers.proofs.TableLaws.{answer-alone}
 use Rattle.sizes.specs.Ciphers.{vectorOctets, scrambles}
 use Rattle.openings.specs.Ladder.{sessionVector, keyFor, keyRefusals, zeroFor, vectorRefusals}
 use Rattle.openings.proofs.LadderLaws.{vector-from-two, sends-more}
 use Rattle.voice.specs.declared.call.Call.{Call}
+use Rattle.voice.specs.Counts.{noCounts, plus, total, lostWords}
 use Rattle.octets.specs.Bits.{bit}
-use Rattle.sizes.specs.Frame.{isRate, width, frameOctets, sessionOctets}
-use Rattle.voice.specs.Call.{closedEnd, sendingEnd, receivingEnd, unknownVector, toldVector, carriedVector, byDefault, termsRight, goodCall, standing, termsOf, callAt, widthOf, written, isBad, widthIn, stands}
+use Rattle.sizes.specs.Frame.{isRate, width, frameOctets, sessionOctets, mostWords}
+use Rattle.voice.specs.Call.{closedEnd, sendingEnd, receivingEnd, unknownVector, toldVector, carriedVector, byDefault, termsRight, goodCall, standing, termsOf, callAt, widthOf, written, isBad, widthIn, stands, receives, knows}
 use Rattle.voice.specs.Opening.{joinRefusals, begunRefusals, begun, begunOf, openOf, startOf, joined, joinOf}
-use Rattle.voice.specs.Slot.{topMask, voiceRefusals, streamOf, voiceBy, voiceOf, voiceByOctets}
+use Rattle.voice.specs.Slot.{slotOn, isFull, lostRefusals, lostOf, topMask, voiceRefusals, streamOf, voiceAfter, voiceBy, voiceOf, voiceByOctets}
 use Rattle.voice.specs.Vector.{awaits, withVector, announceRefusals, announceOf, generates, following, nextRefusals, nextVectorOf}
 use Rattle.voice.proofs.CallLaws.{is-sender, is-told, by-known, carried-default, receiver-right, by-stands, good-by, not-bad, stands-some, width-in, is-receiver, knows-is}
-use Rattle.voice.proofs.SlotLaws.{none-long, none-good, none-open, taken-under-two, voice-refused, voice-taken, by-refused, by-long, by-short, answer-taken}
+use Rattle.voice.proofs.SlotLaws.{not-full, is-full, full-is, below-limit, lost-refused, none-long, none-good, none-open, none-full, taken-under-two, voice-refused, voice-taken, by-refused, by-long, by-short, answer-taken}
 use Rattle.voice.proofs.VectorLaws.{announce-done, announce-refused}
 
 -- ---- a voice slot
 
--- a frame as long as the rate has it, a mask of at most 15, and a good call that stands, whose vector is known or is not
+-- a frame as long as the rate has it, a mask of at most 15, and a good call that stands, a receiver below its limit, whose vector is known or is not
 pub record Takes (c : Call) (mask : ℕ) (frame : List ℕ) (known : Bool) : Type 0 where
   pub long : length frame ≡ frameOctets (widthOf (c .terms))
   pub masked : mask ≤ topMask
   pub good : goodCall c ≡ true
   pub stands : c .end ≡ closedEnd → ⊥
+  pub room : c .end ≡ receivingEnd → total (c .counts) < mostWords
   pub vector : not (eqb (c .known) unknownVector) ≡ known
 
 -- the number of a slot that is taken: 0 where the vector is known, else 1
@@ -60,9 +62,9 @@ module _ (c : Call) (mask : ℕ) (frame : List ℕ) where
 
   answered : (b : Bool) → Takes c mask frame b → number ≡ taken b
   answered b t =
-      ap numberOf (sym (answer-taken c mask frame (t .long) (t .masked) (t .good) b (t .stands) (knows-is c (t .good) ∙ t .vector)))
+      ap numberOf (sym (answer-taken c mask frame (t .long) (t .masked) (t .good) b (t .stands) (not-full c (t .good) (t .room)) (knows-is c (t .good) ∙ t .vector)))
 
-  takes : NoneHolds (voiceRefusals (standing c) mask frame) → Takes c mask frame (not (eqb (c .known) unknownVector))
+  takes : NoneHolds (voiceRefusals c mask frame) → Takes c mask frame (not (eqb (c .known) unknownVector))
   unfolding voiceRefusals
   takes n =
       record {
@@ -70,6 +72,7 @@ module _ (c : Call) (mask : ℕ) (frame : List ℕ) where
         masked = ltb-false _ _ (n .0);
         good = none-good c mask frame n;
         stands = none-open c mask frame n;
+        room = below-limit c (none-good c mask frame n) (none-full c mask frame n);
         vector = refl;
       }
 
@@ -87,14 +90,46 @@ module _ (c : Call) (mask : ℕ) (frame : List ℕ) where
   pub held-exactly : (number ≡ 1 → Takes c mask frame false) × (Takes c mask frame false → number ≡ 1)
   held-exactly = exactly false
 
+-- ---- a slot past the limit
+
+-- a good receiving call that was told of 1,000,000 slots
+pub record AtLimit (c : Call) : Type 0 where
+  pub good : goodCall c ≡ true
+  pub receives : c .end ≡ receivingEnd
+  pub full : total (c .counts) ≡ 4000000
+
+at-limit : (c : Call) → isBad (standing c) ≡ false → isFull (standing c) (c .counts) ≡ true → AtLimit c
+at-limit c g f = let e = full-is c (good-by c g) f in record { good = good-by c g; receives = e .0; full = e .1 }
+
+-- there, and nowhere else, a slot is 16: one that arrived, whatever its frame, with a mask of at most 15
+pub voice-past : (c : Call) (mask : ℕ) (frame : List ℕ) → (numberOf (voiceOf c mask frame .0) ≡ 16 → (mask ≤ 15) × AtLimit c)
+    × ((mask ≤ 15) × AtLimit c → voiceOf c mask frame ≡ (PastLimit, (c, frame)))
+unfolding voiceBy voiceRefusals
+voice-past c mask frame = (
+  gives (λ a. numberOf a ≡ 16 → (mask ≤ 15) × AtLimit c) (c, frame) (voiceRefusals c mask frame) (voiceAfter streamOf mask frame (c .counts) (standing c))
+      (λ h z. absurd (omega arith), λ m. (λ h z. absurd (omega arith), λ g. (λ h z. absurd (omega arith), λ o. (λ f z. (ltb-false _ _ m, at-limit c g f), λ n. (λ h z. absurd (omega arith), λ l. tt)))))
+      (λ z. absurd (omega (arith, taken-under-two (knows (standing c))))),
+  λ h. let l = h .1 in
+      sym (voice-refused streamOf c mask frame 3 (le-ltb _ _ (h .0), (not-bad c (l .good), (stands-some c (l .good) (λ z. omega (arith, l .receives)), is-full c (l .good) (l .receives) (omega (arith, l .full)))))),
+)
+
+-- or lost
+pub lost-past : (c : Call) → (numberOf (lostOf c .0) ≡ 16 → AtLimit c) × (AtLimit c → lostOf c ≡ (PastLimit, c))
+unfolding lostOf lostRefusals
+lost-past c = (
+  gives (λ a. numberOf a ≡ 16 → AtLimit c) c (lostRefusals c) (Done, written (plus (c .counts) lostWords) (slotOn (standing c)))
+      (λ h z. absurd (omega arith), λ g. (λ h z. absurd (omega arith), λ r. (λ f z. at-limit c g f, λ n. tt))) (λ z. absurd (omega arith)),
+  λ l. sym (lost-refused c 2 (not-bad c (l .good), (ap not (ap receives (is-receiver c (l .good) (l .receives))), is-full c (l .good) (l .receives) (omega (arith, l .full))))),
+)
+
 -- ---- a frame of another length, too few lent octets, and a number that is no rate
 
 -- what is asked last: a frame as long as the other rate's, say
-pub other-length : (c : Call) (mask : ℕ) (frame : List ℕ) → mask ≤ topMask → goodCall c ≡ true → (c .end ≡ closedEnd → ⊥)
+pub other-length : (c : Call) (mask : ℕ) (frame : List ℕ) → mask ≤ topMask → goodCall c ≡ true → (c .end ≡ closedEnd → ⊥) → (c .end ≡ receivingEnd → total (c .counts) < mostWords)
     → (length frame ≡ frameOctets (widthOf (c .terms)) → ⊥) → voiceOf c mask frame ≡ (WrongLength, (c, frame))
 unfolding voiceRefusals
-other-length c mask frame m good o n =
-    sym (voice-refused streamOf c mask frame 3 (le-ltb _ _ m, (not-bad c good, (stands-some c good o, ap not (ne-eqb _ _ (λ e. n (e ∙ ap frameOctets (width-in c good o))))))))
+other-length c mask frame m good o room n =
+    sym (voice-refused streamOf c mask frame 4 (le-ltb _ _ m, (not-bad c good, (stands-some c good o, (not-full c good room, ap not (ne-eqb _ _ (λ e. n (e ∙ ap frameOctets (width-in c good o)))))))))
 
 -- by lent octets: 196, or at full rate 288, are enough, whatever the call
 session-long : (r : ℕ) → sessionOctets (width r) ≡ pick (eqb r 1) 288 196
@@ -213,7 +248,7 @@ module _ (c : Call) (w : List ℕ) where
   from-two = refl
 
   -- then the call stands as it did, under the same terms, but that it was told w
-  pub announced-leaves : Timely c w → announceOf c w ≡ (Done, callAt receivingEnd (c .terms) 0 toldVector w)
+  pub announced-leaves : Timely c w → announceOf c w ≡ (Done, callAt receivingEnd (c .terms) 0 toldVector w (c .counts))
   unfolding announceRefusals
   announced-leaves t =
       sym (announce-done c w (ap not (eq-eqb _ _ (t .long)), (not-bad c (t .good), (ap not (awaited t), tt))))
@@ -222,7 +257,7 @@ module _ (c : Call) (w : List ℕ) where
   pub announced-exactly : (numberOf (announceOf c w .0) ≡ 0 → Timely c w) × (Timely c w → numberOf (announceOf c w .0) ≡ 0)
   unfolding announceOf announceRefusals
   announced-exactly = (
-    by-refusals (λ o. numberOf (o .0) ≡ 0 → Timely c w) c (announceRefusals (standing c) w) (Done, written (withVector w (standing c)))
+    by-refusals (λ o. numberOf (o .0) ≡ 0 → Timely c w) c (announceRefusals (standing c) w) (Done, written (c .counts) (withVector w (standing c)))
         (λ a m z. absurd (omega (arith, among-refuses a (announceRefusals (standing c) w) from-two m))) (λ n z. timely n),
     λ t. ap (λ (o : Answer × Call). numberOf (o .0)) (announced-leaves t),
   )
@@ -238,7 +273,7 @@ module _ (c : Call) (w : List ℕ) where
   -- at any position but 0 no announcement is taken, in either way, and the call stays as it was
   pub untimely : (c .position ≡ 0 → ⊥) → Refusal (announceOf c w .0) × (announceOf c w .1 ≡ c)
   unfolding announceOf
-  untimely p = some-refuses c (announceRefusals (standing c) w) (Done, written (withVector w (standing c))) from-two (λ n. p (timely n .starts))
+  untimely p = some-refuses c (announceRefusals (standing c) w) (Done, written (c .counts) (withVector w (standing c))) from-two (λ n. p (timely n .starts))
 
 -- ---- next vector
 
@@ -279,7 +314,7 @@ module _ (c : Call) (n i r : ℕ) (w b : List ℕ) where
   openAsks = vectorRefusals false (isRate r && true) (isBad (standing c)) (stands (standing c)) n i w b
 
   abbrev started : ℕ → Call
-  started end = written (begun end (termsOf n (keyFor b n i) r byDefault) (sessionVector n w))
+  started end = written noCounts (begun end (termsOf n (keyFor b n i) r byDefault) (sessionVector n w))
 
   -- start answers what open does by default, but 8 where that would be done with zeros, of DES or AES
   pub start-answers : startOf c n i r w b .0 ≡ pick (isDone (openOf c n i r byDefault w b .0) && zeroFor n w) ZeroVector (openOf c n i r byDefault w b .0)
@@ -305,12 +340,12 @@ module _ (c : Call) (busy : c .end ≡ closedEnd → ⊥) (n i r : ℕ) (b : Lis
   pub join-busy : (m : ℕ) → Refusal (joinOf c n i r m b .0) × (joinOf c n i r m b .1 ≡ c)
   unfolding joinOf joinRefusals keyRefusals
   join-busy m =
-      some-refuses c (joinRefusals (standing c) n i r m b) (Done, written (joined (termsOf n (keyFor b n i) r m))) refl (λ h. no-busy (search h) (search h))
+      some-refuses c (joinRefusals (standing c) n i r m b) (Done, written noCounts (joined (termsOf n (keyFor b n i) r m))) refl (λ h. no-busy (search h) (search h))
 
   begin-busy : (end m : ℕ) (w : List ℕ) → Refusal (begunOf end c n i r m w b .0) × (begunOf end c n i r m w b .1 ≡ c)
   unfolding begunRefusals vectorRefusals keyRefusals
   begin-busy end m w =
-      some-refuses c (begunRefusals end (standing c) n i r m w b) (Done, written (begun end (termsOf n (keyFor b n i) r m) (sessionVector n w)))
+      some-refuses c (begunRefusals end (standing c) n i r m w b) (Done, written noCounts (begun end (termsOf n (keyFor b n i) r m) (sessionVector n w)))
       (vector-from-two (termsRight end r m) (isBad (standing c)) (stands (standing c)) n i b w (eqb end sendingEnd)) (λ h. no-busy (search h) (search h))
 
   pub open-busy : (m : ℕ) (w : List ℕ) → Refusal (openOf c n i r m w b .0) × (openOf c n i r m w b .1 ≡ c)

@@ -1,4 +1,5 @@
 pub mod FrameLaws
+pub mod CountLaws
 pub mod CallLaws
 pub mod OpeningLaws
 pub mod SlotLaws

@@ -20,9 +20,12 @@ use Rattle.answers.specs.Numbers.{numberOf}
 use Rattle.answers.proofs.OutcomeLaws.{by-refusals}
 use Rattle.ciphers.specs.Keys.{oddOctet, desKey, keyAllowed, keyRight}
 use Rattle.openings.specs.Samples.{desABCD}
+use Rattle.voice.specs.declared.counts.Counts.{Counts}
 use Rattle.voice.specs.declared.call.Terms.{Terms}
 use Rattle.voice.specs.declared.call.Call.{Call}
-use Rattle.voice.specs.Call.{sendingEnd, byDefault, termsRight, vectorRight, closedTests, openTests, isClosed, isOpen, goodCall, Standing, sending, standing, termsOf, written}
+use Rattle.voice.specs.Call.{sendingEnd, byDefault, termsRight, vectorRight, countsRight, closedTests, openTests, isClosed, isOpen, goodCall, Standing, sending, standing, termsOf, written, knows}
+use Rattle.voice.specs.Counts.{noCounts, plus, arrivedWords}
+use Rattle.voice.proofs.CountLaws.{Fits, arrived-fits}
 use Rattle.voice.specs.Slot.{goingOn, slotOn, voiceRefusals, voiceAfter, voiceBy, voiceByOctets}
 use Rattle.voice.specs.Vector.{nextRefusals, nextVectorOf}
 use Rattle.voice.proofs.CallLaws.{is-sender}
@@ -52,9 +55,9 @@ going-vector c v = go (scrambles c)
 
 module _ (t : Terms) (c : Call) (s : Sends t c) where
   -- one slot on
-  sends-on : Sends t (written (slotOn (standing c)))
+  sends-on : (w : Counts) → Fits (knows (standing c)) w → Sends t (written (plus (c .counts) w) (slotOn (standing c)))
   unfolding slotOn
-  sends-on = rw stood (go (ltb (c .position + 1) (sessionSlots (c .terms .cipher))) (rw stood at (slot-good c (s .good) (s .vector))))
+  sends-on w fits = rw stood (go (ltb (c .position + 1) (sessionSlots (c .terms .cipher))) (rw stood at (slot-good c (s .good) (s .vector) (rw stood) w fits)))
     where
       stood : standing c ≡ sending (c .terms) (c .position) (c .vector)
       stood = is-sender c (s .good) (s .sends)
@@ -62,7 +65,7 @@ module _ (t : Terms) (c : Call) (s : Sends t c) where
       on : Bool → Standing
       on b = pick b (sending (c .terms) (c .position + 1) (c .vector)) (sending (c .terms) 0 (goingOn (c .terms .cipher) (c .vector)))
 
-      go : (b : Bool) → goodCall (written (on b)) ≡ true → Sends t (written (on b))
+      go : (b : Bool) → goodCall (written (plus (c .counts) w) (on b)) ≡ true → Sends t (written (plus (c .counts) w) (on b))
       go true g = record { good = g; sends = refl; terms = s .terms; vector = λ e. s .vector (s .sends) }
       go false g = record { good = g; sends = refl; terms = s .terms; vector = λ e d. going-vector (c .terms .cipher) (c .vector) }
 
@@ -70,8 +73,8 @@ module _ (t : Terms) (c : Call) (s : Sends t c) where
   pub voice-sends : (st : Call → ℕ → ℕ) (mask : ℕ) (frame : List ℕ) → Sends t (voiceBy st c mask frame .1 .0)
   unfolding voiceBy
   voice-sends st mask frame =
-      by-refusals (λ o. Sends t (o .1 .0)) (c, frame) (voiceRefusals (standing c) mask frame) (voiceAfter st mask frame (standing c)) (λ a m. s)
-      (λ n. sends-on)
+      by-refusals (λ o. Sends t (o .1 .0)) (c, frame) (voiceRefusals c mask frame) (voiceAfter st mask frame (c .counts) (standing c)) (λ a m. s)
+      (λ n. sends-on (arrivedWords mask (knows (standing c))) (arrived-fits mask (knows (standing c))))
 
   pub voice-by-octets-sends : (session : List ℕ) (mask : ℕ) (frame : List ℕ) → Sends t (voiceByOctets session c mask frame .1 .0)
   voice-by-octets-sends session mask frame = by-lent session c mask frame (λ o. Sends t (o .1 .0)) s (voice-sends (λ d. bit session) mask frame)
@@ -88,11 +91,11 @@ next-some c sent out z =
 
 -- a DES sender at its session's last slot, with a list that is no octets: not all zero, and without a bit
 abbrev beyond : Call
-beyond = written (sending (termsOf 2 desABCD halfRate byDefault) 7 (256 ∷ replicate 7 0))
+beyond = written noCounts (sending (termsOf 2 desABCD halfRate byDefault) 7 (256 ∷ replicate 7 0))
 
 -- it is good, after a slot it is not, and its next vector is zeros
 pub beyond-octets : (goodCall beyond ≡ true) × (goodCall (voiceBy (λ c n. 0) beyond 0 (replicate 28 0) .1 .0) ≡ false)
     × (nextVectorOf beyond noVector ≡ (Done, noVector))
-unfolding voiceBy voiceRefusals nextVectorOf nextRefusals standing slotOn goingOn goodCall isClosed closedTests isOpen openTests keyRight isRate termsRight vectorRight
+unfolding voiceBy voiceRefusals nextVectorOf nextRefusals standing slotOn goingOn goodCall isClosed closedTests isOpen openTests keyRight isRate termsRight vectorRight countsRight
     keyAllowed desKey oddOctet allZero allBelow nextVector announced iterate shifted filled octetsFrom octet
 beyond-octets = (refl, refl, refl)

@@ -19,11 +19,14 @@ use Rattle.answers.specs.declared.Answer.the-variants.{Done, Held}
 use Rattle.answers.specs.Numbers.{isDone}
 use Rattle.answers.specs.Outcomes.{settled}
 use Rattle.answers.proofs.OutcomeLaws.{neverDone, among-not-done, by-refusals}
+use Rattle.voice.specs.declared.counts.Counts.{Counts}
 use Rattle.voice.specs.declared.call.Call.{Call}
 use Rattle.sizes.specs.Frame.{slotBits, sessionBits}
 use Rattle.voice.specs.Frame.{ofSlot}
 use Rattle.voice.specs.Call.{goodCall, knownVector, knownBy, Standing, sending, receiving, standing, written, isBad, knows, widthOf}
-use Rattle.voice.specs.Slot.{goingOn, ridden, slotOn, lostRefusals, lostOf, voiceRefusals, streamOf, inSlot, voiceAfter, voiceBy, voiceOf, voiceByOctets, sessionStreamOf, IsSession}
+use Rattle.voice.specs.Counts.{plus, lostWords, arrivedWords}
+use Rattle.voice.proofs.CountLaws.{Fits, lost-fits, arrived-fits}
+use Rattle.voice.specs.Slot.{goingOn, ridden, slotOn, isFull, lostRefusals, lostOf, voiceRefusals, streamOf, inSlot, voiceAfter, voiceBy, voiceOf, voiceByOctets, sessionStreamOf, IsSession}
 use Rattle.voice.proofs.FrameLaws.{protect-same}
 use Rattle.voice.proofs.CallLaws.{by-stands, is-sender, knows-good, knows-inside, known-width, known-written}
 use Rattle.voice.proofs.SlotLaws.{by-long, slot-fits}
@@ -32,7 +35,7 @@ use Rattle.voice.proofs.GoodLaws.{read-written, scramble-right, slot-go
 -- ---- a slot rests on the bits of the call's own session
 
 module _ (st su : Call → ℕ → ℕ) (c : Call) (same : (n : ℕ) → n < sessionBits (widthOf (c .terms)) → st c n ≡ su c n) (mask : ℕ) (frame : List ℕ) where
-  turned-same : knows (standing c) ≡ true → inSlot st mask frame (written (standing c)) ≡ inSlot su mask frame (written (standing c))
+  turned-same : knows (standing c) ≡ true → inSlot st mask frame (written (c .counts) (standing c)) ≡ inSlot su mask frame (written (c .counts) (standing c))
   turned-same k =
       let l = knows-inside c k in
       let width = widthOf (c .terms) in
@@ -41,14 +44,14 @@ module _ (st su : Call → ℕ → ℕ) (c : Call) (same : (n : ℕ) → n < ses
       (λ n h. same (slotBits width * c .position + n) (omega (arith, slot-fits width (c .terms .cipher) (c .position) l))) frame)
 
   frame-same : (t : Bool) → knows (standing c) ≡ t
-      → pick t (inSlot st mask frame (written (standing c))) frame ≡ pick t (inSlot su mask frame (written (standing c))) frame
+      → pick t (inSlot st mask frame (written (c .counts) (standing c))) frame ≡ pick t (inSlot su mask frame (written (c .counts) (standing c))) frame
   frame-same true k = turned-same k
   frame-same false k = refl
 
   pub voice-same : voiceBy st c mask frame ≡ voiceBy su c mask frame
   unfolding voiceBy
   voice-same =
-      ap (λ (f : List ℕ). settled (c, frame) (voiceRefusals (standing c) mask frame) (pick (knows (standing c)) Done Held, (written (slotOn (standing c)), f)))
+      ap (λ (f : List ℕ). settled (c, frame) (voiceRefusals c mask frame) (pick (knows (standing c)) Done Held, (written (plus (c .counts) (arrivedWords mask (knows (standing c)))) (slotOn (standing c)), f)))
       (frame-same (knows (standing c)) refl)
 
 -- octets that hold the session turn every slot as the session does
@@ -99,48 +102,49 @@ scramble-same c k v w n e = rw e
 
 module _ (c : Call) (session : List ℕ) (i : IsSession c session) where
   -- another call of the same session
-  held-as : (t : Standing) → written t .terms ≡ c .terms → isBad t ≡ false → goodCall (written t) ≡ true → knows t ≡ true → ((n : ℕ) → streamOf (written t) n ≡ streamOf c n)
-      → IsSession (written t) session
-  held-as t s b g k e =
-      record { known = ap knows (read-written t b g) ∙ k; long = rw s (i .long); bits = λ n l. i .bits n (rw s at l) ∙ sym (e n) }
+  held-as : (m : Counts) (t : Standing) → written m t .terms ≡ c .terms → isBad t ≡ false → goodCall (written m t) ≡ true → knows t ≡ true
+      → ((n : ℕ) → streamOf (written m t) n ≡ streamOf c n) → IsSession (written m t) session
+  held-as m t s b g k e =
+      record { known = ap knows (read-written m t b g) ∙ k; long = rw s (i .long); bits = λ n l. i .bits n (rw s at l) ∙ sym (e n) }
 
   -- one slot on it is the same session, or the next one of scramble, whose bits are the same
-  either-kept : (t : Bool) (on next : Standing) → (goodCall (written on) ≡ true → IsSession (written on) session)
-      → (goodCall (written next) ≡ true → scrambles (c .terms .cipher) ≡ true → IsSession (written next) session) → written next .position ≡ 0
-      → goodCall (written (pick t on next)) ≡ true → (written (pick t on next) .position ≡ 0 → scrambles (c .terms .cipher) ≡ true)
-      → IsSession (written (pick t on next)) session
-  either-kept true on next f f′ z g h = f g
-  either-kept false on next f f′ z g h = f′ g (h z)
+  either-kept : (m : Counts) (t : Bool) (on next : Standing) → (goodCall (written m on) ≡ true → IsSession (written m on) session)
+      → (goodCall (written m next) ≡ true → scrambles (c .terms .cipher) ≡ true → IsSession (written m next) session) → written m next .position ≡ 0
+      → goodCall (written m (pick t on next)) ≡ true → (written m (pick t on next) .position ≡ 0 → scrambles (c .terms .cipher) ≡ true)
+      → IsSession (written m (pick t on next)) session
+  either-kept m true on next f f′ z g h = f g
+  either-kept m false on next f f′ z g h = f′ g (h z)
 
-  on-kept : (written (slotOn (standing c)) .position ≡ 0 → scrambles (c .terms .cipher) ≡ true) → IsSession (written (slotOn (standing c))) session
+  on-kept : isFull (standing c) (c .counts) ≡ false → (w : Counts) → Fits (knows (standing c)) w
+      → (written (plus (c .counts) w) (slotOn (standing c)) .position ≡ 0 → scrambles (c .terms .cipher) ≡ true) → IsSession (written (plus (c .counts) w) (slotOn (standing c))) session
   unfolding slotOn
-  on-kept h =
+  on-kept room w fits h =
       by-stands c good (λ o e s. absurd (true≢false (sym (i .known) ∙ ap knows s)))
       (λ o e s.
       let on : Standing = sending (c .terms) (c .position + 1) (c .vector) in
       let next : Standing = sending (c .terms) 0 (goingOn (c .terms .cipher) (c .vector)) in
       rw s
-      (either-kept (ltb (c .position + 1) (sessionSlots (c .terms .cipher))) on next (λ g. held-as on refl refl g refl (λ n. refl))
-      (λ g e. held-as next refl refl g refl (again (goingOn (c .terms .cipher) (c .vector)) e)) refl (rw s at good-on) (rw s at h)))
+      (either-kept (plus (c .counts) w) (ltb (c .position + 1) (sessionSlots (c .terms .cipher))) on next (λ g. held-as (plus (c .counts) w) on refl refl g refl (λ n. refl))
+      (λ g e. held-as (plus (c .counts) w) next refl refl g refl (again (goingOn (c .terms .cipher) (c .vector)) e)) refl (rw s at good-on) (rw s at h)))
       (λ o e s.
       let on : Standing = receiving (c .terms) (c .position + 1) (knownBy (c .known) (c .vector)) in
       let next : Standing = receiving (c .terms) 0 (ridden (c .terms) (knownBy (c .known) (c .vector))) in
       rw s
-      (either-kept (ltb (c .position + 1) (sessionSlots (c .terms .cipher))) on next (λ g. held-as on refl refl g (sym (ap knows s) ∙ i .known) (own s))
-      (λ g e. held-as next refl refl g (rw e) (again (knownVector (ridden (c .terms) (knownBy (c .known) (c .vector)))) e)) refl (rw s at good-on) (rw s at h)))
+      (either-kept (plus (c .counts) w) (ltb (c .position + 1) (sessionSlots (c .terms .cipher))) on next (λ g. held-as (plus (c .counts) w) on refl refl g (sym (ap knows s) ∙ i .known) (own s))
+      (λ g e. held-as (plus (c .counts) w) next refl refl g (rw e) (again (knownVector (ridden (c .terms) (knownBy (c .known) (c .vector)))) e)) refl (rw s at good-on) (rw s at h)))
     where
       good : goodCall c ≡ true
       good = knows-good c (i .known)
 
       -- a sender that goes on into another session is scramble's
-      good-on : goodCall (written (slotOn (standing c))) ≡ true
+      good-on : goodCall (written (plus (c .counts) w) (slotOn (standing c))) ≡ true
       good-on =
           slot-good-if c good
-          (λ e last. scramble-right (c .terms .cipher) (c .vector) (h (rw (is-sender c good e, le-ltb (c .position + 1) (sessionSlots (c .terms .cipher)) last))))
+          (λ e last. scramble-right (c .terms .cipher) (c .vector) (h (rw (is-sender c good e, le-ltb (c .position + 1) (sessionSlots (c .terms .cipher)) last)))) room w fits
 
       -- the struct of where it stands has its own bits
-      own : {s : Standing} → standing c ≡ s → (n : ℕ) → streamOf (written s) n ≡ streamOf c n
-      own s n = ap (λ (d : Call). streamOf d n) (sym (ap written s) ∙ known-written c (i .known))
+      own : {s : Standing} → standing c ≡ s → (n : ℕ) → streamOf (written (c .counts) s) n ≡ streamOf c n
+      own s n = ap (λ (d : Call). streamOf d n) (sym (ap (written (c .counts)) s) ∙ known-written c (i .known))
 
       again : (v : List ℕ) → scrambles (c .terms .cipher) ≡ true → (n : ℕ) → stream (c .terms .cipher) (c .terms .key) v n ≡ streamOf c n
       again v e n = scramble-same (c .terms .cipher) (c .terms .key) v (c .vector) n e
@@ -150,15 +154,16 @@ module _ (c : Call) (session : List ℕ) (i : IsSession c session) where
   unfolding lostOf lostRefusals
   session-kept-lost =
       by-refusals (λ o. (o .1 .position ≡ 0 → scrambles (c .terms .cipher) ≡ true) → IsSession (o .1) session)
-      c (lostRefusals (standing c)) (Done, written (slotOn (standing c))) (λ a m h. i) (λ n. on-kept)
+      c (lostRefusals c) (Done, written (plus (c .counts) lostWords) (slotOn (standing c))) (λ a m h. i)
+      (λ n. on-kept (n .1 .1 .0) lostWords (lost-fits (knows (standing c))))
 
   pub session-kept : (st : Call → ℕ → ℕ) (mask : ℕ) (frame : List ℕ)
       → (voiceBy st c mask frame .1 .0 .position ≡ 0 → scrambles (c .terms .cipher) ≡ true) → IsSession (voiceBy st c mask frame .1 .0) session
   unfolding voiceBy voiceRefusals
   session-kept st mask frame =
       by-refusals (λ o. (o .1 .0 .position ≡ 0 → scrambles (c .terms .cipher) ≡ true) → IsSession (o .1 .0) session)
-      (c, frame) (voiceRefusals (standing c) mask frame) (voiceAfter st mask frame (standing c)) (λ a m h. i)
-      (λ n. on-kept)
+      (c, frame) (voiceRefusals c mask frame) (voiceAfter st mask frame (c .counts) (standing c)) (λ a m h. i)
+      (λ n. on-kept (n .1 .1 .1 .0) (arrivedWords mask (knows (standing c))) (arrived-fits mask (knows (standing c))))
 
 -- a slot of a call that doesn't know its vector is turned by nothing
 module _ (st su : Call → ℕ → ℕ) (mask : ℕ) (frame : List ℕ) where
@@ -172,13 +177,13 @@ module _ (st : Call → ℕ → ℕ) (mask : ℕ) (frame : List ℕ) where
   after-done true d = refl
   after-done false d = d
 
-  never-done : (s : Standing) → neverDone (voiceRefusals s mask frame) ≡ true
+  never-done : (c : Call) → neverDone (voiceRefusals c mask frame) ≡ true
   unfolding voiceRefusals
-  never-done s = refl
+  never-done c = refl
 
   pub voice-done-knows : (c : Call) → isDone (voiceBy st c mask frame .0) ≡ true → knows (standing c) ≡ true
   unfolding voiceBy voiceRefusals
   voice-done-knows c =
-      by-refusals (λ o. isDone (o .0) ≡ true → knows (standing c) ≡ true) (c, frame) (voiceRefusals (standing c) mask frame) (voiceAfter st mask frame (standing c))
-      (λ a m d. absurd (true≢false (sym d ∙ among-not-done a (voiceRefusals (standing c) mask frame) (never-done (standing c)) m)))
+      by-refusals (λ o. isDone (o .0) ≡ true → knows (standing c) ≡ true) (c, frame) (voiceRefusals c mask frame) (voiceAfter st mask frame (c .counts) (standing c))
+      (λ a m d. absurd (true≢false (sym d ∙ among-not-done a (voiceRefusals c mask frame) (never-done c) m)))
       (λ n. after-done (knows (standing c)))

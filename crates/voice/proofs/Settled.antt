@@ -8,9 +8,11 @@ use Rattle.octets.specs.Bits.{bit}
 use Rattle.answers.specs.declared.Answer.{Answer}
 use Rattle.answers.specs.declared.Answer.the-variants.{Done}
 use Rattle.answers.proofs.OutcomeLaws.{Refusal, keeps, one-outcome}
+use Rattle.voice.specs.declared.counts.Counts.{Counts}
 use Rattle.voice.specs.declared.call.Call.{Call}
 use Rattle.openings.specs.Ladder.{sessionVector, keyFor}
-use Rattle.voice.specs.Call.{sendingEnd, receivingEnd, byDefault, closed, standing, termsOf, written, knows, endRefusals, endOf}
+use Rattle.voice.specs.Counts.{noCounts, plus, lostWords}
+use Rattle.voice.specs.Call.{sendingEnd, receivingEnd, byDefault, standing, termsOf, noCall, written, knows, endRefusals, endOf}
 use Rattle.voice.specs.Opening.{joinRefusals, begunRefusals, begun, begunOf, openOf, startOf, joined, joinOf}
 use Rattle.voice.specs.Slot.{slotOn, lostRefusals, lostOf, voiceRefusals, streamOf, voiceAfter, voiceBy, voiceOf, voiceByOctets, sessionStreamOf}
 use Rattle.voice.specs.Vector.{withVector, announceRefusals, announceOf, following, nextRefusals, nextVectorOf}
@@ -19,8 +21,10 @@ use Rattle.voice.proofs.SlotLaws.{taken-under-two, by-lent}
 -- ---- any two outcomes are equal
 
 module _ (a b : Answer) (x y : Call) (c : Call) where
-  pub one-end : (a, x) ≡ endOf c → (b, y) ≡ endOf c → (a ≡ b) × (x ≡ y)
-  one-end = one-outcome a b x y
+  pub one-end : (n m : Counts) → (a, (x, n)) ≡ endOf c → (b, (y, m)) ≡ endOf c → (a ≡ b) × (x ≡ y) × (n ≡ m)
+  one-end n m p q =
+      let o = one-outcome a b (x, n) (y, m) p q in
+      (o .0, ap (λ (r : Call × Counts). r .0) (o .1), ap (λ (r : Call × Counts). r .1) (o .1))
 
   pub one-lost : (a, x) ≡ lostOf c → (b, y) ≡ lostOf c → (a ≡ b) × (x ≡ y)
   one-lost = one-outcome a b x y
@@ -60,17 +64,18 @@ one-stream f g c out p q = p ∙ sym q
 -- ---- a refusal changes nothing
 
 module _ (c : Call) where
-  pub end-keeps : Refusal (endOf c .0) → endOf c .1 ≡ c
+  -- and end hands out zeros
+  pub end-keeps : Refusal (endOf c .0) → endOf c .1 ≡ (c, noCounts)
   unfolding endOf
-  end-keeps = keeps c (endRefusals (standing c)) (Done, written closed) (omega arith)
+  end-keeps = keeps (c, noCounts) (endRefusals (standing c)) (Done, (noCall, c .counts)) (omega arith)
 
   pub lost-keeps : Refusal (lostOf c .0) → lostOf c .1 ≡ c
   unfolding lostOf
-  lost-keeps = keeps c (lostRefusals (standing c)) (Done, written (slotOn (standing c))) (omega arith)
+  lost-keeps = keeps c (lostRefusals c) (Done, written (plus (c .counts) lostWords) (slotOn (standing c))) (omega arith)
 
   pub announce-keeps : (w : List ℕ) → Refusal (announceOf c w .0) → announceOf c w .1 ≡ c
   unfolding announceOf
-  announce-keeps w = keeps c (announceRefusals (standing c) w) (Done, written (withVector w (standing c))) (omega arith)
+  announce-keeps w = keeps c (announceRefusals (standing c) w) (Done, written (c .counts) (withVector w (standing c))) (omega arith)
 
   pub next-keeps : (out : List ℕ) → Refusal (nextVectorOf c out .0) → nextVectorOf c out .1 ≡ out
   unfolding nextVectorOf
@@ -80,7 +85,7 @@ module _ (c : Call) where
       → voiceBy st c mask frame .1 ≡ (c, frame)
   unfolding voiceBy
   voice-by-keeps st mask frame =
-      keeps (c, frame) (voiceRefusals (standing c) mask frame) (voiceAfter st mask frame (standing c)) (taken-under-two (knows (standing c)))
+      keeps (c, frame) (voiceRefusals c mask frame) (voiceAfter st mask frame (c .counts) (standing c)) (taken-under-two (knows (standing c)))
 
   pub voice-by-octets-keeps : (session : List ℕ) (mask : ℕ) (frame : List ℕ) → Refusal (voiceByOctets session c mask frame .0)
       → voiceByOctets session c mask frame .1 ≡ (c, frame)
@@ -93,11 +98,11 @@ module _ (c : Call) where
   module _ (n i r : ℕ) (book : List ℕ) where
     pub join-keeps : (m : ℕ) → Refusal (joinOf c n i r m book .0) → joinOf c n i r m book .1 ≡ c
     unfolding joinOf
-    join-keeps m = keeps c (joinRefusals (standing c) n i r m book) (Done, written (joined (termsOf n (keyFor book n i) r m))) (omega arith)
+    join-keeps m = keeps c (joinRefusals (standing c) n i r m book) (Done, written noCounts (joined (termsOf n (keyFor book n i) r m))) (omega arith)
 
     begun-keeps : (end m : ℕ) (w : List ℕ) → Refusal (begunOf end c n i r m w book .0) → begunOf end c n i r m w book .1 ≡ c
     begun-keeps end m w =
-        keeps c (begunRefusals end (standing c) n i r m w book) (Done, written (begun end (termsOf n (keyFor book n i) r m) (sessionVector n w))) (omega arith)
+        keeps c (begunRefusals end (standing c) n i r m w book) (Done, written noCounts (begun end (termsOf n (keyFor book n i) r m) (sessionVector n w))) (omega arith)
 
     pub open-keeps : (m : ℕ) (w : List ℕ) → Refusal (openOf c n i r m w book .0) → openOf c n i r m w book .1 ≡ c
     unfolding openOf

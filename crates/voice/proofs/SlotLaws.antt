@@ -7,7 +7,7 @@ use native.Mathlib.Nat.{zero-add}
 use native.Mathlib.Omega.{arith}
 use lib.Dec.{ltb, eqb}
 use lib.ListN.{length}
-use borrow.Author.Tests.{eq-eqb, eqb-true, lt-ltb, le-ltb, not-true, not-false}
+use borrow.Author.Tests.{eq-eqb, eqb-true, le-leb, lt-leb, leb-true, leb-false, lt-ltb, le-ltb, not-true, not-false}
 use Rattle.sizes.proofs.SizeLaws.{slots-at-most}
 use Rattle.ciphers.proofs.KeystreamLaws.{bits-stream}
 use Rattle.octets.specs.Tests.{pick}
@@ -21,15 +21,17 @@ use Rattle.answers.specs.declared.Answer.the-variants.{Done, Held, WrongLength}
 use Rattle.answers.specs.Numbers.{numberOf}
 use Rattle.answers.specs.Outcomes.{Refusals, settled}
 use Rattle.answers.proofs.OutcomeLaws.{NoneHolds, none-settles, in-a-row, or-last, refused-alike, Refuses, answerAt, refused-at, Refusal, fromTwo, among-refuses, by-refusals, around}
+use Rattle.voice.specs.declared.counts.Counts.{Counts}
 use Rattle.voice.specs.declared.call.Terms.{Terms}
 use Rattle.voice.specs.declared.call.Call.{Call}
-use Rattle.sizes.specs.Frame.{frameOctets, slotBits, sessionBits, sessionOctets}
+use Rattle.sizes.specs.Frame.{frameOctets, slotBits, sessionBits, sessionOctets, mostWords}
 use Rattle.octets.proofs.Words.{word-ends}
 use Rattle.voice.specs.Frame.{ofSlot, protect}
-use Rattle.voice.specs.Call.{closedEnd, receivingEnd, unknownVector, carriedVector, byDefault, goodCall, carried, isKnown, knownNumber, knownVector, knownBy, untold, receiving, standing, callAt, widthOf, written, widthIn, stands, knows}
-use Rattle.voice.specs.Slot.{rides, ridden, slotOn, lostRefusals, lostOf, topMask, voiceRefusals, streamOf, inSlot, voiceAfter, voiceBy, voiceOf, shortRefusals, voiceByOctets}
+use Rattle.voice.specs.Call.{closedEnd, sendingEnd, receivingEnd, unknownVector, carriedVector, byDefault, goodCall, carried, isKnown, knownNumber, knownVector, knownBy, untold, Standing, sending, receiving, standing, callAt, widthOf, written, widthIn, stands, knows}
+use Rattle.voice.specs.Counts.{noCounts, plus, total, lostWords, arrivedWords}
+use Rattle.voice.specs.Slot.{goingOn, rides, ridden, slotOn, isFull, lostRefusals, lostOf, topMask, voiceRefusals, streamOf, inSlot, voiceAfter, voiceBy, voiceOf, shortRefusals, voiceByOctets}
 use Rattle.voice.proofs.FrameLaws.{protect-same}
-use Rattle.voice.proofs.CallLaws.{is-known, known-vector, untold-is, good-by, not-bad, stands-none, stands-some, width-in, inside, known-written}
+use Rattle.voice.proofs.CallLaws.{counts-most, is-known, known-vector, untold-is, by-stands, is-sender, is-receiver, good-by, not-bad, stands-none, stands-some, width-in, inside, known-written}
 
 -- ---- a receiver as its next session starts
 
@@ -37,22 +39,58 @@ module _ (t : Terms) (n : ℕ) (v : List ℕ) {b : Bool} (e : b ≡ rides t (not
   riding : rides t (isKnown (knownBy n v)) ≡ b
   riding = ap (rides t) (is-known n v .0) ∙ sym e
 
-  pub ridden-carries : b ≡ true → (u : List ℕ) → u ≡ nextVector v → callAt receivingEnd t 0 carriedVector u ≡ written (receiving t 0 (ridden t (knownBy n v)))
-  ridden-carries q u f =
+  pub ridden-carries : b ≡ true → (u : List ℕ) → u ≡ nextVector v → (m : Counts) → callAt receivingEnd t 0 carriedVector u m ≡ written m (receiving t 0 (ridden t (knownBy n v)))
+  ridden-carries q u f m =
       let some = not-true _ (and-right (eqb (t .strictness) byDefault) _ (and-right (not (scrambles (t .cipher))) _ (sym e ∙ q))) in
       rw (riding ∙ q, known-vector n v some, f)
 
-  pub ridden-untold : b ≡ false → {m : ℕ} → m ≡ knownNumber (untold (t .cipher)) → callAt receivingEnd t 0 m noVector ≡ written (receiving t 0 (ridden t (knownBy n v)))
-  ridden-untold q f =
-      untold-is t 0 f
-      ∙ ap (λ (x : Bool). written (receiving t 0 (pick x (carried (nextVector (knownVector (knownBy n v)))) (untold (t .cipher))))) (sym (riding ∙ q))
+  pub ridden-untold : b ≡ false → {k : ℕ} → k ≡ knownNumber (untold (t .cipher)) → (m : Counts) → callAt receivingEnd t 0 k noVector m ≡ written m (receiving t 0 (ridden t (knownBy n v)))
+  ridden-untold q f m =
+      untold-is t 0 m f
+      ∙ ap (λ (x : Bool). written m (receiving t 0 (pick x (carried (nextVector (knownVector (knownBy n v)))) (untold (t .cipher))))) (sym (riding ∙ q))
+
+-- ---- a sender's slot
+
+-- it counts nothing
+pub sent-alike : (c : Call) (n : Counts) → goodCall c ≡ true → c .end ≡ sendingEnd → written noCounts (slotOn (sending (c .terms) (c .position) (c .vector))) ≡ written n (slotOn (standing c))
+unfolding slotOn
+sent-alike c n good e = rw (is-sender c good e) (go (ltb (c .position + 1) (sessionSlots (c .terms .cipher))))
+  where
+    on : Bool → Standing
+    on b = pick b (sending (c .terms) (c .position + 1) (c .vector)) (sending (c .terms) 0 (goingOn (c .terms .cipher) (c .vector)))
+
+    go : (b : Bool) → written noCounts (on b) ≡ written n (on b)
+    go true = refl
+    go false = refl
+
+-- ---- the limit
+
+module _ (c : Call) (good : goodCall c ≡ true) where
+  pub not-full : (c .end ≡ receivingEnd → total (c .counts) < mostWords) → isFull (standing c) (c .counts) ≡ false
+  not-full room = by-stands c good (λ o e s. rw s) (λ o e s. rw s) (λ o e s. rw s (lt-leb _ _ (room e)))
+
+  pub is-full : c .end ≡ receivingEnd → mostWords ≤ total (c .counts) → isFull (standing c) (c .counts) ≡ true
+  is-full e l = rw (is-receiver c good e) (le-leb _ _ l)
+
+  -- the limit is a receiver's
+  pub full-is : isFull (standing c) (c .counts) ≡ true → (c .end ≡ receivingEnd) × (total (c .counts) ≡ mostWords)
+  full-is f =
+      by-stands c good (λ o e s. absurd (true≢false (sym f ∙ rw s))) (λ o e s. absurd (true≢false (sym f ∙ rw s)))
+      (λ o e s. (e, omega (arith, counts-most c good, leb-true mostWords (total (c .counts)) (rw s at f))))
+
+  pub below-limit : isFull (standing c) (c .counts) ≡ false → c .end ≡ receivingEnd → total (c .counts) < mostWords
+  below-limit f e = leb-false _ _ (rw (is-receiver c good e) at f)
 
 -- ---- a lost slot
 
 module _ (c : Call) where
-  pub lost-refused : (n : ℕ) → Refuses (lostRefusals (standing c)) n → (answerAt (lostRefusals (standing c)) n, c) ≡ lostOf c
+  pub lost-refused : (n : ℕ) → Refuses (lostRefusals c) n → (answerAt (lostRefusals c) n, c) ≡ lostOf c
   unfolding lostOf
-  lost-refused = refused-at c (lostRefusals (standing c)) (Done, written (slotOn (standing c)))
+  lost-refused = refused-at c (lostRefusals c) (Done, written (plus (c .counts) lostWords) (slotOn (standing c)))
+
+  pub lost-done : NoneHolds (lostRefusals c) → (Done, written (plus (c .counts) lostWords) (slotOn (standing c))) ≡ lostOf c
+  unfolding lostOf
+  lost-done n = sym (none-settles (lostRefusals c) c (Done, written (plus (c .counts) lostWords) (slotOn (standing c))) n)
 
 -- ---- voice
 
@@ -87,11 +125,11 @@ slot-fits width c p l = word-ends (slotBits width) p 8 (omega (arith, slots-at-m
 
 module _ (c : Call) (mask : ℕ) (frame : List ℕ) where
   -- no refusal is 0 or 1
-  from-two : fromTwo (voiceRefusals (standing c) mask frame) ≡ true
+  from-two : fromTwo (voiceRefusals c mask frame) ≡ true
   unfolding voiceRefusals
   from-two = refl
 
-  module _ (n : NoneHolds (voiceRefusals (standing c) mask frame)) where
+  module _ (n : NoneHolds (voiceRefusals c mask frame)) where
     pub none-good : goodCall c ≡ true
     unfolding voiceRefusals
     none-good = good-by c (n .1 .0)
@@ -105,7 +143,11 @@ module _ (c : Call) (mask : ℕ) (frame : List ℕ) where
 
     pub none-long : length frame ≡ frameOctets (widthOf (c .terms))
     unfolding voiceRefusals
-    none-long = eqb-true _ _ (not-false _ (n .1 .1 .1 .0)) ∙ ap frameOctets (width-in c none-good none-open)
+    none-long = eqb-true _ _ (not-false _ (n .1 .1 .1 .1 .0)) ∙ ap frameOctets (width-in c none-good none-open)
+
+    pub none-full : isFull (standing c) (c .counts) ≡ false
+    unfolding voiceRefusals
+    none-full = n .1 .1 .1 .0
 
 -- ---- whatever gives the session's bits
 
@@ -115,34 +157,34 @@ taken-under-two true = omega arith
 taken-under-two false = omega arith
 
 module _ (st : Call → ℕ → ℕ) (c : Call) (mask : ℕ) (frame : List ℕ) where
-  pub voice-refused : (n : ℕ) → Refuses (voiceRefusals (standing c) mask frame) n
-      → (answerAt (voiceRefusals (standing c) mask frame) n, (c, frame)) ≡ voiceBy st c mask frame
+  pub voice-refused : (n : ℕ) → Refuses (voiceRefusals c mask frame) n
+      → (answerAt (voiceRefusals c mask frame) n, (c, frame)) ≡ voiceBy st c mask frame
   unfolding voiceBy
-  voice-refused = refused-at (c, frame) (voiceRefusals (standing c) mask frame) (voiceAfter st mask frame (standing c))
+  voice-refused = refused-at (c, frame) (voiceRefusals c mask frame) (voiceAfter st mask frame (c .counts) (standing c))
 
-  pub voice-done : NoneHolds (voiceRefusals (standing c) mask frame) → voiceAfter st mask frame (standing c) ≡ voiceBy st c mask frame
+  pub voice-done : NoneHolds (voiceRefusals c mask frame) → voiceAfter st mask frame (c .counts) (standing c) ≡ voiceBy st c mask frame
   unfolding voiceBy
-  voice-done n = sym (none-settles (voiceRefusals (standing c) mask frame) (c, frame) (voiceAfter st mask frame (standing c)) n)
+  voice-done n = sym (none-settles (voiceRefusals c mask frame) (c, frame) (voiceAfter st mask frame (c .counts) (standing c)) n)
 
   -- what holds of every refusal, 2 and up, and of a slot that is taken, holds of the outcome
   pub by-voice : (P : Answer × (Call × List ℕ) → Type 0) → ((a : Answer) → Refusal a → P (a, (c, frame)))
-      → (NoneHolds (voiceRefusals (standing c) mask frame) → P (voiceAfter st mask frame (standing c))) → P (voiceBy st c mask frame)
+      → (NoneHolds (voiceRefusals c mask frame) → P (voiceAfter st mask frame (c .counts) (standing c))) → P (voiceBy st c mask frame)
   unfolding voiceBy
   by-voice P f =
-      by-refusals P (c, frame) (voiceRefusals (standing c) mask frame) (voiceAfter st mask frame (standing c))
-      (λ a m. f a (among-refuses a (voiceRefusals (standing c) mask frame) (from-two c mask frame) m))
+      by-refusals P (c, frame) (voiceRefusals c mask frame) (voiceAfter st mask frame (c .counts) (standing c))
+      (λ a m. f a (among-refuses a (voiceRefusals c mask frame) (from-two c mask frame) m))
 
   -- a slot that is answered 0 or 1 is refused by nothing
-  pub voice-taken : numberOf (voiceBy st c mask frame .0) < 2 → NoneHolds (voiceRefusals (standing c) mask frame)
+  pub voice-taken : numberOf (voiceBy st c mask frame .0) < 2 → NoneHolds (voiceRefusals c mask frame)
   voice-taken =
-      by-voice (λ o. numberOf (o .0) < 2 → NoneHolds (voiceRefusals (standing c) mask frame)) (λ a r l. absurd (omega arith)) (λ n l. n)
+      by-voice (λ o. numberOf (o .0) < 2 → NoneHolds (voiceRefusals c mask frame)) (λ a r l. absurd (omega arith)) (λ n l. n)
 
   -- answer 0: the frame is the slot's turning of it by the bits of the call's own session, at either end
   pub done-turned : numberOf (voiceBy st c mask frame .0) ≡ 0 → voiceBy st c mask frame .1 .1 ≡ inSlot st mask frame c
   done-turned =
       by-voice (λ o. numberOf (o .0) ≡ 0 → o .1 .1 ≡ inSlot st mask frame c) (λ a r z. absurd (omega arith)) (λ n. go (knows (standing c)) refl)
     where
-      go : (t : Bool) → knows (standing c) ≡ t → numberOf (pick t Done Held) ≡ 0 → pick t (inSlot st mask frame (written (standing c))) frame ≡ inSlot st mask frame c
+      go : (t : Bool) → knows (standing c) ≡ t → numberOf (pick t Done Held) ≡ 0 → pick t (inSlot st mask frame (written (c .counts) (standing c))) frame ≡ inSlot st mask frame c
       go true k z = ap (inSlot st mask frame) (known-written c k)
       go false k z = absurd (omega arith)
 
@@ -150,7 +192,7 @@ module _ (st : Call → ℕ → ℕ) (c : Call) (mask : ℕ) (frame : List ℕ) 
   pub undone-stays : (numberOf (voiceBy st c mask frame .0) ≡ 0 → ⊥) → voiceBy st c mask frame .1 .1 ≡ frame
   undone-stays = by-voice (λ o. (numberOf (o .0) ≡ 0 → ⊥) → o .1 .1 ≡ frame) (λ a r n. refl) (λ h. go (knows (standing c)))
     where
-      go : (t : Bool) → (numberOf (pick t Done Held) ≡ 0 → ⊥) → pick t (inSlot st mask frame (written (standing c))) frame ≡ frame
+      go : (t : Bool) → (numberOf (pick t Done Held) ≡ 0 → ⊥) → pick t (inSlot st mask frame (written (c .counts) (standing c))) frame ≡ frame
       go true n = absurd (n refl)
       go false n = refl
 
@@ -163,11 +205,11 @@ pub voice-beside : (st su : Call → ℕ → ℕ) (c : Call) (mask : ℕ) (frame
     → withoutFrame (voiceBy st c mask frame) ≡ withoutFrame (voiceBy su c mask frame)
 unfolding voiceBy
 voice-beside st su c mask frame =
-    around call (c, frame) refusals (voiceAfter st mask frame (standing c))
-    ∙ sym (around call (c, frame) refusals (voiceAfter su mask frame (standing c)))
+    around call (c, frame) refusals (voiceAfter st mask frame (c .counts) (standing c))
+    ∙ sym (around call (c, frame) refusals (voiceAfter su mask frame (c .counts) (standing c)))
   where
     refusals : Refusals
-    refusals = voiceRefusals (standing c) mask frame
+    refusals = voiceRefusals c mask frame
 
     call : Call × List ℕ → Call
     call r = r .0
@@ -180,33 +222,33 @@ module _ (session : List ℕ) (c : Call) (mask : ℕ) (frame : List ℕ) where
 
   -- the slot by octets enough, but where there are too few
   lent-is : voiceByOctets session c mask frame
-      ≡ settled (c, frame) (voiceRefusals (standing c) mask frame)
-      (pick (ltb (length session) (sessionOctets (widthIn (standing c)))) (WrongLength, (c, frame)) (voiceAfter (λ d. bit session) mask frame (standing c)))
+      ≡ settled (c, frame) (voiceRefusals c mask frame)
+      (pick (ltb (length session) (sessionOctets (widthIn (standing c)))) (WrongLength, (c, frame)) (voiceAfter (λ d. bit session) mask frame (c .counts) (standing c)))
   unfolding voiceByOctets shortRefusals
-  lent-is = in-a-row (voiceRefusals (standing c) mask frame) (shortRefusals (standing c) session) (c, frame) (voiceAfter (λ d. bit session) mask frame (standing c))
+  lent-is = in-a-row (voiceRefusals c mask frame) (shortRefusals (standing c) session) (c, frame) (voiceAfter (λ d. bit session) mask frame (c .counts) (standing c))
 
   -- what is refused as every slot is
   pub by-refused : Refusal (lent .0) → voiceByOctets session c mask frame ≡ lent
   unfolding voiceBy
   by-refused r =
       lent-is
-      ∙ refused-alike (c, frame) (voiceRefusals (standing c) mask frame) _ (voiceAfter (λ d. bit session) mask frame (standing c)) (taken-under-two (knows (standing c))) r
+      ∙ refused-alike (c, frame) (voiceRefusals c mask frame) _ (voiceAfter (λ d. bit session) mask frame (c .counts) (standing c)) (taken-under-two (knows (standing c))) r
 
   pub by-long : sessionOctets (widthIn (standing c)) ≤ length session → voiceByOctets session c mask frame ≡ lent
   unfolding voiceBy
   by-long l = lent-is ∙ rw (le-ltb _ _ l)
 
-  pub by-short : NoneHolds (voiceRefusals (standing c) mask frame) → length session < sessionOctets (widthIn (standing c))
+  pub by-short : NoneHolds (voiceRefusals c mask frame) → length session < sessionOctets (widthIn (standing c))
       → (WrongLength, (c, frame)) ≡ voiceByOctets session c mask frame
-  by-short n l = sym (lent-is ∙ none-settles (voiceRefusals (standing c) mask frame) (c, frame) _ n ∙ rw (lt-ltb _ _ l))
+  by-short n l = sym (lent-is ∙ none-settles (voiceRefusals c mask frame) (c, frame) _ n ∙ rw (lt-ltb _ _ l))
 
   -- what holds of 2 with all as it was, and of the slot by octets enough, holds of the outcome
   pub by-lent : (P : Answer × (Call × List ℕ) → Type 0) → P (WrongLength, (c, frame)) → P lent → P (voiceByOctets session c mask frame)
   unfolding voiceBy
   by-lent P short long = rw lent-is (go (ltb (length session) (sessionOctets (widthIn (standing c)))))
     where
-      go : (t : Bool) → P (settled (c, frame) (voiceRefusals (standing c) mask frame) (pick t (WrongLength, (c, frame)) (voiceAfter (λ d. bit session) mask frame (standing c))))
-      go true = or-last P (c, frame) (voiceRefusals (standing c) mask frame) (WrongLength, (c, frame)) (voiceAfter (λ d. bit session) mask frame (standing c)) short long
+      go : (t : Bool) → P (settled (c, frame) (voiceRefusals c mask frame) (pick t (WrongLength, (c, frame)) (voiceAfter (λ d. bit session) mask frame (c .counts) (standing c))))
+      go true = or-last P (c, frame) (voiceRefusals c mask frame) (WrongLength, (c, frame)) (voiceAfter (λ d. bit session) mask frame (c .counts) (standing c)) short long
       go false = long
 
   -- any answer but 0: the frame is as it came
@@ -217,22 +259,22 @@ module _ (session : List ℕ) (c : Call) (mask : ℕ) (frame : List ℕ) where
 
 module _ (c : Call) (mask : ℕ) (frame : List ℕ) where
   -- the answer
-  pub answer-refused : (n : ℕ) → Refuses (voiceRefusals (standing c) mask frame) n
-      → answerAt (voiceRefusals (standing c) mask frame) n ≡ voiceOf c mask frame .0
+  pub answer-refused : (n : ℕ) → Refuses (voiceRefusals c mask frame) n
+      → answerAt (voiceRefusals c mask frame) n ≡ voiceOf c mask frame .0
   answer-refused n r = ap (λ (o : Answer × (Call × List ℕ)). o .0) (voice-refused streamOf c mask frame n r)
 
   module _ (l : length frame ≡ frameOctets (widthOf (c .terms))) (m : mask ≤ topMask) (good : goodCall c ≡ true) where
     -- 0 where the vector is known, else 1
-    pub answer-taken : (t : Bool) → (c .end ≡ closedEnd → ⊥) → knows (standing c) ≡ t → pick t Done Held ≡ voiceOf c mask frame .0
+    pub answer-taken : (t : Bool) → (c .end ≡ closedEnd → ⊥) → isFull (standing c) (c .counts) ≡ false → knows (standing c) ≡ t → pick t Done Held ≡ voiceOf c mask frame .0
     unfolding voiceRefusals
-    answer-taken t o k =
+    answer-taken t o room k =
         ap (λ (u : Bool). pick u Done Held) (sym k)
         ∙ ap (λ (r : Answer × (Call × List ℕ)). r .0)
-        (voice-done streamOf c mask frame (le-ltb _ _ m, (not-bad c good, (stands-some c good o, (ap not (eq-eqb _ _ (l ∙ ap frameOctets (sym (width-in c good o)))), tt)))))
+        (voice-done streamOf c mask frame (le-ltb _ _ m, (not-bad c good, (stands-some c good o, (room, (ap not (eq-eqb _ _ (l ∙ ap frameOctets (sym (width-in c good o)))), tt))))))
 
   -- the call after it
   module _ (a : Answer) (e : a ≡ voiceOf c mask frame .0) where
-    pub taken-none : numberOf a < 2 → NoneHolds (voiceRefusals (standing c) mask frame)
+    pub taken-none : numberOf a < 2 → NoneHolds (voiceRefusals c mask frame)
     taken-none l = voice-taken streamOf c mask frame (rw e at l)
 
     pub refused-call : Refusal a → c ≡ voiceOf c mask frame .1 .0
@@ -240,8 +282,22 @@ module _ (c : Call) (mask : ℕ) (frame : List ℕ) where
         by-voice streamOf c mask frame (λ o. Refusal (o .0) → c ≡ o .1 .0) (λ b q h. refl)
         (λ n h. absurd (omega (arith, taken-under-two (knows (standing c))))) (rw e at r)
 
-    pub taken-call : numberOf a < 2 → (d : Call) → d ≡ written (slotOn (standing c)) → d ≡ voiceOf c mask frame .1 .0
-    taken-call l d f = f ∙ ap (λ (o : Answer × (Call × List ℕ)). o .1 .0) (voice-done streamOf c mask frame (taken-none l))
+    -- 0 says that the vector is known
+    taken-knows : numberOf a < 2 → {n : ℕ} → n ≡ numberOf a → eqb n 0 ≡ knows (standing c)
+    taken-knows l q =
+        ap (λ (n : ℕ). eqb n 0) (q ∙ ap numberOf e ∙ sym (ap (λ (o : Answer × (Call × List ℕ)). numberOf (o .0)) (voice-done streamOf c mask frame (taken-none l))))
+        ∙ go (knows (standing c))
+      where
+        go : (t : Bool) → eqb (numberOf (pick t Done Held)) 0 ≡ t
+        go true = refl
+        go false = refl
+
+    pub taken-call : numberOf a < 2 → {n : ℕ} → n ≡ numberOf a → {w : Counts} → w ≡ arrivedWords mask (eqb n 0) → {d : Call}
+        → d ≡ written (plus (c .counts) w) (slotOn (standing c)) → d ≡ voiceOf c mask frame .1 .0
+    taken-call l q g f =
+        f
+        ∙ ap (λ (v : Counts). written (plus (c .counts) v) (slotOn (standing c))) (g ∙ ap (arrivedWords mask) (taken-knows l q))
+        ∙ ap (λ (o : Answer × (Call × List ℕ)). o .1 .0) (voice-done streamOf c mask frame (taken-none l))
 
 with-frame : (a : Answer) (d : Call) (g : List ℕ) (o : Answer × (Call × List ℕ)) → (a, d) ≡ withoutFrame o → g ≡ o .1 .1 → (a, (d, g)) ≡ o
 with-frame a d g o e f =
@@ -267,7 +323,7 @@ module _ (st : Call → ℕ → ℕ) (c : Call) (mask : ℕ) (frame : List ℕ)
         with-frame a d g (voiceBy st c mask frame) (e ∙ voice-beside streamOf st c mask frame)
         (t ∙ sym (done-turned st c mask frame (sym number-by ∙ z)))
 
-    none-refused : NoneHolds (voiceRefusals (standing c) mask frame)
+    none-refused : NoneHolds (voiceRefusals c mask frame)
     none-refused = voice-taken st c mask frame (omega (arith, number-by))
 
     pub turned-long : length frame ≡ frameOctets (widthOf (c .terms))
@@ -292,7 +348,7 @@ module _ (session : List ℕ) (c : Call) (mask : ℕ) (frame : List ℕ)
       ∙ sym (by-refused session c mask frame (rw (number-by st c mask frame a d stepped) at r))
 
   module _ (taken : numberOf a < 2) where
-    none : NoneHolds (voiceRefusals (standing c) mask frame)
+    none : NoneHolds (voiceRefusals c mask frame)
     none = taken-none c mask frame a (stepped .0) taken
 
     its : widthIn (standing c) ≡ widthOf (c .terms)

@@ -20,10 +20,10 @@ module _ (c : Call) (good : goodCall c ≡ true) where
 
   -- the struct of a receiver that has been told w
   pub told-is : awaits (standing c) ≡ true → (w : List ℕ)
-      → written (withVector w (standing c)) ≡ written (receiving (c .terms) (c .position) (told w))
+      → written (c .counts) (withVector w (standing c)) ≡ written (c .counts) (receiving (c .terms) (c .position) (told w))
   told-is a w =
       by-stands c good (λ o e s. absurd (true≢false (sym a ∙ ap awaits s))) (λ o e s. absurd (true≢false (sym a ∙ ap awaits s)))
-      (λ o e s. ap (λ (t : Standing). written (withVector w t)) s)
+      (λ o e s. ap (λ (t : Standing). written (c .counts) (withVector w t)) s)
 
   pub following-is : generates (standing c) ≡ true → following (standing c) ≡ nextVector (c .vector)
   following-is a =
@@ -32,11 +32,11 @@ module _ (c : Call) (good : goodCall c ≡ true) where
 module _ (c : Call) (w : List ℕ) where
   pub announce-refused : (n : ℕ) → Refuses (announceRefusals (standing c) w) n → (answerAt (announceRefusals (standing c) w) n, c) ≡ announceOf c w
   unfolding announceOf
-  announce-refused = refused-at c (announceRefusals (standing c) w) (Done, written (withVector w (standing c)))
+  announce-refused = refused-at c (announceRefusals (standing c) w) (Done, written (c .counts) (withVector w (standing c)))
 
-  pub announce-done : NoneHolds (announceRefusals (standing c) w) → (Done, written (withVector w (standing c))) ≡ announceOf c w
+  pub announce-done : NoneHolds (announceRefusals (standing c) w) → (Done, written (c .counts) (withVector w (standing c))) ≡ announceOf c w
   unfolding announceOf
-  announce-done n = sym (none-settles (announceRefusals (standing c) w) c (Done, written (withVector w (standing c))) n)
+  announce-done n = sym (none-settles (announceRefusals (standing c) w) c (Done, written (c .counts) (withVector w (standing c))) n)
 
 module _ (c : Call) (out : List ℕ) where
   pub next-refused : (n : ℕ) → Refuses (nextRefusals (standing c) out) n → (answerAt (nextRefusals (standing c) out) n, out) ≡ nextVectorOf c out

@@ -10,10 +10,12 @@ use Rattle.sizes.specs.Ciphers.{sessionSlots, keyRoom, noVector, scrambles}
 use Rattle.answers.specs.declared.Answer.{Answer}
 use Rattle.answers.specs.declared.Answer.the-variants.{Bad, NotNow}
 use Rattle.answers.specs.Outcomes.{Refusals, outcome}
+use Rattle.voice.specs.declared.counts.Counts.{Counts}
 use Rattle.voice.specs.declared.call.Terms.{Terms}
 use Rattle.voice.specs.declared.call.Call.{Call}
 use Rattle.ciphers.specs.Keys.{keyRight}
 use Rattle.sizes.specs.Frame.{isRate, width}
+use Rattle.voice.specs.Counts.{noCounts, total, countTests}
 
 -- ---- the numbers of the struct
 
@@ -57,18 +59,25 @@ vectorRight end cipher strictness known zeros =
     (pick (eqb end sendingEnd) (eqb known toldVector && not zeros)
     (pick (eqb known unknownVector) zeros (pick (eqb known carriedVector) (eqb strictness byDefault) (eqb known toldVector))))
 
+-- a sender counts nothing; a receiver that knows no vector by default has never known one
+unfoldable pub countsRight : ℕ → ℕ → ℕ → ℕ → ℕ → Counts → Bool
+countsRight end cipher strictness known position n =
+    pick (eqb end sendingEnd) (eqb (total n) 0)
+    (every (countTests (scrambles cipher) (eqb strictness byDefault && eqb known unknownVector) position n))
+
 -- closed, all else zero
 unfoldable pub closedTests : Call → List Bool
 closedTests c =
     eqb (c .end) closedEnd ∷ eqb (c .terms .cipher) 0 ∷ eqb (c .terms .rate) 0 ∷ eqb (c .terms .strictness) 0 ∷ eqb (c .position) 0
-    ∷ eqb (c .known) unknownVector ∷ allZero (c .terms .key) ∷ allZero (c .vector) ∷ []
+    ∷ eqb (c .known) unknownVector ∷ allZero (c .terms .key) ∷ allZero (c .vector) ∷ eqb (total (c .counts)) 0 ∷ []
 
--- its end, cipher, allowed key, rate and strictness, position inside the session, and vector with what is known of it
+-- its end, cipher, allowed key, rate and strictness, position inside the session, vector with what is known of it, and counts
 unfoldable pub openTests : Call → List Bool
 openTests c =
     leb sendingEnd (c .end) ∷ leb (c .end) receivingEnd ∷ keyRight (c .terms .cipher) (c .terms .key)
     ∷ termsRight (c .end) (c .terms .rate) (c .terms .strictness) ∷ ltb (c .position) (sessionSlots (c .terms .cipher))
-    ∷ vectorRight (c .end) (c .terms .cipher) (c .terms .strictness) (c .known) (allZero (c .vector)) ∷ []
+    ∷ vectorRight (c .end) (c .terms .cipher) (c .terms .strictness) (c .known) (allZero (c .vector))
+    ∷ countsRight (c .end) (c .terms .cipher) (c .terms .strictness) (c .known) (c .position) (c .counts) ∷ []
 
 unfoldable pub isClosed : Call → Bool
 isClosed c = every (closedTests c)
@@ -137,19 +146,19 @@ termsOf cipher key rate strictness = record { cipher = cipher; key = key; rate =
 abbrev pub widthOf : Terms → ℕ
 widthOf t = width (t .rate)
 
-abbrev pub callAt : ℕ → Terms → ℕ → ℕ → List ℕ → Call
-callAt end t p known v = record { end = end; terms = t; position = p; known = known; vector = v }
+abbrev pub callAt : ℕ → Terms → ℕ → ℕ → List ℕ → Counts → Call
+callAt end t p known v n = record { end = end; terms = t; position = p; known = known; vector = v; counts = n }
 
 -- no call: all zero
 abbrev pub noCall : Call
-noCall = callAt closedEnd (termsOf 0 (replicate keyRoom 0) 0 0) 0 unknownVector noVector
+noCall = callAt closedEnd (termsOf 0 (replicate keyRoom 0) 0 0) 0 unknownVector noVector noCounts
 
--- the one struct for what a call stands for (there is none for bad: no operation leaves a bad call but as it was)
-abbrev pub written : Standing → Call
-written closed = noCall
-written bad = noCall
-written (sending t p v) = callAt sendingEnd t p toldVector v
-written (receiving t p k) = callAt receivingEnd t p (knownNumber k) (knownVector k)
+-- the one struct for what a call stands for, with a receiver's counts (there is none for bad: no operation leaves a bad call but as it was)
+abbrev pub written : Counts → Standing → Call
+written n closed = noCall
+written n bad = noCall
+written n (sending t p v) = callAt sendingEnd t p toldVector v noCounts
+written n (receiving t p k) = callAt receivingEnd t p (knownNumber k) (knownVector k) n
 
 abbrev pub isBad : Standing → Bool
 isBad closed = false
@@ -186,9 +195,9 @@ knows (receiving t p k) = isKnown k
 
 -- ---- its end
 
--- end closes it; 4, 9 without a call
+-- end closes it and hands out its counts, which are zeros on a refusal and for a sender; 4, 9 without a call
 unfoldable pub endRefusals : Standing → Refusals
 endRefusals s = (isBad s, Bad) ∷ (not (stands s), NotNow) ∷ []
 
-unfoldable pub endOf : Call → Answer × Call
-endOf c = outcome c (endRefusals (standing c)) (written closed)
+unfoldable pub endOf : Call → Answer × (Call × Counts)
+endOf c = outcome (c, noCounts) (endRefusals (standing c)) (noCall, c .counts)

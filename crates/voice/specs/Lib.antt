@@ -1,4 +1,5 @@
 pub mod Frame
+pub mod Counts
 pub mod Call
 pub mod Opening
 pub mod Slot

@@ -7,13 +7,10 @@ use Rattle.answers.specs.declared.Answer.{Answer}
 use Rattle.answers.specs.Outcomes.{Refusals, outcome}
 use Rattle.voice.specs.declared.call.Terms.{Terms}
 use Rattle.voice.specs.declared.call.Call.{Call}
-use Rattle.sizes.specs.Ciphers.{scrambles}
+use Rattle.sizes.specs.Ciphers.{superframeSlots, scrambles}
+use Rattle.voice.specs.Counts.{noCounts}
 use Rattle.openings.specs.Ladder.{sessionVector, keyFor, keyRefusals, vectorRefusals}
 use Rattle.voice.specs.Call.{sendingEnd, receivingEnd, byDefault, termsRight, told, untold, Standing, sending, receiving, standing, termsOf, written, isBad, stands}
-
--- the slots of a superframe
-abbrev pub superframeSlots : ℕ
-superframeSlots = 4
 
 -- 2, 3 of cipher, key ID, rate and strictness, 4 of the call, 9 while a call stands, 4 of the book, 5, 6
 unfoldable pub joinRefusals : Standing → ℕ → ℕ → ℕ → ℕ → List ℕ → Refusals
@@ -29,7 +26,7 @@ begun end t v = pick (eqb end sendingEnd) (sending t 0 v) (receiving t 0 (told v
 
 abbrev pub begunOf : ℕ → Call → ℕ → ℕ → ℕ → ℕ → List ℕ → List ℕ → Answer × Call
 begunOf end call c i r m w b =
-    outcome call (begunRefusals end (standing call) c i r m w b) (written (begun end (termsOf c (keyFor b c i) r m) (sessionVector c w)))
+    outcome call (begunRefusals end (standing call) c i r m w b) (written noCounts (begun end (termsOf c (keyFor b c i) r m) (sessionVector c w)))
 
 unfoldable pub openOf : Call → ℕ → ℕ → ℕ → ℕ → List ℕ → List ℕ → Answer × Call
 openOf = begunOf receivingEnd
@@ -43,4 +40,4 @@ abbrev pub joined : Terms → Standing
 joined t = receiving t (pick (scrambles (t .cipher)) 0 superframeSlots) (untold (t .cipher))
 
 unfoldable pub joinOf : Call → ℕ → ℕ → ℕ → ℕ → List ℕ → Answer × Call
-joinOf call c i r m b = outcome call (joinRefusals (standing call) c i r m b) (written (joined (termsOf c (keyFor b c i) r m)))
+joinOf call c i r m b = outcome call (joinRefusals (standing call) c i r m b) (written noCounts (joined (termsOf c (keyFor b c i) r m)))

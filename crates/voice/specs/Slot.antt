@@ -3,20 +3,22 @@ use mathlib.Core.Path.{_≡_}
 use mathlib.Core.List.{List, [], _∷_, _++_}
 use mathlib.Core.Bool.{Bool, true, _&&_, not}
 use Prim.Native.Nat.{ℕ, _+_, _-_, _^_, _≤_, _<_}
-use lib.Dec.{ltb, eqb}
+use lib.Dec.{ltb, leb, eqb}
 use lib.ListN.{length}
 use Rattle.octets.specs.Tests.{pick}
 use Rattle.octets.specs.Bits.{bit, octetsFrom}
 use Rattle.answers.specs.declared.Answer.{Answer}
-use Rattle.answers.specs.declared.Answer.the-variants.{Done, Held, WrongLength, Bad, NotNow, BadMask}
+use Rattle.answers.specs.declared.Answer.the-variants.{Done, Held, WrongLength, Bad, NotNow, BadMask, PastLimit}
 use Rattle.answers.specs.Outcomes.{Refusals, settled, outcome}
 use Rattle.sizes.specs.Ciphers.{sessionSlots, noVector, scrambles}
 use Rattle.ciphers.specs.Keystream.{stream}
 use Rattle.generator.specs.Generator.{nextVector}
+use Rattle.voice.specs.declared.counts.Counts.{Counts}
 use Rattle.voice.specs.declared.call.Terms.{Terms}
 use Rattle.voice.specs.declared.call.Call.{Call}
-use Rattle.sizes.specs.Frame.{words, frameOctets, sessionBits, sessionOctets}
+use Rattle.sizes.specs.Frame.{words, frameOctets, sessionBits, sessionOctets, mostWords}
 use Rattle.voice.specs.Frame.{ofSlot, protect}
+use Rattle.voice.specs.Counts.{plus, total, lostWords, arrivedWords}
 use Rattle.voice.specs.Call.{byDefault, Known, carried, isKnown, knownVector, untold, Standing, closed, bad, sending, receiving, standing, widthOf, widthIn, written, isBad, stands, receives, knows}
 
 -- ---- a slot on
@@ -40,14 +42,18 @@ slotOn bad = bad
 slotOn (sending t p v) = pick (ltb (p + 1) (sessionSlots (t .cipher))) (sending t (p + 1) v) (sending t 0 (goingOn (t .cipher) v))
 slotOn (receiving t p k) = pick (ltb (p + 1) (sessionSlots (t .cipher))) (receiving t (p + 1) k) (receiving t 0 (ridden t k))
 
+-- a receiver was told of as many slots as it may be; a sender has no limit
+abbrev pub isFull : Standing → Counts → Bool
+isFull s n = receives s && leb mostWords (total n)
+
 -- ---- a lost slot
 
--- it moves position on; 4, 9 without a receiving call
-unfoldable pub lostRefusals : Standing → Refusals
-lostRefusals s = (isBad s, Bad) ∷ (not (receives s), NotNow) ∷ []
+-- it moves position on and is four words lost; 4, 9 without a receiving call, 16 past the limit
+unfoldable pub lostRefusals : Call → Refusals
+lostRefusals c = (isBad (standing c), Bad) ∷ (not (receives (standing c)), NotNow) ∷ (isFull (standing c) (c .counts), PastLimit) ∷ []
 
 unfoldable pub lostOf : Call → Answer × Call
-lostOf c = outcome c (lostRefusals (standing c)) (written (slotOn (standing c)))
+lostOf c = outcome c (lostRefusals c) (written (plus (c .counts) lostWords) (slotOn (standing c)))
 
 -- ---- a voice slot
 
@@ -55,10 +61,11 @@ lostOf c = outcome c (lostRefusals (standing c)) (written (slotOn (standing c)))
 abbrev pub topMask : ℕ
 topMask = 2 ^ words - 1
 
--- 10, 4, 9 without a call; and 2, which comes last, since a frame's length follows the call's rate (document 02, W-205)
-unfoldable pub voiceRefusals : Standing → ℕ → List ℕ → Refusals
-voiceRefusals s mask frame =
-    (ltb topMask mask, BadMask) ∷ (isBad s, Bad) ∷ (not (stands s), NotNow) ∷ (not (eqb (length frame) (frameOctets (widthIn s))), WrongLength) ∷ []
+-- 10, 4, 9 without a call, 16 past a receiver's limit; and 2, which comes last, since a frame's length follows the call's rate (document 02, W-205)
+unfoldable pub voiceRefusals : Call → ℕ → List ℕ → Refusals
+voiceRefusals c mask frame =
+    (ltb topMask mask, BadMask) ∷ (isBad (standing c), Bad) ∷ (not (stands (standing c)), NotNow) ∷ (isFull (standing c) (c .counts), PastLimit)
+    ∷ (not (eqb (length frame) (frameOctets (widthIn (standing c)))), WrongLength) ∷ []
 
 -- the keystream of the session that a call is in
 abbrev pub streamOf : Call → ℕ → ℕ
@@ -69,13 +76,14 @@ module _ (st : Call → ℕ → ℕ) (mask : ℕ) (frame : List ℕ) where
   abbrev pub inSlot : Call → List ℕ
   inSlot c = let width = widthOf (c .terms) in protect width (ofSlot width (st c) (c .position)) mask frame
 
-  -- at either end the frame is turned; where a receiver doesn't know the vector it is held as it came; position moves on
-  abbrev pub voiceAfter : Standing → Answer × (Call × List ℕ)
-  voiceAfter s = (pick (knows s) Done Held, (written (slotOn s), pick (knows s) (inSlot (written s)) frame))
+  -- at either end the frame is turned; where a receiver doesn't know the vector it is held as it came; position moves on, and a receiver counts the words
+  abbrev pub voiceAfter : Counts → Standing → Answer × (Call × List ℕ)
+  voiceAfter n s =
+      (pick (knows s) Done Held, (written (plus n (arrivedWords mask (knows s))) (slotOn s), pick (knows s) (inSlot (written n s)) frame))
 
 -- a slot, its session's bits given by st
 unfoldable pub voiceBy : (Call → ℕ → ℕ) → Call → ℕ → List ℕ → Answer × (Call × List ℕ)
-voiceBy st c mask frame = settled (c, frame) (voiceRefusals (standing c) mask frame) (voiceAfter st mask frame (standing c))
+voiceBy st c mask frame = settled (c, frame) (voiceRefusals c mask frame) (voiceAfter st mask frame (c .counts) (standing c))
 
 -- by its session's keystream
 abbrev pub voiceOf : Call → ℕ → List ℕ → Answer × (Call × List ℕ)
@@ -88,7 +96,7 @@ shortRefusals s session = (ltb (length session) (sessionOctets (widthIn s)), Wro
 -- by lent octets, whatever they hold
 unfoldable pub voiceByOctets : List ℕ → Call → ℕ → List ℕ → Answer × (Call × List ℕ)
 voiceByOctets session c mask frame =
-    settled (c, frame) (voiceRefusals (standing c) mask frame ++ shortRefusals (standing c) session) (voiceAfter (λ d. bit session) mask frame (standing c))
+    settled (c, frame) (voiceRefusals c mask frame ++ shortRefusals (standing c) session) (voiceAfter (λ d. bit session) mask frame (c .counts) (standing c))
 
 -- ---- a session's keystream, made once
 

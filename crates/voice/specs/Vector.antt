@@ -33,7 +33,7 @@ unfoldable pub announceRefusals : Standing → List ℕ → Refusals
 announceRefusals s w = (not (eqb (length w) vectorOctets), WrongLength) ∷ (isBad s, Bad) ∷ (not (awaits s), NotNow) ∷ []
 
 unfoldable pub announceOf : Call → List ℕ → Answer × Call
-announceOf c w = outcome c (announceRefusals (standing c) w) (written (withVector w (standing c)))
+announceOf c w = outcome c (announceRefusals (standing c) w) (written (c .counts) (withVector w (standing c)))
 
 -- ---- next vector
 

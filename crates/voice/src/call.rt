@@ -1,6 +1,13 @@
 // A call by value, the rules that a good one keeps, and its end.
 ghost use mathlib.Core.Path.{_≡_};
-ghost use Rattle.voice.specs.Call.{receivingEnd, termsRight, vectorRight, isClosed, isOpen, goodCall, knownNumber, untold, sending, callAt, noCall, written, endOf};
+ghost use mathlib.Core.Bool.{_&&_};
+ghost use lib.Dec.{eqb};
+ghost use Rattle.voice.specs.Call.{receivingEnd, unknownVector, byDefault, termsRight, vectorRight, countsRight, isClosed, isOpen, goodCall, knownNumber, untold, sendingEnd, toldVector, callAt, noCall, endOf};
+ghost use Rattle.voice.specs.Counts.{noCounts};
+use crate::counts::Counts;
+use crate::counts::no_counts;
+use crate::counts::receiver_counts_right;
+use crate::counts::total;
 use answers::Answer;
 use ciphers::key::key_right;
 use octets::all_zero;
@@ -37,19 +44,27 @@ pub struct Terms {
     pub strictness: u8,
 }
 
-// Closed is all zero. A scramble vector is told and zeros, an unknown vector is zeros, and a strict receiver carries none.
+// Closed is all zero. A scramble vector is told and zeros, an unknown vector is zeros, and a strict receiver carries none. Only a receiver counts words.
 pub struct Call {
     pub end: u8,
     pub terms: Terms,
     pub position: u8,
     pub known: u8,
     pub vector: [u8; VECTOR_OCTETS],
+    pub counts: Counts,
 }
 
 // What an operation answers, and the call after it.
 pub struct Stepped {
     pub answer: Answer,
     pub call: Call,
+}
+
+// What end answers, the call after it, and what it has counted.
+pub struct Ended {
+    pub answer: Answer,
+    pub call: Call,
+    pub counts: Counts,
 }
 
 // ---- the rules
@@ -90,6 +105,37 @@ fn vector_right(end: u8, cipher: u8, strictness: u8, known: u8, zeros: bool) -> 
     known == TOLD
 }
 
+// Whether a receiver has known no vector so far.
+fn never_known(strictness: u8, known: u8) -> bool
+    ensures { λ r. ⌜ r ≡ (eqb strictness byDefault && eqb known unknownVector) ⌝ }
+{
+    if strictness != DEFAULT {
+        return false;
+    }
+    known == UNKNOWN
+}
+
+fn counts_right(
+    end: u8,
+    cipher: u8,
+    strictness: u8,
+    known: u8,
+    position: u8,
+    counts: Counts,
+) -> bool
+    ensures { λ r. ⌜ r ≡ countsRight end cipher strictness known position counts ⌝ }
+{
+    if end == SENDING {
+        return total(counts) == 0;
+    }
+    receiver_counts_right(
+        cipher == Scramble::TYPE,
+        never_known(strictness, known),
+        position,
+        counts,
+    )
+}
+
 fn is_closed(call: Call) -> bool
     ensures { λ r. ⌜ r ≡ isClosed call ⌝ }
 {
@@ -116,7 +162,11 @@ fn is_closed(call: Call) -> bool
         return false;
     }
     let vector = call.vector;
-    all_zero(&vector)
+    if !all_zero(&vector) {
+        return false;
+    }
+    let counts = call.counts;
+    total(counts) == 0
 }
 
 fn is_open(call: Call) -> bool
@@ -139,12 +189,23 @@ fn is_open(call: Call) -> bool
         return false;
     }
     let vector = call.vector;
-    vector_right(
+    if !vector_right(
         call.end,
         call.terms.cipher,
         call.terms.strictness,
         call.known,
         all_zero(&vector),
+    ) {
+        return false;
+    }
+    let counts = call.counts;
+    counts_right(
+        call.end,
+        call.terms.cipher,
+        call.terms.strictness,
+        call.known,
+        call.position,
+        counts,
     )
 }
 
@@ -173,11 +234,12 @@ pub fn no_call() -> Call
         position: 0,
         known: UNKNOWN,
         vector: [0; VECTOR_OCTETS],
+        counts: no_counts(),
     }
 }
 
 pub(crate) fn sender(terms: Terms, position: u8, vector: [u8; VECTOR_OCTETS]) -> Call
-    ensures { λ r. ⌜ r ≡ written (sending terms position vector) ⌝ }
+    ensures { λ r. ⌜ r ≡ callAt sendingEnd terms position toldVector vector noCounts ⌝ }
 {
     Call {
         end: SENDING,
@@ -185,11 +247,18 @@ pub(crate) fn sender(terms: Terms, position: u8, vector: [u8; VECTOR_OCTETS]) ->
         position,
         known: TOLD,
         vector,
+        counts: no_counts(),
     }
 }
 
-pub(crate) fn receiver(terms: Terms, position: u8, known: u8, vector: [u8; VECTOR_OCTETS]) -> Call
-    ensures { λ r. ⌜ r ≡ callAt receivingEnd terms position known vector ⌝ }
+pub(crate) fn receiver(
+    terms: Terms,
+    position: u8,
+    known: u8,
+    vector: [u8; VECTOR_OCTETS],
+    counts: Counts,
+) -> Call
+    ensures { λ r. ⌜ r ≡ callAt receivingEnd terms position known vector counts ⌝ }
 {
     Call {
         end: RECEIVING,
@@ -197,6 +266,7 @@ pub(crate) fn receiver(terms: Terms, position: u8, known: u8, vector: [u8; VECTO
         position,
         known,
         vector,
+        counts,
     }
 }
 
@@ -219,17 +289,30 @@ pub(crate) fn refused(answer: Answer, call: Call) -> Stepped
 
 // ---- its end
 
-pub fn end(call: Call) -> Stepped
-    ensures { λ r. ⌜ (r .answer, r .call) ≡ endOf call ⌝ }
+// A refusal hands out zeros.
+fn not_ended(answer: Answer, call: Call) -> Ended
+    ensures { λ r. ⌜ (r .answer ≡ answer) × (r .call ≡ call) × (r .counts ≡ noCounts) ⌝ }
+{
+    Ended {
+        answer,
+        call,
+        counts: no_counts(),
+    }
+}
+
+pub fn end(call: Call) -> Ended
+    ensures { λ r. ⌜ (r .answer, (r .call, r .counts)) ≡ endOf call ⌝ }
 {
     if !good_call(call) {
-        return refused(Answer::Bad, call);
+        return not_ended(Answer::Bad, call);
     }
     if call.end == CLOSED {
-        return refused(Answer::NotNow, call);
+        return not_ended(Answer::NotNow, call);
     }
-    Stepped {
+    let counts = call.counts;
+    Ended {
         answer: Answer::Done,
         call: no_call(),
+        counts,
     }
 }

@@ -1,6 +1,7 @@
 // How a call begins: open, join and start. The call has its own copy of the key.
 ghost use mathlib.Core.Path.{_≡_};
 ghost use Rattle.voice.specs.Call.{written};
+ghost use Rattle.voice.specs.Counts.{noCounts};
 ghost use Rattle.voice.specs.Opening.{begun, begunOf, openOf, startOf, joined, joinOf};
 use crate::call::CLOSED;
 use crate::call::Call;
@@ -16,23 +17,23 @@ use crate::call::refused;
 use crate::call::sender;
 use crate::call::terms_right;
 use crate::call::untold;
+use crate::counts::no_counts;
 use answers::Answer;
 use openings::opening_key;
 use openings::opening_key_with;
 use openings::session_vector;
+use sizes::cipher::SUPERFRAME_SLOTS;
 use sizes::cipher::Scramble;
 use sizes::cipher::VECTOR_OCTETS;
 
-const SUPERFRAME_SLOTS: u8 = 4;
-
 // A call at one of its ends, at position 0 with its vector told.
 fn begun(end: u8, terms: Terms, vector: [u8; VECTOR_OCTETS]) -> Call
-    ensures { λ r. ⌜ r ≡ written (begun end terms vector) ⌝ }
+    ensures { λ r. ⌜ r ≡ written noCounts (begun end terms vector) ⌝ }
 {
     if end == SENDING {
         return sender(terms, 0, vector);
     }
-    receiver(terms, 0, TOLD, vector)
+    receiver(terms, 0, TOLD, vector, no_counts())
 }
 
 fn begin(
@@ -99,13 +100,19 @@ pub fn start(call: Call, cipher: u8, id: u8, rate: u8, vector: &[u8], book: &[u8
 
 // A receiver at the end of a first superframe.
 fn joining(terms: Terms) -> Call
-    ensures { λ r. ⌜ r ≡ written (joined terms) ⌝ }
+    ensures { λ r. ⌜ r ≡ written noCounts (joined terms) ⌝ }
 {
     let known = untold(terms.cipher);
     if terms.cipher == Scramble::TYPE {
-        return receiver(terms, 0, known, [0; VECTOR_OCTETS]);
+        return receiver(terms, 0, known, [0; VECTOR_OCTETS], no_counts());
     }
-    receiver(terms, SUPERFRAME_SLOTS, known, [0; VECTOR_OCTETS])
+    receiver(
+        terms,
+        SUPERFRAME_SLOTS,
+        known,
+        [0; VECTOR_OCTETS],
+        no_counts(),
+    )
 }
 
 pub fn join(call: Call, cipher: u8, id: u8, rate: u8, strictness: u8, book: &[u8]) -> Stepped

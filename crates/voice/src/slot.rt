@@ -2,13 +2,14 @@
 ghost use mathlib.Core.Path.{_≡_};
 ghost use Prim.Native.Nat.{_<_};
 ghost use lib.ListN.{length};
-ghost use mathlib.Core.Bool.{true, not};
+ghost use mathlib.Core.Bool.{true, false, not};
 ghost use lib.Dec.{eqb};
 ghost use Rattle.sizes.specs.Ciphers.{sessionSlots};
-ghost use Rattle.sizes.specs.Frame.{frameOctets, slotOctets};
+ghost use Rattle.sizes.specs.Frame.{words, frameOctets, slotOctets};
 ghost use Rattle.octets.specs.Lists.{allZero};
 ghost use Rattle.voice.specs.Call.{closedEnd, receivingEnd, unknownVector, vectorRight, goodCall, knownBy, sending, receiving, standing, widthOf, written};
-ghost use Rattle.voice.specs.Slot.{goingOn, rides, ridden, slotOn, lostOf, streamOf, inSlot, voiceOf, voiceByOctets, sessionStreamOf};
+ghost use Rattle.voice.specs.Counts.{noCounts, plus, total};
+ghost use Rattle.voice.specs.Slot.{goingOn, rides, ridden, slotOn, isFull, lostOf, streamOf, inSlot, voiceOf, voiceByOctets, sessionStreamOf};
 use crate::call::CARRIED;
 use crate::call::CLOSED;
 use crate::call::Call;
@@ -23,6 +24,11 @@ use crate::call::receiver;
 use crate::call::refused;
 use crate::call::sender;
 use crate::call::untold;
+use crate::counts::Counts;
+use crate::counts::arrived_words;
+use crate::counts::lost_words;
+use crate::counts::plus;
+use crate::counts::total;
 use crate::frame::turn_frame;
 use answers::Answer;
 use ciphers::keystream::keystream;
@@ -31,6 +37,7 @@ use sizes::cipher::Scramble;
 use sizes::cipher::VECTOR_OCTETS;
 use sizes::cipher::session_slots;
 use sizes::frame::MOST_SLOT_OCTETS;
+use sizes::frame::MOST_WORDS;
 use sizes::frame::frame_octets;
 use sizes::frame::session_octets;
 use sizes::frame::slot_bits;
@@ -56,25 +63,31 @@ fn is_riding(terms: Terms, known: u8) -> bool
 }
 
 // A receiver as its next session starts.
-fn next_session(terms: Terms, known: u8, vector: [u8; VECTOR_OCTETS]) -> Call
-    ensures { λ r. ⌜ r ≡ written (receiving terms 0 (ridden terms (knownBy known vector))) ⌝ }
+fn next_session(terms: Terms, known: u8, vector: [u8; VECTOR_OCTETS], counts: Counts) -> Call
+    ensures { λ r. ⌜ r ≡ written counts (receiving terms 0 (ridden terms (knownBy known vector))) ⌝ }
 {
     if is_riding(terms, known) {
-        return receiver(terms, 0, CARRIED, generator::next_vector(&vector));
+        return receiver(terms, 0, CARRIED, generator::next_vector(&vector), counts);
     }
-    receiver(terms, 0, untold(terms.cipher), [0; VECTOR_OCTETS])
+    receiver(terms, 0, untold(terms.cipher), [0; VECTOR_OCTETS], counts)
 }
 
 // A receiver after a slot.
-fn receiver_on(terms: Terms, position: u8, known: u8, vector: [u8; VECTOR_OCTETS]) -> Call
+fn receiver_on(
+    terms: Terms,
+    position: u8,
+    known: u8,
+    vector: [u8; VECTOR_OCTETS],
+    counts: Counts,
+) -> Call
     requires { ⌜ (position < sessionSlots (terms .cipher)) × (vectorRight receivingEnd (terms .cipher) (terms .strictness) known (allZero vector) ≡ true) ⌝ }
-    ensures { λ r. ⌜ r ≡ written (slotOn (receiving terms position (knownBy known vector))) ⌝ }
+    ensures { λ r. ⌜ r ≡ written counts (slotOn (receiving terms position (knownBy known vector))) ⌝ }
 {
     let heard = position + 1;
     if wide(heard) < session_slots(terms.cipher) {
-        return receiver(terms, heard, known, vector);
+        return receiver(terms, heard, known, vector, counts);
     }
-    next_session(terms, known, vector)
+    next_session(terms, known, vector, counts)
 }
 
 // The vector of a sender's next session.
@@ -90,7 +103,7 @@ fn going_on(cipher: u8, vector: [u8; VECTOR_OCTETS]) -> [u8; VECTOR_OCTETS]
 // A sender after a slot.
 fn sender_on(terms: Terms, position: u8, vector: [u8; VECTOR_OCTETS]) -> Call
     requires { ⌜ position < sessionSlots (terms .cipher) ⌝ }
-    ensures { λ r. ⌜ r ≡ written (slotOn (sending terms position vector)) ⌝ }
+    ensures { λ r. ⌜ r ≡ written noCounts (slotOn (sending terms position vector)) ⌝ }
 {
     let sent = position + 1;
     if wide(sent) < session_slots(terms.cipher) {
@@ -99,17 +112,30 @@ fn sender_on(terms: Terms, position: u8, vector: [u8; VECTOR_OCTETS]) -> Call
     sender(terms, 0, going_on(terms.cipher, vector))
 }
 
-// A standing call after a slot, at either end.
-fn slot_on(call: Call) -> Call
-    requires { ⌜ (goodCall call ≡ true) × (call .end ≡ closedEnd → ⊥) ⌝ }
-    ensures { λ r. ⌜ r ≡ written (slotOn (standing call)) ⌝ }
+// A standing call after a slot with these words, at either end.
+fn slot_on(call: Call, slot: Counts) -> Call
+    requires { ⌜ (goodCall call ≡ true) × (call .end ≡ closedEnd → ⊥) × (isFull (standing call) (call .counts) ≡ false) × (total slot ≡ words) ⌝ }
+    ensures { λ r. ⌜ r ≡ written (plus (call .counts) slot) (slotOn (standing call)) ⌝ }
 {
     let terms = call.terms;
     let vector = call.vector;
     if call.end == SENDING {
         return sender_on(terms, call.position, vector);
     }
-    receiver_on(terms, call.position, call.known, vector)
+    let counts = call.counts;
+    receiver_on(terms, call.position, call.known, vector, plus(counts, slot))
+}
+
+// Whether a receiver was told of as many slots as it may be.
+fn is_full(call: Call) -> bool
+    requires { ⌜ goodCall call ≡ true ⌝ }
+    ensures { λ r. ⌜ r ≡ isFull (standing call) (call .counts) ⌝ }
+{
+    if call.end != RECEIVING {
+        return false;
+    }
+    let counts = call.counts;
+    total(counts) >= MOST_WORDS as u64
 }
 
 // ---- a lost slot
@@ -123,9 +149,12 @@ pub fn lost(call: Call) -> Stepped
     if call.end != RECEIVING {
         return refused(Answer::NotNow, call);
     }
+    if is_full(call) {
+        return refused(Answer::PastLimit, call);
+    }
     Stepped {
         answer: Answer::Done,
-        call: slot_on(call),
+        call: slot_on(call, lost_words()),
     }
 }
 
@@ -172,6 +201,9 @@ fn answer_to(call: Call, mask: u8, frame: &[u8]) -> Answer
     if call.end == CLOSED {
         return Answer::NotNow;
     }
+    if is_full(call) {
+        return Answer::PastLimit;
+    }
     if frame.len() != frame_octets(width(call.terms.rate)) {
         return Answer::WrongLength;
     }
@@ -189,9 +221,10 @@ fn step(call: Call, mask: u8, frame: &[u8]) -> Stepped
     if answer.number() > 1 {
         return refused(answer, call);
     }
+    let slot = arrived_words(mask, answer.number() == 0);
     Stepped {
         answer,
-        call: slot_on(call),
+        call: slot_on(call, slot),
     }
 }
 

@@ -47,11 +47,12 @@ pub fn announce(call: Call, vector: &[u8]) -> Stepped
         return refused(Answer::NotNow, call);
     }
     let terms = call.terms;
+    let counts = call.counts;
     let mut own = [0; VECTOR_OCTETS];
     copy(vector, &mut own);
     Stepped {
         answer: Answer::Done,
-        call: receiver(terms, call.position, TOLD, own),
+        call: receiver(terms, call.position, TOLD, own, counts),
     }
 }
 

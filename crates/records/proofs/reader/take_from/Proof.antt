@@ -34,7 +34,7 @@ end-line-requires : tie.Need-end-line-requires Inv-loop μ-loop
 end-line-requires c κs = (c .before .before .before .before .before .before .before .before .loop .inv .1, c .before .before .before .before .before .before .before .before .loop .inv .2, simp (length-take, length-drop) (omega (arith, c .before .before .before .before .before .before .before .if1 .left)), c .before .before .before .before .before .before .before .before .loop .inv .3)
 
 add-wrote : tie.Need-add-wrote Inv-loop μ-loop
-add-wrote c = omega (arith, c .before .before .before .before .before .before .before .before .before .before .before .before .before .before .before .before .before .before .before .before .good .1, c .before .before .before .before .before .before .before .end-line .ensures .0 .long, c .before .before .before .before .before .before .before .end-line .ensures .0 .within, c .before .before .before .before .before .before .before .before .before .before .before .before .before .before .before .if1 .left)
+add-wrote c = omega (arith, c .before .before .before .before .before .before .before .before .before .before .before .before .before .before .before .before .before .before .before .before .good .1 .1 .1 .1 .1, c .before .before .before .before .before .before .before .before .before .before .before .before .before .before .before .before .loop .inv .0, c .before .before .before .before .before .before .before .end-line .ensures .0 .long, c .before .before .before .before .before .before .before .end-line .ensures .0 .within, c .before .before .before .before .before .before .before .before .before .before .before .before .before .before .before .if1 .left)
 
 add-used : tie.Need-add-used Inv-loop μ-loop
 add-used c = omega (arith, c .before .before .before .before .before .before .before .before .before .before .before .before .before .before .before .before .before .before .before .before .before .good .1, c .before .before .before .before .before .before .before .before .before .before .before .before .before .before .before .part-end .ensures .2, c .before .before .before .before .before .before .before .before .before .before .before .before .before .if2 .left)

@@ -23,4 +23,6 @@ is-closed-spec =
     (λ c. every-fails (closedTests (c .before .before .before .before .before .before .before .before .before .before .before .before .before .before .before .before .args .call)) 6 (fails (c .before .all-zero .ensures) (c .if7 .taken)))
     (λ c. search (needs, c .before .before .before .before .before .before .before .before .before .before .before .before .before .before .before .before .before .before .good))
     (λ c κs. search needs)
-    (λ c. rw (eq-eqb _ _ (c .before .before .before .before .before .before .before .before .before .before .before .before .before .before .before .before .before .if1 .left), eq-eqb _ _ (c .before .before .before .before .before .before .before .before .before .before .before .before .before .before .before .if2 .left), eq-eqb _ _ (c .before .before .before .before .before .before .before .before .before .before .before .before .before .if3 .left), eq-eqb _ _ (c .before .before .before .before .before .before .before .before .before .before .before .if4 .left), eq-eqb _ _ (c .before .before .before .before .before .before .before .before .before .if5 .left), eq-eqb _ _ (c .before .before .before .before .before .before .before .if6 .left), holds (c .before .before .before .before .all-zero .ensures) (c .before .before .before .if7 .left), and-true) (c .all-zero2 .ensures)))
+    (λ c. every-fails (closedTests (c .before .before .before .before .before .before .before .before .before .before .before .before .before .before .before .before .before .before .before .before .args .call)) 7 (fails (c .before .all-zero2 .ensures) (c .if8 .taken)))
+    (λ c κs. search needs)
+    (λ c. rw (eq-eqb _ _ (c .before .before .before .before .before .before .before .before .before .before .before .before .before .before .before .before .before .before .before .before .if1 .left), eq-eqb _ _ (c .before .before .before .before .before .before .before .before .before .before .before .before .before .before .before .before .before .before .if2 .left), eq-eqb _ _ (c .before .before .before .before .before .before .before .before .before .before .before .before .before .before .before .before .if3 .left), eq-eqb _ _ (c .before .before .before .before .before .before .before .before .before .before .before .before .before .before .if4 .left), eq-eqb _ _ (c .before .before .before .before .before .before .before .before .before .before .before .before .if5 .left), eq-eqb _ _ (c .before .before .before .before .before .before .before .before .before .before .if6 .left), holds (c .before .before .before .before .before .before .before .all-zero .ensures) (c .before .before .before .before .before .before .if7 .left), holds (c .before .before .before .all-zero2 .ensures) (c .before .before .if8 .left), and-true, c .total .ensures)))

@@ -11,4 +11,5 @@ begun-spec =
     (λ c κs. search needs)
     (λ c. rw (eq-eqb _ _ (c .before .if1 .taken)) (c .sender .ensures))
     (λ c κs. search needs)
-    (λ c. rw (ne-eqb _ _ (c .before .if1 .left)) (c .receiver .ensures)))
+    (λ c κs. search needs)
+    (λ c. rw (ne-eqb _ _ (c .before .before .if1 .left), c .receiver .ensures, c .before .no-counts .ensures)))

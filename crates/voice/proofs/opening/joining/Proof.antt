@@ -13,6 +13,8 @@ joining-spec =
     (tie.spec
     (λ c κs. search needs)
     (λ c κs. search needs)
-    (λ c. c .receiver .ensures ∙ untold-is _ _ (c .before .before .before .untold .ensures) ∙ joined-at _ (rw (eq-eqb _ _ (c .before .if1 .taken))))
     (λ c κs. search needs)
-    (λ c. c .receiver2 .ensures ∙ untold-is _ _ (c .before .before .before .untold .ensures) ∙ joined-at _ (rw (ne-eqb _ _ (c .before .if1 .left)))))
+    (λ c. rw (c .receiver .ensures, c .before .no-counts .ensures) (untold-is _ _ _ (c .before .before .before .before .untold .ensures) ∙ joined-at _ (rw (eq-eqb _ _ (c .before .before .if1 .taken)))))
+    (λ c κs. search needs)
+    (λ c κs. search needs)
+    (λ c. rw (c .receiver2 .ensures, c .before .no-counts2 .ensures) (untold-is _ _ _ (c .before .before .before .before .untold .ensures) ∙ joined-at _ (rw (ne-eqb _ _ (c .before .before .if1 .left))))))

@@ -18,6 +18,6 @@ receiver-on-spec =
     (λ c κs. search needs)
     (λ c κs. search needs)
     (λ c κs. search needs)
-    (λ c. c .receiver .ensures ∙ receiver-is _ _ _ _ (search needs) (c .before .before .before .before .pre .1) ∙ rw (sym (c .before .before .session-slots .ensures), sym (c .before .before .before .wide .ensures .0), lt-ltb _ _ (c .before .if1 .taken)))
+    (λ c. c .receiver .ensures ∙ receiver-is _ _ _ _ _ (search needs) (c .before .before .before .before .pre .1) ∙ rw (sym (c .before .before .session-slots .ensures), sym (c .before .before .before .wide .ensures .0), lt-ltb _ _ (c .before .if1 .taken)))
     (λ c κs. search needs)
     (λ c. c .next-session .ensures ∙ rw (sym (c .before .before .session-slots .ensures), sym (c .before .before .before .wide .ensures .0), le-ltb _ _ (c .before .if1 .left))))

@@ -27,6 +27,6 @@ announce-spec =
     (λ c. search needs)
     (λ c κs. search needs)
     (λ c κs. search needs)
-    (λ c. let good = holds (c .before .before .before .before .before .before .before .before .good-call .ensures) (c .before .before .before .before .before .before .before .if2 .left) in
-    let waits = holds (c .before .before .before .before .before .before .is-awaiting .ensures) (c .before .before .before .before .before .if3 .left) in
-    rw (c .receiver .ensures, c .before .before .copy .ensures, ← told-is _ good waits (now (c .before .before .before .before .before .before .before .before .before .before .before .args .vector))) (announce-done _ _ (ap not (eq-eqb _ _ (c .before .before .before .before .before .before .before .before .before .if1 .left)), (not-bad _ good, (ap not waits, tt))))))
+    (λ c. let good = holds (c .before .before .before .before .before .before .before .before .before .good-call .ensures) (c .before .before .before .before .before .before .before .before .if2 .left) in
+    let waits = holds (c .before .before .before .before .before .before .before .is-awaiting .ensures) (c .before .before .before .before .before .before .if3 .left) in
+    rw (c .receiver .ensures, c .before .before .copy .ensures, ← told-is _ good waits (now (c .before .before .before .before .before .before .before .before .before .before .before .before .args .vector))) (announce-done _ _ (ap not (eq-eqb _ _ (c .before .before .before .before .before .before .before .before .before .before .if1 .left)), (not-bad _ good, (ap not waits, tt))))))

@@ -1,0 +1,145 @@
+-- Devices that count wrongly are thrown out: those that are ours but for what end hands out of the four counts, and those without the slot limit. The
+-- limit can be reached.
+use mathlib.Core.Path.{_≡_, refl, sym, ap, _∙_}
+use mathlib.Core.Bool.{true, false}
+use mathlib.Core.List.{List, [], _∷_}
+use Prim.Native.Nat.{ℕ, zero, suc, _≤_}
+use native.Mathlib.Omega.{arith}
+use lib.ListN.{length, getD}
+use Rattle.octets.specs.Tests.{allBelow, firstBelow}
+use Rattle.octets.specs.Lists.{allZero}
+use Rattle.answers.specs.declared.Answer.{Answer}
+use Rattle.answers.specs.declared.Answer.the-variants.{Done}
+use Rattle.answers.specs.Numbers.{numberOf}
+use Rattle.ciphers.specs.Keys.{oddOctet, desKey, keyAllowed}
+use Rattle.keyentry.specs.Entry as entry
+use Rattle.keybook.specs.Book as rules
+use Rattle.openings.specs.Ladder.{keyRefusals}
+use Rattle.openings.specs.Samples.{seed, desABCD}
+use Rattle.voice.specs.declared.call.Call.{Call}
+use Rattle.voice.specs.Counts.{noCounts}
+use Rattle.voice.specs.Call.{closedTests, isClosed, standing, termsOf, noCall, written}
+use Rattle.voice.specs.Opening.{joinRefusals, joined, joinOf}
+use Rattle.demands.specs.Device.{Device, Open, Join, Voice, Lost, End, callStep, Operation, OfCall, Step, step, deviceAfter, history}
+use Rattle.demands.specs.OtherDevices.{handing, uncounted, exchanged, passedOff}
+use Rattle.demands.specs.Counted.{Slot, arrived, missed, receivesIn, slotsIn, fourCounts, AtLimit, Counted}
+use Rattle.demands.proofs.Layouts.{ways-right}
+use Rattle.demands.proofs.Samples.{silence, silent-long}
+use Rattle.demands.proofs.Instance1.{ready, loading, is-loaded, opens, opening-call, is-open}
+use Rattle.demands.proofs.Counting.{Receives, end-done, lost-on, voice-on, ours-counts}
+
+-- ---- what end hands out
+
+module _ (f : List ℕ → List ℕ) where
+  -- it goes through what ours does
+  device-alike : (os : List Operation) → deviceAfter (handing f) os ≡ deviceAfter step os
+  unfolding deviceAfter
+  device-alike [] = refl
+  device-alike (o ∷ os) = ap (λ (d : Device). step d o .1 .0) (device-alike os)
+
+  history-alike : (os : List Operation) → history (handing f) os ≡ history step os
+  unfolding history
+  history-alike [] = refl
+  history-alike (o ∷ os) = rw (device-alike os, history-alike os)
+
+  -- if it counts right, it hands out what ours does, wherever a call receives
+  pub hands-ours : Counted (handing f) → (os : List Operation) (n : ℕ) {xs : List Slot} → Receives n xs (history step os)
+      → f (fourCounts xs) ≡ fourCounts xs
+  hands-ours right os n {xs} r =
+      let z = end-done os n (r .receives) in
+      let ours : step (deviceAfter step os) (OfCall n End) .1 .1 ≡ fourCounts xs = ours-counts .handed os n z ∙ ap fourCounts (r .its) in
+      let its = rw (history-alike os, device-alike os, z) at (right .handed os n (rw (device-alike os) z)) in
+      sym (ap f ours) ∙ its ∙ ap fourCounts (r .its)
+
+-- ---- slots that can be told
+
+module _ (r m : ℕ) (low : r ≤ 1) (lows : m ≤ 1) where
+  abbrev begun : List Operation
+  begun = opening-call r m low lows
+
+  open-done : step (deviceAfter step loading) (OfCall 0 (Open 2 0 r m seed)) .0 ≡ Done
+  unfolding step callStep
+  open-done = ap (λ (d : Device). step d (OfCall 0 (Open 2 0 r m seed)) .0) is-loaded ∙ ap (λ (x : Answer × Call). x .0) (opens r m low lows)
+
+  -- a call that was just opened to receive, at either rate and of either strictness
+  opened-now : Receives 0 [] (history step begun)
+  unfolding history receivesIn slotsIn
+  opened-now = record { receives = rw open-done; its = rw open-done }
+
+  -- two words of a slot, then a lost slot
+  opened-two : Receives 0 (missed ∷ arrived 3 true ∷ []) (history step (OfCall 0 Lost ∷ OfCall 0 (Voice 3 (silence r)) ∷ begun))
+  opened-two =
+      lost-on (OfCall 0 (Voice 3 (silence r)) ∷ begun) 0
+      (voice-on begun 0 opened-now (omega arith) 3 (silence r) true (omega arith) (rw (is-open r m low lows) (silent-long r))
+      (rw (is-open r m low lows)))
+      (omega arith)
+
+  -- and of one that joined, whose vector is unknown
+  joins : joinOf noCall 2 0 r m ready ≡ (Done, written noCounts (joined (termsOf 2 desABCD r m)))
+  unfolding joinOf joinRefusals keyRefusals standing isClosed closedTests allZero allBelow firstBelow entry.inRange entry.isFor
+      entry.entryRight entry.usedRight entry.readyRight entry.lacks rules.entryOf rules.findEntry rules.apart rules.goodBook keyAllowed desKey oddOctet
+  joins = rw (ways-right r m low lows)
+
+  abbrev joining : List Operation
+  joining = OfCall 0 (Join 2 0 r m) ∷ loading
+
+  join-done : step (deviceAfter step loading) (OfCall 0 (Join 2 0 r m)) .0 ≡ Done
+  unfolding step callStep
+  join-done = ap (λ (d : Device). step d (OfCall 0 (Join 2 0 r m)) .0) is-loaded ∙ ap (λ (x : Answer × Call). x .0) joins
+
+  is-joined : deviceAfter step joining .calls 0 ≡ written noCounts (joined (termsOf 2 desABCD r m))
+  unfolding deviceAfter step callStep
+  is-joined = ap (λ (d : Device). step d (OfCall 0 (Join 2 0 r m)) .1 .0 .calls 0) is-loaded ∙ ap (λ (x : Answer × Call). x .1) joins
+
+  joined-two : Receives 0 (arrived 3 false ∷ []) (history step (OfCall 0 (Voice 3 (silence r)) ∷ joining))
+  unfolding history receivesIn slotsIn
+  joined-two =
+      voice-on joining 0 (record { receives = rw join-done; its = rw join-done }) (omega arith) 3 (silence r) false (omega arith)
+      (rw is-joined (silent-long r)) (rw is-joined)
+
+-- ---- the devices that are thrown out
+
+-- every one that hands out something else where two words were opened, two replaced and four lost; or where two were held and two replaced
+module _ (f : List ℕ → List ℕ) where
+  pub opened-thrown-out : (f (2 ∷ 0 ∷ 2 ∷ 4 ∷ []) ≡ 2 ∷ 0 ∷ 2 ∷ 4 ∷ [] → ⊥) → Counted (handing f) → ⊥
+  opened-thrown-out wrong right = wrong (hands-ours f right _ 0 (opened-two 0 0 (omega arith) (omega arith)))
+
+  pub held-thrown-out : (f (0 ∷ 2 ∷ 2 ∷ 0 ∷ []) ≡ 0 ∷ 2 ∷ 2 ∷ 0 ∷ [] → ⊥) → Counted (handing f) → ⊥
+  held-thrown-out wrong right = wrong (hands-ours f right _ 0 (joined-two 0 0 (omega arith) (omega arith)))
+
+-- count n of two lists that are equal
+at : (n : ℕ) {xs ys : List ℕ} → xs ≡ ys → getD xs n 0 ≡ getD ys n 0
+at n = ap (λ (xs : List ℕ). getD xs n 0)
+
+pub uncounted-thrown-out : Counted (handing uncounted) → ⊥
+uncounted-thrown-out = opened-thrown-out uncounted (λ e. omega (arith, at 0 e))
+
+pub exchanged-thrown-out : Counted (handing exchanged) → ⊥
+exchanged-thrown-out = opened-thrown-out exchanged (λ e. omega (arith, at 1 e))
+
+pub passed-off-thrown-out : Counted (handing passedOff) → ⊥
+passed-off-thrown-out = held-thrown-out passedOff (λ e. omega (arith, at 0 e))
+
+-- ---- the limit
+
+-- so many lost slots after a call was opened
+unfoldable pub missing : ℕ → List Operation
+missing zero = opening-call 0 0 (omega arith) (omega arith)
+missing (suc k) = OfCall 0 Lost ∷ missing k
+
+missing-told : (k : ℕ) → k ≤ 1000000 → (receivesIn 0 (history step (missing k)) ≡ true) × (length (slotsIn 0 (history step (missing k))) ≡ k)
+unfolding missing
+missing-told zero l = let r = opened-now 0 0 (omega arith) (omega arith) in (r .receives, ap length (r .its))
+missing-told (suc k) l =
+    let p = missing-told k (omega arith) in
+    let r = lost-on (missing k) 0 (record { receives = p .0; its = refl }) (omega (arith, p .1)) in
+    (r .receives, ap length (r .its) ∙ ap suc (p .1))
+
+-- it can be reached
+pub limit-reached : AtLimit 0 (history step (missing 1000000))
+limit-reached = let p = missing-told 1000000 (omega arith) in record { receives = p .0; full = p .1 }
+
+-- so a device that went through this as ours and doesn't answer the next slot 16 is thrown out
+pub unlimited-thrown-out : (st : Step) → history st (missing 1000000) ≡ history step (missing 1000000)
+    → (numberOf (st (deviceAfter st (missing 1000000)) (OfCall 0 Lost) .0) ≡ 16 → ⊥) → Counted st → ⊥
+unlimited-thrown-out st e other right = other (right .lost-past (missing 1000000) 0 .1 (rw e limit-reached))
