@@ -1,0 +1,3 @@
+pub mod SumLaws
+pub mod ReportLaws
+pub mod Examples
