@@ -149,10 +149,15 @@ def allowed(cipher, key):
     return cipher == 3 or all(bin(x).count("1") % 2 for x in key)
 
 
+COUNTS = "opened", "held", "replaced", "lost"
+MOST_SLOTS = 1_000_000
+
+
 class Receiver:
     def __init__(self, strict=True):
         self.strict = strict
         self.book, self.call = {}, None  # (cipher, key ID) to key; cipher, key, position, vector or None, whether it was told
+        self.counts = dict.fromkeys(COUNTS, 0)
 
     def load(self, cipher, key_id, key):
         if cipher not in KEY_OCTETS or key_id > 63:
@@ -178,9 +183,15 @@ class Receiver:
         joined = vector is None and cipher != 1
         known = bytes(8) if cipher == 1 else vector
         self.call = [cipher, self.book[cipher, key_id], 4 if joined else 0, known, not joined]
+        self.counts = dict.fromkeys(COUNTS, 0)
         return 0
 
-    def slot(self):
+    def full(self):
+        return sum(self.counts.values()) == WORDS * MOST_SLOTS
+
+    def slot(self, words):
+        for word in words:
+            self.counts[word] += 1
         cipher, _, position, vector, _ = self.call
         self.call[2] = (position + 1) % SLOTS[cipher]
         if self.call[2] == 0 and cipher != 1:
@@ -191,8 +202,10 @@ class Receiver:
             return 10, None
         if not self.call:
             return 9, None
+        if self.full():
+            return 16, None
         cipher, key, position, vector, _ = self.call
-        self.slot()
+        self.slot("replaced" if not mask >> word & 1 else "held" if vector is None else "opened" for word in range(WORDS))
         if vector is None:
             return 1, None
         return 0, turned_frame(HALF, cipher, key, vector, position, mask, frame)
@@ -219,12 +232,13 @@ class Receiver:
                 answer = self.announce(octets)
             elif not self.call:
                 answer = 9
+            elif letter == "E":
+                answer, self.call = 0, None
+            elif self.full():
+                answer = 16
             else:
                 answer = 0
-                if letter == "L":
-                    self.slot()
-                else:
-                    self.call = None
+                self.slot(WORDS * ["lost"])
         position = "-" if self.call is None else str(self.call[2])
         return f"{answer}\t{position}\t{frame.hex().upper() if frame else '-'}\n"
 
@@ -264,16 +278,17 @@ FRAMES = [
 
 
 def print_slots(what, command, rows):
-    print(f"# {what}: cipher type, rate, key, vector of the call's first session, slots of the call before it, mask (hex), frame, turned frame.")
+    print(f"# {what}: cipher type, rate, key, vector of the call's first session, slots of the call before it, of mask 0, mask (hex), frame, turned frame, and of all its words, heard, those opened, held, replaced and lost.")
     print(f"# Printed by bench/model.py {command}: scramble and the generator in Python, DES and AES by OpenSSL.")
     for first, (cipher, rate, key, before, mask, frame) in rows:
         receiver = Receiver(strict=False)
         receiver.call = [cipher, bytes.fromhex(key), 0, bytes.fromhex(first), True]
         for _ in range(before):
-            receiver.slot()
+            receiver.slot(WORDS * ["replaced"])
         _, octets, position, vector, _ = receiver.call
         out = turned_frame(rate, cipher, octets, vector, position, mask, bytes.fromhex(frame))
-        print(cipher, rate, key, first, before, f"{mask:02X}", frame, out.hex().upper(), sep="\t")
+        receiver.slot("opened" if mask >> word & 1 else "replaced" for word in range(WORDS))
+        print(cipher, rate, key, first, before, f"{mask:02X}", frame, out.hex().upper(), *receiver.counts.values(), sep="\t")
 
 
 def slots():
