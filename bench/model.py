@@ -5,6 +5,7 @@ model.py first               prints crates/vectors/data/nxdn-first-messages.tsv,
 model.py messages            prints crates/vectors/data/data-messages.tsv
 model.py slots               prints crates/vectors/data/voice-slots.tsv
 model.py zeros               prints crates/vectors/data/voice-slots-zeros.tsv
+model.py calls               prints crates/vectors/data/call-counts.tsv
 model.py slotcheck < FILE    prints what slotcheck should print
 Each first checks the model against section 7.2.2 of NXDN TS 1-D ("001").
 A voice call has a rate: a word has 49 speech bits at half rate and 72 at full rate, and each other size follows from that. A row of slots gives the rate, and where it
@@ -210,6 +211,12 @@ class Receiver:
             return 1, None
         return 0, turned_frame(HALF, cipher, key, vector, position, mask, frame)
 
+    def lost(self):
+        if self.full():
+            return 16
+        self.slot(WORDS * ["lost"])
+        return 0
+
     def announce(self, vector):
         if not self.call or self.call[0] == 1 or self.call[2] != 0 or self.call[4]:
             return 9
@@ -234,11 +241,8 @@ class Receiver:
                 answer = 9
             elif letter == "E":
                 answer, self.call = 0, None
-            elif self.full():
-                answer = 16
             else:
-                answer = 0
-                self.slot(WORDS * ["lost"])
+                answer = self.lost()
         position = "-" if self.call is None else str(self.call[2])
         return f"{answer}\t{position}\t{frame.hex().upper() if frame else '-'}\n"
 
@@ -278,7 +282,7 @@ FRAMES = [
 
 
 def print_slots(what, command, rows):
-    print(f"# {what}: cipher type, rate, key, vector of the call's first session, slots of the call before it, of mask 0, mask (hex), frame, turned frame, and of all its words, heard, those opened, held, replaced and lost.")
+    print(f"# {what}: cipher type, rate, key, vector of the call's first session, slots of the call before it, mask (hex), frame, turned frame.")
     print(f"# Printed by bench/model.py {command}: scramble and the generator in Python, DES and AES by OpenSSL.")
     for first, (cipher, rate, key, before, mask, frame) in rows:
         receiver = Receiver(strict=False)
@@ -287,8 +291,7 @@ def print_slots(what, command, rows):
             receiver.slot(WORDS * ["replaced"])
         _, octets, position, vector, _ = receiver.call
         out = turned_frame(rate, cipher, octets, vector, position, mask, bytes.fromhex(frame))
-        receiver.slot("opened" if mask >> word & 1 else "replaced" for word in range(WORDS))
-        print(cipher, rate, key, first, before, f"{mask:02X}", frame, out.hex().upper(), *receiver.counts.values(), sep="\t")
+        print(cipher, rate, key, first, before, f"{mask:02X}", frame, out.hex().upper(), sep="\t")
 
 
 def slots():
@@ -298,6 +301,40 @@ def slots():
 def zeros():
     past = [row for row in FRAMES if row[0] != 1 and row[3] >= SLOTS[row[0]]]
     print_slots("Voice slots of a sender whose vectors are zeros, past a first session", "zeros", [("00" * 8, row) for row in past])
+
+
+# ---- calls to their end
+
+# cipher type, rate, whether it is strict, whether it joins, and what it is told: a slot's mask, FE for an announcement, FF for a lost slot
+CALLS = [
+    (1, HALF, 0, 0, "0F0003FF0A"),
+    (1, FULL, 1, 1, "FF0F0F010FFE0F00"),
+    (2, HALF, 1, 0, "0F0FFF0F0F070F0F" + "0F03FF"),
+    (2, HALF, 0, 0, "0F0FFF0F0F070F0F" + "0F03FF"),
+    (2, FULL, 1, 1, "0F0100FF" + "FE0F0E0F0F0F0F0F0F" + "05FE00FF"),
+    (2, FULL, 0, 1, "0F0100FF" + "0F0E0F0F0F0F0F0F" + "FE05FE00FF"),
+    (3, HALF, 1, 1, "0F030102" + "FE0FFFFF0F0F0F0F0D" + "FF0C"),
+    (3, HALF, 0, 1, "FFFFFFFF" + "FFFFFFFFFFFFFFFF" + "FE0608FF"),
+    (3, FULL, 0, 0, "100F0B"),
+    (3, FULL, 1, 0, ""),
+]
+
+
+def calls():
+    print("# Calls of a receiver from their opening to their end: cipher type, rate, strictness, key, 1 where it joined and knows no vector, what it is told (a slot's mask, FE for an announcement, FF for a lost slot; hex), and how many words were opened, held, replaced and lost.")
+    print("# Printed by bench/model.py calls.")
+    for cipher, rate, strict, joins, told in CALLS:
+        receiver = Receiver(strict=strict)
+        receiver.book[cipher, 0] = bytes.fromhex(KEYS[cipher])
+        receiver.begin(cipher, 0, None if joins else bytes(8))
+        for what in bytes.fromhex(told):
+            if what == 0xFE:
+                receiver.announce(8 * b"\xAB")
+            elif what == 0xFF:
+                receiver.lost()
+            else:
+                receiver.voice(what, bytes(WORDS * word_octets(HALF)))
+        print(cipher, rate, strict, KEYS[cipher], int(joins and cipher != 1), told, *receiver.counts.values(), sep="\t")
 
 
 # ---- slotcheck
@@ -315,7 +352,7 @@ for cipher, enciphered in PUBLISHED.items():
     assert turned(cipher, 0, TEXT).hex().upper() == enciphered
 
 if __name__ == "__main__":
-    printed = {"first": first, "messages": messages, "slots": slots, "zeros": zeros}
+    printed = {"first": first, "messages": messages, "slots": slots, "zeros": zeros, "calls": calls}
     if len(sys.argv) == 2 and sys.argv[1] in printed:
         printed[sys.argv[1]]()
     elif sys.argv[1:] == ["slotcheck"]:

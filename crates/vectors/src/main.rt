@@ -1,7 +1,8 @@
 // Runs known answers through the proved functions: those published for DES, AES-256 and output feedback, those of NXDN TS 1-D's 7.2.2 and 7.2.3,
-// and an independent model's voice slots and messages; and rows of each that one bit makes wrong. Prints one line for each set, with how many of its rows held,
+// and an independent model's voice slots, counts and messages; and rows of each that one bit makes wrong. Prints one line for each set, with how many of its rows held,
 // one for each row that did not, and how many of DES's selection entries the rows look at.
 mod blocks;
+mod calls;
 mod feedback;
 mod messages;
 mod nxdn;
@@ -23,6 +24,7 @@ enum Set {
     Nxdn,
     SentSlots,
     HeardSlots,
+    Calls,
     Messages,
 }
 
@@ -40,6 +42,7 @@ fn holds(set: Set, row: &[u8]) -> bool {
         Set::Nxdn => nxdn::holds(row),
         Set::SentSlots => slots::holds(row, false),
         Set::HeardSlots => slots::holds(row, true),
+        Set::Calls => calls::holds(row),
         Set::Messages => messages::holds(row),
     }
 }
@@ -186,6 +189,16 @@ fn run_slots() {
         Set::SentSlots,
         b"voice-slots-zeros.tsv",
         b"The same, sent by ours, which goes by no such vector, where none may hold",
+    );
+    run(
+        Set::Calls,
+        b"call-counts.tsv",
+        b"Calls to their end, words opened, held, replaced and lost, by the same model",
+    );
+    run(
+        Set::Calls,
+        b"call-counts-one-wrong.tsv",
+        b"The same with one count wrong, where none may hold",
     );
 }
 
