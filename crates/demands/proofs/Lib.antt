@@ -29,6 +29,7 @@ pub mod RefusedLaws
 pub mod LoadedLaws
 pub mod CallsLoaded
 pub mod Counting
+pub mod NightReport
 pub mod PacketOpens
 pub mod PacketsLoaded
 pub mod Meets1

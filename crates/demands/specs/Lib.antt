@@ -12,6 +12,7 @@ pub mod Device
 pub mod Refusals
 pub mod Demand1
 pub mod Counted
+pub mod Night
 pub mod OtherDevices
 pub mod Demand2
 pub mod SessionEnds

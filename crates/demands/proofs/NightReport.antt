@@ -1,0 +1,70 @@
+-- A night's report (document 02, W-207): of a device that counts right, what end hands out of up to 10,000 calls is taken by a report, which says of all their
+-- slots what end says of one call's.
+use mathlib.Core.Path.{_≡_, refl, sym, ap₂, _∙_}
+use mathlib.Core.List.{List, [], _∷_, _++_}
+use Prim.Native.Nat.{ℕ, zero, suc, _+_, _*_, _≤_, _<_}
+use native.Mathlib.Omega.{arith}
+use lib.ListN.{length, getD, length-append}
+use Rattle.answers.specs.declared.Answer.the-variants.{Done}
+use Rattle.report.specs.Report.{perCall, sumBelow, sumAt, sums, reportOf}
+use Rattle.report.proofs.SumLaws.{one-after-other}
+use Rattle.report.proofs.ReportLaws.{done-sums}
+use Rattle.demands.specs.Device.{Step, history}
+use Rattle.demands.specs.Counted.{Slot, slotsIn, Fate, opened, held, replaced, lost, placeOf, fates, howMany, fourCounts, Counted}
+use Rattle.demands.specs.Night.{Ending, AllEnded, handedOver, nightSlots, said}
+use Rattle.demands.proofs.Counting.{four-to-a-slot}
+
+-- of slots one after another
+how-many-both : (f : Fate) (xs ys : List Slot) → howMany f (fates (xs ++ ys)) ≡ howMany f (fates xs) + howMany f (fates ys)
+how-many-both f [] ys = omega arith
+how-many-both f (x ∷ xs) ys = omega (arith, how-many-both f xs ys)
+
+-- of one call
+one-call : (f : Fate) (xs : List Slot) → sumAt (placeOf f) (fourCounts xs) ≡ howMany f (fates xs)
+unfolding sumAt sumBelow
+one-call opened xs = omega arith
+one-call held xs = omega arith
+one-call replaced xs = omega arith
+one-call lost xs = omega arith
+
+place-below : (f : Fate) → placeOf f < perCall
+place-below opened = omega arith
+place-below held = omega arith
+place-below replaced = omega arith
+place-below lost = omega arith
+
+within : (xs : List Slot) (more : List ℕ) → length xs ≤ 1000000 → ((i : ℕ) → getD more i 0 ≤ 4000000) → (i : ℕ)
+    → getD (fourCounts xs ++ more) i 0 ≤ 4000000
+within xs more l h zero = omega (arith, four-to-a-slot xs)
+within xs more l h (suc zero) = omega (arith, four-to-a-slot xs)
+within xs more l h (suc (suc zero)) = omega (arith, four-to-a-slot xs)
+within xs more l h (suc (suc (suc zero))) = omega (arith, four-to-a-slot xs)
+within xs more l h (suc (suc (suc (suc i)))) = h i
+
+module _ (st : Step) (right : Counted st) where
+  abbrev slotsOf : Ending → List Slot
+  slotsOf e = slotsIn (e .1) (history st (e .0))
+
+  four-each : (es : List Ending) → AllEnded st es → length (handedOver st es) ≡ 4 * length es
+  four-each [] a = refl
+  four-each (e ∷ es) a = rw (right .handed (e .0) (e .1) (a .0)) (omega (arith, length-append (fourCounts (slotsOf e)) (handedOver st es), four-each es (a .1)))
+
+  all-within : (es : List Ending) → AllEnded st es → (i : ℕ) → getD (handedOver st es) i 0 ≤ 4000000
+  all-within [] a = λ i. omega arith
+  all-within (e ∷ es) a =
+      rw (right .handed (e .0) (e .1) (a .0)) (within (slotsOf e) (handedOver st es) (right .limit (e .0) (e .1)) (all-within es (a .1)))
+
+  sum-of-all : (f : Fate) (es : List Ending) → AllEnded st es → sumAt (placeOf f) (handedOver st es) ≡ howMany f (fates (nightSlots st es))
+  unfolding sumAt sumBelow
+  sum-of-all f [] a = refl
+  sum-of-all f (e ∷ es) a =
+      rw (right .handed (e .0) (e .1) (a .0))
+      (one-after-other (placeOf f) (place-below f) (fourCounts (slotsOf e)) (handedOver st es) refl (omega (arith, four-each es (a .1)))
+      ∙ ap₂ _+_ (one-call f (slotsOf e)) (sum-of-all f es (a .1))
+      ∙ sym (how-many-both f (slotsOf e) (nightSlots st es)))
+
+  pub night-report : (es : List Ending) → AllEnded st es → length es ≤ 10000 → reportOf (handedOver st es) ≡ (Done, said (nightSlots st es))
+  unfolding sums
+  night-report es a few =
+      done-sums (handedOver st es) (record { four = omega (arith, four-each es a); few = omega (arith, four-each es a); small = all-within es a })
+      ∙ rw (sum-of-all opened es a, sum-of-all held es a, sum-of-all replaced es a, sum-of-all lost es a)
