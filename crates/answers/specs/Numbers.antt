@@ -12,7 +12,7 @@ abbrev pub numberOf : Answer → ℕ
 numberOf Done = 0
 -- held: a voice slot in a receiving call whose session vector is unknown; frame unchanged, position moves on
 numberOf Held = 1
--- a lent buffer has the wrong length; add is given more than 32 octets
+-- a lent buffer has the wrong length; add is given more than 32 octets; a report's numbers aren't four to a call (W-207)
 numberOf WrongLength = 2
 -- cipher type not 1 to 3, key ID above 63, message kind not 1 to 4, a packet's end (W-204), a call's rate (W-205) or strictness (W-206) not 0 or 1
 numberOf OutOfRange = 3

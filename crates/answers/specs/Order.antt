@@ -7,23 +7,29 @@ use Rattle.octets.specs.Tests.{pick}
 use Rattle.answers.specs.Numbers.{numberOf, isOneOf}
 use Rattle.answers.specs.Outcomes.{Refusals}
 
--- the parts of the order: of what is given, of the call or packet, and of the book
+-- the parts of the order: of what is given, of the call or packet, of a receiving call's slots (document 02, W-207), and of the book
 abbrev pub ofGiven : List ℕ
 ofGiven = 2 ∷ 3 ∷ 10 ∷ []
 
 abbrev pub ofCall : List ℕ
-ofCall = 4 ∷ 9 ∷ 16 ∷ []
+ofCall = 4 ∷ 9 ∷ []
+
+abbrev pub ofSlots : List ℕ
+ofSlots = 16 ∷ []
 
 abbrev pub ofBook : List ℕ
 ofBook = 4 ∷ 5 ∷ 11 ∷ 6 ∷ 13 ∷ 7 ∷ 12 ∷ []
 
--- all but 8, which is for senders only (document 02, W-204)
+-- 2, then 3, 10, 4 for the call, 9, 16, 4 for the book, 5, 11, 6, 13, 7, 12, 8, each where the operation can give it
+abbrev pub refusalOrder : List ℕ
+refusalOrder = ofGiven ++ (ofCall ++ (ofSlots ++ (ofBook ++ (8 ∷ []))))
+
+-- an opening is of no slot, and 8 is for senders only (document 02, W-204)
 abbrev pub withoutZeros : List ℕ
 withoutZeros = ofGiven ++ (ofCall ++ ofBook)
 
--- 2, then 3, 10, 4 for the call, 9, 16 (document 02, W-207), 4 for the book, 5, 11, 6, 13, 7, 12, 8, each where the operation can give it
-abbrev pub refusalOrder : List ℕ
-refusalOrder = withoutZeros ++ (8 ∷ [])
+abbrev pub openingOrder : List ℕ
+openingOrder = withoutZeros ++ (8 ∷ [])
 
 -- the numbers of a list of refusals
 abbrev pub numbersOf : Refusals → List ℕ

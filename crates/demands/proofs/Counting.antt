@@ -27,7 +27,7 @@ use Rattle.voice.specs.Frame.{inMask}
 use Rattle.voice.specs.Counts.{countsOf, noCounts, plus, total, lostWords, arrivedWords}
 use Rattle.voice.specs.Call.{closedEnd, sendingEnd, receivingEnd, unknownVector, byDefault, termsRight, goodCall, Known, sending, receiving, standing, termsOf, widthOf, noCall, written, isBad, stands, knows, endRefusals, endOf}
 use Rattle.voice.specs.Opening.{joinRefusals, begunRefusals, begun, begunOf, openOf, startOf, joined, joinOf}
-use Rattle.voice.specs.Slot.{goingOn, ridden, slotOn, isFull, lostRefusals, lostOf, streamOf}
+use Rattle.voice.specs.Slot.{goingOn, ridden, slotOn, isFull, lostRefusals, lostOf, streamOf, voiceOf}
 use Rattle.voice.specs.Vector.{withVector, announceRefusals, announceOf, nextVectorOf}
 use Rattle.voice.proofs.CountLaws.{Fits, lost-fits, arrived-fits}
 use Rattle.voice.proofs.CallLaws.{by-stands, good-by, is-receiver, receives-not, open-none, counts-most}
@@ -38,7 +38,9 @@ use Rattle.voice.proofs.OpeningGood.{open-leaves, join-leaves}
 use Rattle.voice.proofs.Exactly as voice
 use Rattle.demands.specs.Device.{handedOut, Device, CallOperation, Open, Start, Join, Voice, Lost, End, Announce, NextVector, callStep, packetStep, Operation, OfBook, OfCall, OfPacket, Step, step, History, deviceAfter, history}
 use Rattle.demands.specs.Demand1.{opensOrEnds, renewsCall}
-use Rattle.demands.specs.Counted.{Slot, arrived, missed, slotOf, slotFor, hears, opensToReceive, receivesIn, slotsIn, Fate, opened, held, replaced, lost, placeOf, fates, howMany, fourCounts, AtLimit, Counted}
+use Rattle.demands.specs.Counted.{Slot, arrived, missed, slotOf, slotFor, toReceive, opensToReceive, receivesIn, slotsIn, Fate, opened, held, replaced, lost, placeOf, fates, howMany, fourCounts, AtLimit, Counted}
+use Rattle.demands.specs.Rates.{Layout}
+use Rattle.demands.proofs.Layouts.{layout-is}
 use Rattle.demands.proofs.DeviceLaws.{by-number}
 
 -- ---- the words of slots
@@ -189,7 +191,7 @@ module _ (n : ℕ) (h : History) (c : Call) (t : Tells n h c) where
   -- open, join, start and end: with outcome x, where d is what is left if it is done
   abbrev Renews : CallOperation → Answer × Call → Call → Type 0
   Renews o x d =
-      (opensOrEnds o ≡ true) × (hears o ≡ eqb (d .end) receivingEnd) × (d .counts ≡ noCounts)
+      (opensOrEnds o ≡ true) × (toReceive o ≡ eqb (d .end) receivingEnd) × (d .counts ≡ noCounts)
       × (d .end ≡ receivingEnd → numberOf (x .0) ≡ 0 → goodCall (x .1) ≡ true)
 
   renews : (o : CallOperation) (rs : Refusals) (d : Call) → fromTwo rs ≡ true → Renews o (outcome c rs d) d
@@ -291,7 +293,7 @@ in-call os n = told os n .counts
 -- ---- what is asked of a device
 
 -- a call that doesn't receive has no slots
-none-slots : (n : ℕ) (h : History) → receivesIn n h ≡ false → slotsIn n h ≡ []
+pub none-slots : (n : ℕ) (h : History) → receivesIn n h ≡ false → slotsIn n h ≡ []
 unfolding receivesIn slotsIn
 none-slots n [] e = refl
 none-slots n (x ∷ h) e = go (isDone (x .1) && renewsCall n (x .0)) (receivesIn n h) (none-slots n h) e
@@ -321,8 +323,8 @@ module _ (os : List Operation) (n : ℕ) where
   receiver : receivesIn n (history step os) ≡ true → c .end ≡ receivingEnd
   receiver r = eqb-true (c .end) receivingEnd (sym (told os n .end) ∙ r)
 
-  within-limit : length slots ≤ 1000000
-  within-limit = go (receivesIn n (history step os)) refl
+  at-most : length slots ≤ 1000000
+  at-most = go (receivesIn n (history step os)) refl
     where
       go : (b : Bool) → receivesIn n (history step os) ≡ b → length slots ≤ 1000000
       go true r = omega (arith, four, counts-most c (told os n .good (receiver r)))
@@ -369,20 +371,30 @@ module _ (os : List Operation) (n : ℕ) where
     pub lost-on : Receives n (missed ∷ xs) (history step (OfCall n Lost ∷ os))
     lost-on = one-more Lost missed refl (rw lost-done)
 
+    takes : (mask : ℕ) (frame : List ℕ) (known : Bool) → mask ≤ 15 → length frame ≡ frameOctets (widthOf (c .terms)) → not (eqb (c .known) unknownVector) ≡ known
+        → voice.Takes c mask frame known
+    takes mask frame known m l q =
+        let e = receiver (r .receives) in
+        record { long = l; masked = m; good = told os n .good e; stands = λ z. omega arith; room = λ z. below; vector = q }
+
     -- opened where the vector is known, else held
     pub voice-on : (mask : ℕ) (frame : List ℕ) (known : Bool) → mask ≤ 15 → length frame ≡ frameOctets (widthOf (c .terms))
         → not (eqb (c .known) unknownVector) ≡ known → Receives n (arrived mask known ∷ xs) (history step (OfCall n (Voice mask frame) ∷ os))
     unfolding step callStep
-    voice-on mask frame known m l q = go known takes
+    voice-on mask frame known m l q = go known (takes mask frame known m l q)
       where
-        takes : voice.Takes c mask frame known
-        takes =
-            let e = receiver (r .receives) in
-            record { long = l; masked = m; good = told os n .good e; stands = λ z. omega arith; room = λ z. below; vector = q }
-
         go : (k : Bool) → voice.Takes c mask frame k → Receives n (arrived mask k ∷ xs) (history step (OfCall n (Voice mask frame) ∷ os))
         go true t = one-more (Voice mask frame) (arrived mask true) refl (rw (voice.done-exactly c mask frame .1 t))
         go false t = one-more (Voice mask frame) (arrived mask false) refl (rw (voice.held-exactly c mask frame .1 t))
+
+    voice-taken : (mask : ℕ) (frame : List ℕ) → mask ≤ 15 → length frame ≡ frameOctets (widthOf (c .terms))
+        → numberOf (step (deviceAfter step os) (OfCall n (Voice mask frame)) .0) < 2
+    unfolding step callStep
+    voice-taken mask frame m l = go (not (eqb (c .known) unknownVector)) (takes mask frame _ m l refl)
+      where
+        go : (k : Bool) → voice.Takes c mask frame k → numberOf (voiceOf c mask frame .0) < 2
+        go true t = rw (voice.done-exactly c mask frame .1 t) (omega arith)
+        go false t = rw (voice.held-exactly c mask frame .1 t) (omega arith)
 
 pub ours-counts : Counted step
 unfolding step callStep
@@ -390,8 +402,11 @@ ours-counts =
     record {
       handed = λ os n z. hands-out os n z ∙ ap handedOut (in-call os n);
       ended = end-done;
-      limit = within-limit;
+      limit = at-most;
       taken = λ os n r l. lost-done os n (record { receives = r; its = refl }) l;
+      arrives = λ os n mask frame r l i.
+          voice-taken os n (record { receives = r; its = refl }) l mask frame (i .0)
+          (i .2 ∙ ap (λ (x : Layout). x .frame) (layout-is (c os n .terms .rate)));
       lost-past = λ os n.
           let p = voice.lost-past (c os n) in
           (λ z. by-history os n (p .0 z), λ l. ap (λ (x : Answer × Call). numberOf (x .0)) (p .1 (by-struct os n l)));

@@ -3,7 +3,7 @@
 use mathlib.Core.Path.{_≡_, refl, sym, ap, _∙_}
 use mathlib.Core.Bool.{true, false}
 use mathlib.Core.List.{List, [], _∷_}
-use Prim.Native.Nat.{ℕ, zero, suc, _≤_}
+use Prim.Native.Nat.{ℕ, zero, suc, _≤_, _<_}
 use native.Mathlib.Omega.{arith}
 use lib.ListN.{length, getD}
 use Rattle.octets.specs.Tests.{allBelow, firstBelow}
@@ -20,13 +20,13 @@ use Rattle.voice.specs.declared.call.Call.{Call}
 use Rattle.voice.specs.Counts.{noCounts}
 use Rattle.voice.specs.Call.{closedTests, isClosed, standing, termsOf, noCall, written}
 use Rattle.voice.specs.Opening.{joinRefusals, joined, joinOf}
-use Rattle.demands.specs.Device.{Device, Open, Join, Voice, Lost, End, callStep, Operation, OfCall, Step, step, deviceAfter, history}
+use Rattle.demands.specs.Device.{Device, Open, Join, Voice, Lost, End, callStep, Operation, OfCall, Step, step, deviceAfter, history, CallOperation}
 use Rattle.demands.specs.OtherDevices.{handing, uncounted, exchanged, passedOff}
 use Rattle.demands.specs.Counted.{Slot, arrived, missed, receivesIn, slotsIn, fourCounts, AtLimit, Counted}
 use Rattle.demands.proofs.Layouts.{ways-right}
 use Rattle.demands.proofs.Samples.{silence, silent-long}
 use Rattle.demands.proofs.Instance1.{ready, loading, is-loaded, opens, opening-call, is-open}
-use Rattle.demands.proofs.Counting.{Receives, end-done, lost-on, voice-on, ours-counts}
+use Rattle.demands.proofs.Counting.{none-slots, Receives, end-done, lost-on, voice-on, ours-counts}
 
 -- ---- what end hands out
 
@@ -120,26 +120,54 @@ exchanged-thrown-out = opened-thrown-out exchanged (λ e. omega (arith, at 1 e))
 pub passed-off-thrown-out : Counted (handing passedOff) → ⊥
 passed-off-thrown-out = held-thrown-out passedOff (λ e. omega (arith, at 0 e))
 
--- ---- the limit
+-- ---- the limit, at either rate and of either strictness
 
--- so many lost slots after a call was opened
-unfoldable pub missing : ℕ → List Operation
-missing zero = opening-call 0 0 (omega arith) (omega arith)
-missing (suc k) = OfCall 0 Lost ∷ missing k
+module _ (r m : ℕ) (low : r ≤ 1) (lows : m ≤ 1) where
+  -- so many lost slots after a call was opened
+  unfoldable pub missing : ℕ → List Operation
+  missing zero = opening-call r m low lows
+  missing (suc k) = OfCall 0 Lost ∷ missing k
 
-missing-told : (k : ℕ) → k ≤ 1000000 → (receivesIn 0 (history step (missing k)) ≡ true) × (length (slotsIn 0 (history step (missing k))) ≡ k)
-unfolding missing
-missing-told zero l = let r = opened-now 0 0 (omega arith) (omega arith) in (r .receives, ap length (r .its))
-missing-told (suc k) l =
-    let p = missing-told k (omega arith) in
-    let r = lost-on (missing k) 0 (record { receives = p .0; its = refl }) (omega (arith, p .1)) in
-    (r .receives, ap length (r .its) ∙ ap suc (p .1))
+  missing-told : (k : ℕ) → k ≤ 1000000 → (receivesIn 0 (history step (missing k)) ≡ true) × (length (slotsIn 0 (history step (missing k))) ≡ k)
+  unfolding missing
+  missing-told zero l = let o = opened-now r m low lows in (o .receives, ap length (o .its))
+  missing-told (suc k) l =
+      let p = missing-told k (omega arith) in
+      let o = lost-on (missing k) 0 (record { receives = p .0; its = refl }) (omega (arith, p .1)) in
+      (o .receives, ap length (o .its) ∙ ap suc (p .1))
 
--- it can be reached
-pub limit-reached : AtLimit 0 (history step (missing 1000000))
-limit-reached = let p = missing-told 1000000 (omega arith) in record { receives = p .0; full = p .1 }
+  -- it can be reached
+  pub limit-reached : AtLimit 0 (history step (missing 1000000))
+  limit-reached = let p = missing-told 1000000 (omega arith) in record { receives = p .0; full = p .1 }
 
--- so a device that went through this as ours and doesn't answer the next slot 16 is thrown out
-pub unlimited-thrown-out : (st : Step) → history st (missing 1000000) ≡ history step (missing 1000000)
-    → (numberOf (st (deviceAfter st (missing 1000000)) (OfCall 0 Lost) .0) ≡ 16 → ⊥) → Counted st → ⊥
-unlimited-thrown-out st e other right = other (right .lost-past (missing 1000000) 0 .1 (rw e limit-reached))
+  -- a device that went through this as ours
+  module _ (st : Step) where
+    abbrev Alike : ℕ → Type 0
+    Alike k = history st (missing k) ≡ history step (missing k)
+
+    abbrev answers : ℕ → CallOperation → ℕ
+    answers k o = numberOf (st (deviceAfter st (missing k)) (OfCall 0 o) .0)
+
+    -- is thrown out if it doesn't answer the next slot 16, lost or arrived
+    pub unlimited-thrown-out : Alike 1000000 → (answers 1000000 Lost ≡ 16 → ⊥) → Counted st → ⊥
+    unlimited-thrown-out e other right = other (right .lost-past (missing 1000000) 0 .1 (rw e limit-reached))
+
+    pub unlimited-voice-thrown-out : Alike 1000000 → (mask : ℕ) (frame : List ℕ) → mask ≤ 15 → (answers 1000000 (Voice mask frame) ≡ 16 → ⊥) → Counted st → ⊥
+    unlimited-voice-thrown-out e mask frame l other right = other (right .voice-past (missing 1000000) 0 mask frame .1 (l, rw e limit-reached))
+
+    -- or if it refuses a lost slot before, by whatever number, or answers one that arrives 16
+    pub early-thrown-out : (k : ℕ) → k < 1000000 → Alike k → (answers k Lost ≡ 0 → ⊥) → Counted st → ⊥
+    early-thrown-out k l e other right =
+        let p = missing-told k (omega arith) in
+        other (right .taken (missing k) 0 (rw e (p .0)) (rw e (omega (arith, p .1))))
+
+    pub sixteen-early-thrown-out : (k mask : ℕ) (frame : List ℕ) → k < 1000000 → Alike k → answers k (Voice mask frame) ≡ 16 → Counted st → ⊥
+    sixteen-early-thrown-out k mask frame l e z right =
+        let p = missing-told k (omega arith) in
+        let q : length (slotsIn 0 (history step (missing k))) ≡ 1000000 = rw e at (right .voice-past (missing k) 0 mask frame .0 z .1 .full) in
+        omega (arith, q, p .1)
+
+-- of a call that doesn't receive, a sender's say, zeros are handed out
+pub others-zeros : (st : Step) → Counted st → (os : List Operation) (n : ℕ) → receivesIn n (history st os) ≡ false
+    → numberOf (st (deviceAfter st os) (OfCall n End) .0) ≡ 0 → st (deviceAfter st os) (OfCall n End) .1 .1 ≡ 0 ∷ 0 ∷ 0 ∷ 0 ∷ []
+others-zeros st right os n r z = right .handed os n z ∙ ap fourCounts (none-slots n (history st os) r)

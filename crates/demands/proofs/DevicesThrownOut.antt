@@ -4,7 +4,7 @@ use mathlib.Core.Path.{_≡_, refl, sym, ap, _∙_}
 use mathlib.Core.Bool.{Bool, true, false, true≢false}
 use mathlib.Core.Logic.{inl, inr}
 use mathlib.Core.List.{List, [], _∷_, _++_}
-use Prim.Native.Nat.{ℕ, _≤_}
+use Prim.Native.Nat.{ℕ, _≤_, _<_}
 use native.Mathlib.Omega.{arith}
 use lib.Dec.{leb, eqb}
 use lib.ListN.{length, getD, replicate}
@@ -24,9 +24,9 @@ use Rattle.sizes.specs.Ciphers.{noVector}
 use Rattle.sizes.specs.Frame.{halfRate, fullRate, isRate, width}
 use Rattle.openings.specs.Ladder.{keyRefusals, zeroFor, zeroRefusals, vectorRefusals}
 use Rattle.openings.specs.Samples.{seed, desABCD}
-use Rattle.voice.specs.Counts.{noCounts}
+use Rattle.voice.specs.Counts.{noCounts, total}
 use Rattle.voice.specs.declared.call.Call.{Call}
-use Rattle.voice.specs.Call.{toldVector, byDefault, strict, termsRight, vectorRight, closedTests, openTests, isClosed, isOpen, goodCall, unknown, told, Standing, sending, receiving, standing, termsOf, noCall, written, widthIn, stands, knows, countsRight}
+use Rattle.voice.specs.Call.{receivingEnd, toldVector, byDefault, strict, termsRight, vectorRight, closedTests, openTests, isClosed, isOpen, goodCall, unknown, told, Standing, sending, receiving, standing, termsOf, noCall, written, widthIn, stands, knows, countsRight}
 use Rattle.voice.specs.Opening.{begunRefusals, joinRefusals}
 use Rattle.voice.specs.Slot.{voiceOf, isFull}
 use Rattle.voice.specs.Vector.{announceRefusals}
@@ -34,7 +34,7 @@ use Rattle.voice.proofs.CallLaws.{not-bad}
 use Rattle.voice.proofs.SlotSteps.{voice-at}
 use Rattle.data.specs.Packet as packet
 use Rattle.demands.specs.Marked.{holding}
-use Rattle.demands.specs.Device.{Device, CallOperation, Open, Start, Join, Voice, Announce, callStep, Operation, OfBook, OfCall, OfPacket, Step, step, deviceAfter, history}
+use Rattle.demands.specs.Device.{Device, CallOperation, Open, Start, Join, Voice, Lost, Announce, callStep, Operation, OfBook, OfCall, OfPacket, Step, step, deviceAfter, history}
 use Rattle.demands.specs.Demand1.{NotTold, TimeOfCall, Unknown, slot, NoneDone, Demand1}
 use Rattle.demands.specs.OtherDevices.{noise, noisy, filing, wiped, wiping, careless, holdingAll, ending, hastyCall, hasty, eager}
 use Rattle.demands.proofs.Layouts.{ways-right, sender-right}
@@ -273,3 +273,13 @@ module _ (isHasty : CallOperation → Bool) where
     hasty-join-thrown-out e =
         half-key-fails 1 halfScramble (books .2) (books .3) (Join 1 0 r m) (written noCounts (joinedScramble r m)) (silence r) (rw (e, ways-right r m low lows))
         (turns r m low lows (joinedScramble r m) refl (stand r m low lows .2) refl refl refl)
+
+-- ---- a slot past the limit
+
+-- it takes a slot of a receiver that was told of as many as it may be
+pub past-thrown-out : (st : Step) (d : Device) (n : ℕ) → d .calls n .end ≡ receivingEnd → total (d .calls n .counts) ≡ 4000000 → Demand1 st
+    → (numberOf (st d (OfCall n Lost) .0) < 2 → ⊥) × ((mask : ℕ) (frame : List ℕ) → numberOf (st d (OfCall n (Voice mask frame)) .0) < 2 → ⊥)
+past-thrown-out st d n e full meets = (
+  λ z. omega (arith, z, meets .untimely d (OfCall n Lost) (λ t. omega (arith, t .1, full))),
+  λ mask frame z. omega (arith, z, meets .untimely d (OfCall n (Voice mask frame)) (λ t. omega (arith, t .1 e, full))),
+)

@@ -335,7 +335,7 @@ module _ (t : Talk) (k : Kept t) (b : List ℕ) (i : ℕ) (h : HasKey b (t .ciph
   as-told known ns e few = rw (← ap slotsTold e, since-told known ns) few
 
   strict-right : (e : WayIn) → WithinLimit t e → Each Right (talkLog ours b i t e)
-  strict-right opening few = go (t .sessions) kept-by (k .full) few
+  strict-right opening few = go (t .sessions) kept-by (k .full) (omega (arith, few))
     where
       go : (xs : List Session) → Each (SessionKept (layoutBy (width (t .rate))) (t .cipher) (t .key)) xs → Full (t .cipher) (slotCounts xs) → slotsTold (openingNotices (t .cipher) xs) ≤ 1000000
           → Each Right (events ours b (t .cipher) i (t .rate) noCall (openingNotices (t .cipher) xs))
@@ -351,7 +351,7 @@ module _ (t : Talk) (k : Kept t) (b : List ℕ) (i : ℕ) (h : HasKey b (t .ciph
       (full-drop (t .cipher) n (t .sessions) (k .full)) (λ d u. not-default d) (rw (strict-first (t .cipher) false superframeSlots (drop n (t .sessions))) few))
 
   default-right : (e : WayIn) → (scrambles (t .cipher) ≡ false → Successive GeneratedOrAnnounced (heardFrom e (t .sessions))) → WithinLimit t e → Each Right (defaultLog handset b i t e)
-  default-right opening link few = go (t .sessions) kept-by (k .full) link few
+  default-right opening link few = go (t .sessions) kept-by (k .full) link (omega (arith, few))
     where
       go : (xs : List Session) → Each (SessionKept (layoutBy (width (t .rate))) (t .cipher) (t .key)) xs → Full (t .cipher) (slotCounts xs)
           → (scrambles (t .cipher) ≡ false → Successive GeneratedOrAnnounced xs) → slotsTold (openingNotices (t .cipher) xs) ≤ 1000000

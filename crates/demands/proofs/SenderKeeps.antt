@@ -23,7 +23,6 @@ use Rattle.answers.specs.declared.Answer.the-variants.{Done}
 use Rattle.keybook.proofs.GoodLaws.{good-sized}
 use Rattle.voice.specs.declared.call.Terms.{Terms}
 use Rattle.voice.specs.Counts.{noCounts, plus, arrivedWords}
-use Rattle.voice.specs.declared.counts.Counts.{Counts}
 use Rattle.voice.specs.declared.call.Call.{Call}
 use Rattle.voice.specs.Frame.{ofSlot, protect}
 use Rattle.openings.specs.Ladder.{sessionVector, keyFor, keyRefusals, zeroRefusals, vectorRefusals}
@@ -39,6 +38,7 @@ use Rattle.voice.proofs.GoodLaws.{sentRight, Placed, good-sender, read-written,
 use Rattle.voice.proofs.OpeningGood.{sent-right}
 use Rattle.voice.proofs.Exactly.{next-given}
 use Rattle.voice.proofs.NeverZero.{Sends, zeros-vector, going-vector, voice-sends}
+use Rattle.voice.proofs.SlotLaws.{sent-alike}
 use Rattle.voice.proofs.SlotSteps.{voice-at}
 use Rattle.demands.specs.Rates.{Layout, layout}
 use Rattle.demands.specs.Talk.{Slot, Session, SlotKept, SlotsKept, SessionKept, Full, slotCounts, Kept, HasKey, WayIn}
@@ -102,14 +102,6 @@ module _ (b : List ℕ) (c i : ℕ) (key : List ℕ) (h : HasKey b c i key) (lon
   abbrev spot : List ℕ → ℕ → Call
   spot v p = written noCounts (pick (ltb p (sessionSlots c)) (sending t p v) (sending t 0 (goingOn c v)))
 
-  -- a sender counts nothing
-  spot-counts : (v : List ℕ) (n : Counts) (p : ℕ) → written n (pick (ltb p (sessionSlots c)) (sending t p v) (sending t 0 (goingOn c v))) ≡ spot v p
-  spot-counts v n p = go (ltb p (sessionSlots c))
-    where
-      go : (b : Bool) → written n (pick b (sending t p v) (sending t 0 (goingOn c v))) ≡ written noCounts (pick b (sending t p v) (sending t 0 (goingOn c v)))
-      go true = refl
-      go false = refl
-
   spot-in : (v : List ℕ) (p : ℕ) → p < sessionSlots c → spot v p ≡ written noCounts (sending t p v)
   spot-in v p l = rw (lt-ltb _ _ l)
 
@@ -135,7 +127,7 @@ module _ (b : List ℕ) (c i : ℕ) (key : List ℕ) (h : HasKey b c i key) (lon
     unfolding slotOn
     spot-voice p l x s =
         voice-at (spot v p) (x .mask) (x .spoken) (s .mask) (sending t p v) (s .frame .long) (spot-read v sound p l) refl refl
-        ∙ ap (λ (d : Call). (Done, (d, out p x))) (spot-counts v (plus (spot v p .counts) (arrivedWords (x .mask) true)) (p + 1))
+        ∙ ap (λ (d : Call). (Done, (d, out p x))) (sym (sent-alike t p v (plus (spot v p .counts) (arrivedWords (x .mask) true))))
 
     abbrev made : ℕ → Said → List ℕ → Slot
     made p x f = record { mask = x .mask; spoken = x .spoken; sent = f; arrived = x .arrives }

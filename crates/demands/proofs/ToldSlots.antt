@@ -65,5 +65,5 @@ drop-within (suc n) [] = omega arith
 drop-within (suc n) (x ∷ xs) = rw (length-append (x .slots) (allSlots xs)) (omega (arith, drop-within n xs))
 
 pub within-limit : (t : Talk) → length (allSlots (t .sessions)) ≤ 1000000 → (e : WayIn) → WithinLimit t e
-within-limit t l opening = rw (told-after t opening) l
+within-limit t l opening = rw (told-after t opening) (omega (arith, l))
 within-limit t l (joining n) = rw (told-after t (joining n)) (omega (arith, from-within superframeSlots (drop n (t .sessions)), drop-within n (t .sessions)))

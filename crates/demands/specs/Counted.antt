@@ -11,7 +11,7 @@ use Rattle.answers.specs.declared.Answer.{Answer}
 use Rattle.answers.specs.Numbers.{numberOf, isDone}
 use Rattle.voice.specs.Frame.{inMask}
 use Rattle.demands.specs.Device.{CallOperation, Open, Start, Join, Voice, Lost, End, Announce, NextVector, Operation, OfBook, OfCall, OfPacket, Step, History, deviceAfter, history}
-use Rattle.demands.specs.Demand1.{renewsCall}
+use Rattle.demands.specs.Demand1.{RightInput, renewsCall}
 
 -- ---- the history of slots
 
@@ -37,19 +37,19 @@ slotFor n (OfCall m o) a = pick (eqb m n) (slotOf o a) []
 slotFor n (OfPacket m o) a = []
 
 -- it opens a call to receive
-abbrev pub hears : CallOperation → Bool
-hears (Open c i r s w) = true
-hears (Start c i r w) = false
-hears (Join c i r s) = true
-hears (Voice mask frame) = false
-hears Lost = false
-hears End = false
-hears (Announce w) = false
-hears (NextVector out) = false
+abbrev pub toReceive : CallOperation → Bool
+toReceive (Open c i r s w) = true
+toReceive (Start c i r w) = false
+toReceive (Join c i r s) = true
+toReceive (Voice mask frame) = false
+toReceive Lost = false
+toReceive End = false
+toReceive (Announce w) = false
+toReceive (NextVector out) = false
 
 abbrev pub opensToReceive : Operation → Bool
 opensToReceive (OfBook o) = false
-opensToReceive (OfCall m o) = hears o
+opensToReceive (OfCall m o) = toReceive o
 opensToReceive (OfPacket m o) = false
 
 -- call n was opened to receive, and not ended since
@@ -109,7 +109,10 @@ pub record Counted (st : Step) : Type 0 where
   pub limit : (os : List Operation) (n : ℕ) → length (slotsIn n (history st os)) ≤ 1000000
   pub taken : (os : List Operation) (n : ℕ) → receivesIn n (history st os) ≡ true → length (slotsIn n (history st os)) < 1000000
       → numberOf (st (deviceAfter st os) (OfCall n Lost) .0) ≡ 0
-  -- 16 is there, and nowhere else
+  -- and so is a voice slot that has what it is to be given
+  pub arrives : (os : List Operation) (n mask : ℕ) (frame : List ℕ) → receivesIn n (history st os) ≡ true → length (slotsIn n (history st os)) < 1000000
+      → RightInput (deviceAfter st os) (OfCall n (Voice mask frame)) → numberOf (st (deviceAfter st os) (OfCall n (Voice mask frame)) .0) < 2
+  -- a slot is 16 there, and nowhere else
   pub lost-past : (os : List Operation) (n : ℕ)
       → (numberOf (st (deviceAfter st os) (OfCall n Lost) .0) ≡ 16 → AtLimit n (history st os))
       × (AtLimit n (history st os) → numberOf (st (deviceAfter st os) (OfCall n Lost) .0) ≡ 16)

@@ -200,7 +200,7 @@ pub record Demand1 (st : Step) : Type 0 where
   pub untimely : (d : Device) (o : Operation) → (InTime d o → ⊥) → 2 ≤ numberOf (st d o .0)
   -- any answer but 0 and 1 leaves the device as it was
   pub changes-nothing : (d : Device) (o : Operation) → 2 ≤ numberOf (st d o .0) → Same (st d o .1 .0) d
-  -- any but 0 leaves the lent octets as they came
+  -- any but 0 leaves the lent octets as they came, and of end hands out zeros
   pub untouched : (d : Device) (o : Operation) → (numberOf (st d o .0) ≡ 0 → ⊥) → st d o .1 .1 ≡ lent o
   -- only a slot whose vector is unknown is held, and no such slot is done: what was not opened is not handed out as opened
   pub held : (d : Device) (o : Operation) → numberOf (st d o .0) ≡ 1 → Unknown d o

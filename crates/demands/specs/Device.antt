@@ -67,6 +67,7 @@ module _ (b : List ℕ) (c : Call) where
   callStep (Announce w) = withNone (announceOf c w)
   callStep (NextVector out) = let o = nextVectorOf c out in (o .0, (c, o .1))
 
+-- before it; end is lent nothing, and what it hands out where it isn't done is zeros
 abbrev pub lentCall : CallOperation → List ℕ
 lentCall (Open c i r s w) = []
 lentCall (Start c i r w) = []
@@ -116,7 +117,7 @@ withCall d n r = (r .0, (record { book = d .book; calls = withNumber n (r .1 .0)
 abbrev pub withPacket : Device → ℕ → Answer × (Packet × List ℕ) → Answer × (Device × List ℕ)
 withPacket d n r = (r .0, (record { book = d .book; calls = d .calls; packets = withNumber n (r .1 .0) (d .packets) }, r .1 .1))
 
--- what a device answers to an operation, what it is then, and the octets that the operation may write
+-- what a device answers to an operation, what it is then, and the octets that the operation may write, or end's counts
 abbrev pub Step : Type 0
 Step = Device → Operation → Answer × (Device × List ℕ)
 

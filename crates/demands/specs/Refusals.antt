@@ -6,7 +6,7 @@ use Rattle.octets.specs.Tests.{pick}
 use Rattle.answers.specs.declared.Answer.{Answer}
 use Rattle.answers.specs.declared.Answer.the-variants.{Done, Held}
 use Rattle.answers.specs.Outcomes.{Refusals}
-use Rattle.answers.specs.Order.{ofGiven, ofCall, ofBook, withoutZeros, refusalOrder}
+use Rattle.answers.specs.Order.{ofGiven, ofCall, ofSlots, ofBook, withoutZeros, openingOrder}
 use Rattle.keybook.specs.Operations.{beginRefusals, addRefusals, finishRefusals, eraseRefusals}
 use Rattle.keybook.specs.History as book
 use Rattle.voice.specs.declared.call.Call.{Call}
@@ -64,12 +64,16 @@ unrefused d (OfBook o) = Done
 unrefused d (OfCall n o) = callUnrefused (d .calls n) o
 unrefused d (OfPacket n o) = Done
 
--- the order of each, "where the operation can give it": a key operation has no call, only an opening has both call and book, and only one that sends has 8
+-- the order of each, "where the operation can give it": a key operation has no call, only an opening has both call and book, only one that sends has 8, and
+-- only a slot has 16
 abbrev pub withoutCall : List ℕ
 withoutCall = ofGiven ++ ofBook
 
 abbrev pub withoutBook : List ℕ
 withoutBook = ofGiven ++ ofCall
+
+abbrev pub lostOrder : List ℕ
+lostOrder = withoutBook ++ ofSlots
 
 -- the paper's two exceptions: a frame's length depends on its call (document 02, W-205), so there 10, 4, 9 and 16 come before 2; and a data message's
 -- on its packet, so there 4 and 9 do
@@ -81,16 +85,16 @@ messageOrder = 4 ∷ 9 ∷ 2 ∷ []
 
 abbrev callOrder : CallOperation → List ℕ
 callOrder (Open cipher i rate s w) = withoutZeros
-callOrder (Start cipher i rate w) = refusalOrder
+callOrder (Start cipher i rate w) = openingOrder
 callOrder (Join cipher i rate s) = withoutZeros
 callOrder (Voice mask frame) = voiceOrder
-callOrder Lost = withoutBook
+callOrder Lost = lostOrder
 callOrder End = withoutBook
 callOrder (Announce w) = withoutBook
 callOrder (NextVector out) = withoutBook
 
 abbrev packetOrder : PacketOperation → List ℕ
-packetOrder (OpenPacket end kind c i w) = pick (eqb end opening.toSend) refusalOrder withoutZeros
+packetOrder (OpenPacket end kind c i w) = pick (eqb end opening.toSend) openingOrder withoutZeros
 packetOrder (Message octets) = messageOrder
 packetOrder LostMessage = withoutBook
 packetOrder EndPacket = withoutBook

@@ -11,7 +11,7 @@ use Rattle.answers.specs.declared.Answer.{Answer}
 use Rattle.answers.specs.declared.Answer.the-variants.{Done, ZeroVector}
 use Rattle.answers.specs.Numbers.{isDone}
 use Rattle.answers.specs.Outcomes.{Refusals, outcome}
-use Rattle.answers.specs.Order.{withoutZeros, refusalOrder, numbersOf, inOrder}
+use Rattle.answers.specs.Order.{withoutZeros, openingOrder, numbersOf, inOrder}
 use Rattle.answers.proofs.OutcomeLaws.{NoneHolds, neverDone, fromTwo, none-left, none-first, none-settles, done-none, Refuses, answerAt, refused-at, first-decides, asked-last}
 use Rattle.answers.proofs.TableLaws.{inTable}
 use Rattle.keyentry.specs.Entry.{inRange}
@@ -77,7 +77,7 @@ module _ (ranged isBad busy : Bool) (c i : ℕ) (b : List ℕ) where
     abbrev askedWith : Bool → Refusals
     askedWith sends = vectorRefusals sends ranged isBad busy c i w b
 
-    pub vector-in-order : (sends : Bool) → inOrder (pick sends refusalOrder withoutZeros) (numbersOf (askedWith sends)) ≡ true
+    pub vector-in-order : (sends : Bool) → inOrder (pick sends openingOrder withoutZeros) (numbersOf (askedWith sends)) ≡ true
     unfolding vectorRefusals keyRefusals zeroRefusals
     vector-in-order true = refl
     vector-in-order false = refl

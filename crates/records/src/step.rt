@@ -142,6 +142,7 @@ fn lost_slot(call: Call, made: bool) -> Outcome
     }
 }
 
+// The program prints no counts.
 fn ended(call: Call) -> Stepped
     ensures { λ r. ⌜ (r .answer, r .call) ≡ withoutCounts (endOf call) ⌝ }
 {

@@ -9,32 +9,32 @@ use lib.ListN.{length, getD, replicate, length-replicate, getD-replicate, List·
 use Rattle.octets.specs.Tests.{allBelow}
 use Rattle.sizes.specs.Frame.{mostWords}
 use Rattle.answers.specs.declared.Answer.the-variants.{Done, WrongLength, PastLimit}
-use Rattle.report.specs.Report.{perCall, mostCalls, countsRight, sumBelow, sumAt, noFigures, sums, reportRefusals, reportOf}
+use Rattle.report.specs.Report.{perCall, mostCalls, countsWithin, sumBelow, sumAt, sums, reportRefusals, reportOf}
 use Rattle.report.proofs.SumLaws.{sum-alike}
 use Rattle.report.proofs.ReportLaws.{Adds, number, past-limit-exactly}
 
 -- 1 and 5 opened, 20 and 60 held, 300 and 700 replaced, 4,000 and 8,000 lost: 6 over 86
 pub two-calls : reportOf (1 ∷ 20 ∷ 300 ∷ 4000 ∷ 5 ∷ 60 ∷ 700 ∷ 8000 ∷ []) ≡ (Done, 6 ∷ 80 ∷ 1000 ∷ 12000 ∷ 6 ∷ 86 ∷ [])
-unfolding reportOf reportRefusals countsRight allBelow sums sumAt sumBelow
+unfolding reportOf reportRefusals countsWithin allBelow sums sumAt sumBelow
 two-calls = refl
 
 -- 0 over 0
 pub no-calls : reportOf [] ≡ (Done, 0 ∷ 0 ∷ 0 ∷ 0 ∷ 0 ∷ 0 ∷ [])
-unfolding reportOf reportRefusals countsRight allBelow sums sumAt sumBelow
+unfolding reportOf reportRefusals countsWithin allBelow sums sumAt sumBelow
 no-calls = refl
 
 -- 41 numbers, with a count above the limit: 2 comes first
-pub two-first : reportOf (4000001 ∷ replicate 40 0) ≡ (WrongLength, noFigures)
+pub two-first : reportOf (4000001 ∷ replicate 40 0) ≡ (WrongLength, 0 ∷ 0 ∷ 0 ∷ 0 ∷ 0 ∷ 0 ∷ [])
 unfolding reportOf reportRefusals
 two-first = refl
 
 -- a count at the limit, and one past it
 pub at-the-limit : reportOf (4000000 ∷ 0 ∷ 0 ∷ 4000000 ∷ []) ≡ (Done, 4000000 ∷ 0 ∷ 0 ∷ 4000000 ∷ 4000000 ∷ 4000000 ∷ [])
-unfolding reportOf reportRefusals countsRight allBelow sums sumAt sumBelow
+unfolding reportOf reportRefusals countsWithin allBelow sums sumAt sumBelow
 at-the-limit = refl
 
-pub past-the-limit : reportOf (4000000 ∷ 0 ∷ 0 ∷ 4000001 ∷ []) ≡ (PastLimit, noFigures)
-unfolding reportOf reportRefusals countsRight allBelow
+pub past-the-limit : reportOf (4000000 ∷ 0 ∷ 0 ∷ 4000001 ∷ []) ≡ (PastLimit, 0 ∷ 0 ∷ 0 ∷ 0 ∷ 0 ∷ 0 ∷ [])
+unfolding reportOf reportRefusals countsWithin allBelow
 past-the-limit = refl
 
 -- 10,001 calls, of whatever counts

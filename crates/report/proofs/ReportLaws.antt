@@ -15,7 +15,7 @@ use Rattle.answers.specs.declared.Answer.the-variants.{Done, WrongLength, PastL
 use Rattle.answers.specs.Numbers.{numberOf}
 use Rattle.answers.proofs.OutcomeLaws.{Refusal, keeps}
 use Rattle.report.specs.declared.Reported.{Reported}
-use Rattle.report.specs.Report.{perCall, calls, mostCalls, countsRight, sumAt, figures, noFigures, sums, reportRefusals, reportOf}
+use Rattle.report.specs.Report.{perCall, calls, mostCalls, countsWithin, sumAt, figures, noFigures, sums, reportRefusals, reportOf}
 use Rattle.report.proofs.SumLaws.{count-most, at-most}
 
 -- ---- when each answer is given
@@ -44,20 +44,20 @@ module _ (counts : List ℕ) where
   abbrev pub number : ℕ
   number = numberOf (reportOf counts .0)
 
-  pub some-above : countsRight counts ≡ false → (i : ℕ) × (mostWords < getD counts i 0)
-  unfolding countsRight
+  pub some-above : countsWithin counts ≡ false → (i : ℕ) × (mostWords < getD counts i 0)
+  unfolding countsWithin
   some-above e = let w = fails-at (λ i. leb (getD counts i 0) mostWords) (length counts) e in (w .0, leb-false _ _ (w .1))
 
   -- what holds in each of the three cases holds of the report
   by-case : (P : Answer × List ℕ → Type 0) → ((length counts % 4 ≡ 0 → ⊥) → P (WrongLength, noFigures)) → (Past counts → P (PastLimit, noFigures))
       → (Adds counts → P (Done, sums counts)) → P (reportOf counts)
   unfolding reportOf reportRefusals
-  by-case P two past done = go (eqb (length counts % perCall) 0) refl (ltb mostCalls (calls counts)) refl (countsRight counts) refl
+  by-case P two past done = go (eqb (length counts % perCall) 0) refl (ltb mostCalls (calls counts)) refl (countsWithin counts) refl
     where
       four : eqb (length counts % perCall) 0 ≡ true → length counts % 4 ≡ 0
       four = eqb-true (length counts % perCall) 0
 
-      go : (a : Bool) → eqb (length counts % perCall) 0 ≡ a → (b : Bool) → ltb mostCalls (calls counts) ≡ b → (c : Bool) → countsRight counts ≡ c
+      go : (a : Bool) → eqb (length counts % perCall) 0 ≡ a → (b : Bool) → ltb mostCalls (calls counts) ≡ b → (c : Bool) → countsWithin counts ≡ c
           → P (pick (not a) (WrongLength, noFigures) (pick (b || not c) (PastLimit, noFigures) (Done, sums counts)))
       go false e b f c g = two (eqb-false _ _ e)
       go true e true f c g = past (four e, inl (omega (arith, four e, ltb-true mostCalls (calls counts) f)))

@@ -13,7 +13,7 @@ use lib.Seq.{getD-append-add}
 use borrow.Author.Tests.{leb-true}
 use Rattle.octets.proofs.TestLaws.{all-at}
 use Rattle.sizes.specs.Frame.{mostWords}
-use Rattle.report.specs.Report.{perCall, opened, held, replaced, lost, calls, countAt, mostCalls, countsRight, sumBelow, sumAt, sums}
+use Rattle.report.specs.Report.{perCall, opened, held, replaced, lost, calls, countAt, mostCalls, countsWithin, sumBelow, sumAt, sums}
 
 -- ---- a sum below a number
 
@@ -49,8 +49,8 @@ sum-constant count (suc n) = ap (λ (s : ℕ). s + count) (sum-constant count n)
 
 -- ---- at a place of each call
 
-pub count-most : (counts : List ℕ) → countsRight counts ≡ true → (i : ℕ) → getD counts i 0 ≤ mostWords
-unfolding countsRight
+pub count-most : (counts : List ℕ) → countsWithin counts ≡ true → (i : ℕ) → getD counts i 0 ≤ mostWords
+unfolding countsWithin
 count-most counts right i = go (decLt i (length counts))
   where
     go : Dec (i < length counts) → getD counts i 0 ≤ mostWords

@@ -39,8 +39,8 @@ abbrev pub mostCalls : ℕ
 mostCalls = 10000
 
 -- no count is above the words of the most slots
-unfoldable pub countsRight : List ℕ → Bool
-countsRight counts = allBelow (λ i. leb (getD counts i 0) mostWords) (length counts)
+unfoldable pub countsWithin : List ℕ → Bool
+countsWithin counts = allBelow (λ i. leb (getD counts i 0) mostWords) (length counts)
 
 -- ---- their sums
 
@@ -76,7 +76,7 @@ sums counts =
 -- 2 where the numbers aren't four to a call; 16 with more than 10,000 calls, or a count above 4,000,000
 unfoldable pub reportRefusals : List ℕ → Refusals
 reportRefusals counts =
-    (not (eqb (length counts % perCall) 0), WrongLength) ∷ (ltb mostCalls (calls counts) || not (countsRight counts), PastLimit) ∷ []
+    (not (eqb (length counts % perCall) 0), WrongLength) ∷ (ltb mostCalls (calls counts) || not (countsWithin counts), PastLimit) ∷ []
 
 -- a refusal gives zeros
 unfoldable pub reportOf : List ℕ → Answer × List ℕ

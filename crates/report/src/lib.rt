@@ -2,7 +2,7 @@
 ghost use mathlib.Core.Path.{_≡_};
 ghost use mathlib.Core.Bool.{true};
 ghost use Prim.Native.Nat.{_≤_, _<_};
-ghost use Rattle.report.specs.Report.{perCall, calls, mostCalls, countsRight, sumAt, figures, noFigures, sums, reportOf};
+ghost use Rattle.report.specs.Report.{perCall, calls, mostCalls, countsWithin, sumAt, figures, noFigures, sums, reportOf};
 use answers::Answer;
 use sizes::frame::MOST_WORDS;
 
@@ -30,8 +30,8 @@ pub struct Reported {
     pub whole: u64,
 }
 
-fn counts_right(counts: &[u32]) -> bool
-    ensures { λ r. ⌜ r ≡ countsRight (now (counts .entry)) ⌝ }
+fn counts_within(counts: &[u32]) -> bool
+    ensures { λ r. ⌜ r ≡ countsWithin (now (counts .entry)) ⌝ }
 {
     let mut i = 0;
     while i < counts.len() {
@@ -44,20 +44,20 @@ fn counts_right(counts: &[u32]) -> bool
 }
 
 // A count, as wide as the sums are.
-fn wide(count: u32) -> u64
+fn widened(count: u32) -> u64
     ensures { λ r. ⌜ r ≡ count ⌝ }
 {
     count as u64
 }
 
 fn sum_at(counts: &[u32], place: usize) -> u64
-    requires { ⌜ (place < perCall) × (calls (now counts) ≤ mostCalls) × (countsRight (now counts) ≡ true) ⌝ }
+    requires { ⌜ (place < perCall) × (calls (now counts) ≤ mostCalls) × (countsWithin (now counts) ≡ true) ⌝ }
     ensures { λ r. ⌜ r ≡ sumAt place (now (counts .entry)) ⌝ }
 {
     let mut sum: u64 = 0;
     let mut call = 0;
     while call < counts.len() / PER_CALL {
-        sum += wide(counts[PER_CALL * call + place]);
+        sum += widened(counts[PER_CALL * call + place]);
         call += 1;
     }
     sum
@@ -79,7 +79,7 @@ fn refused(answer: Answer) -> Reported
 
 // The sums of counts that nothing refuses.
 fn added(counts: &[u32]) -> Reported
-    requires { ⌜ (calls (now counts) ≤ mostCalls) × (countsRight (now counts) ≡ true) ⌝ }
+    requires { ⌜ (calls (now counts) ≤ mostCalls) × (countsWithin (now counts) ≡ true) ⌝ }
     ensures { λ r. ⌜ (r .answer ≡ Answer.Done) × (figures r ≡ sums (now (counts .entry))) ⌝ }
 {
     let opened = sum_at(counts, OPENED);
@@ -104,7 +104,7 @@ pub fn report(counts: &[u32]) -> Reported
     if counts.len() % PER_CALL != 0 {
         return refused(Answer::WrongLength);
     }
-    if counts.len() / PER_CALL > MOST_CALLS || !counts_right(counts) {
+    if counts.len() / PER_CALL > MOST_CALLS || !counts_within(counts) {
         return refused(Answer::PastLimit);
     }
     added(counts)

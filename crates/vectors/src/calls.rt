@@ -76,10 +76,25 @@ fn has_counts(row: &[u8], counts: Counts) -> bool {
     let held = number(row, 7) as u32;
     let replaced = number(row, 8) as u32;
     let lost = number(row, 9) as u32;
-    if counts.opened != opened || counts.held != held || counts.replaced != replaced || counts.lost != lost {
+    if counts.opened != opened
+        || counts.held != held
+        || counts.replaced != replaced
+        || counts.lost != lost
+    {
         return false;
     }
-    let both = report(&[opened, held, replaced, lost, counts.opened, counts.held, counts.replaced, counts.lost]);
+    let both = report(
+        &[
+            opened,
+            held,
+            replaced,
+            lost,
+            counts.opened,
+            counts.held,
+            counts.replaced,
+            counts.lost,
+        ],
+    );
     both.part == 2 * (opened as u64) && both.whole == 2 * (opened as u64 + held as u64)
 }
 

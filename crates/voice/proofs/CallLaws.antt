@@ -24,7 +24,7 @@ use Rattle.voice.specs.declared.call.Call.{Call}
 use Rattle.ciphers.specs.Keys.{keyRight}
 use Rattle.voice.specs.Counts.{noCounts, total}
 use Rattle.voice.proofs.CountLaws.{none-counted, tallied}
-use Rattle.voice.specs.Call.{closedEnd, sendingEnd, receivingEnd, unknownVector, toldVector, carriedVector, byDefault, termsRight, vectorRight, countsRight, closedTests, openTests, isClosed, isOpen, goodCall, Known, isKnown, knownNumber, knownVector, knownBy, unknown, told, carried, isTold, untold, Standing, closed, bad, sending, receiving, standing, callAt, widthOf, noCall, written, isBad, widthIn, stands, receives, knows, endRefusals, endOf}
+use Rattle.voice.specs.Call.{closedEnd, sendingEnd, receivingEnd, unknownVector, toldVector, carriedVector, byDefault, termsRight, vectorRight, countsRight, closedTests, openTests, isClosed, isOpen, goodCall, Known, isKnown, knownNumber, knownVector, knownBy, unknown, told, carried, isTold, untold, Standing, closed, bad, sending, receiving, standing, callAt, widthOf, written, isBad, widthIn, stands, receives, knows, endRefusals, endOf, afterEnd}
 
 -- ---- what is known of a vector
 
@@ -372,11 +372,11 @@ module _ (c : Call) where
 module _ (c : Call) where
   pub end-refused : (n : ℕ) → Refuses (endRefusals (standing c)) n → (answerAt (endRefusals (standing c)) n, (c, noCounts)) ≡ endOf c
   unfolding endOf
-  end-refused = refused-at (c, noCounts) (endRefusals (standing c)) (Done, (noCall, c .counts))
+  end-refused = refused-at (c, noCounts) (endRefusals (standing c)) (Done, afterEnd c)
 
-  pub end-done : NoneHolds (endRefusals (standing c)) → (Done, (noCall, c .counts)) ≡ endOf c
+  pub end-done : NoneHolds (endRefusals (standing c)) → (Done, afterEnd c) ≡ endOf c
   unfolding endOf
-  end-done n = sym (none-settles (endRefusals (standing c)) (c, noCounts) (Done, (noCall, c .counts)) n)
+  end-done n = sym (none-settles (endRefusals (standing c)) (c, noCounts) (Done, afterEnd c) n)
 
 -- ---- a refusal, as the code hands it back
 

@@ -110,11 +110,12 @@ badCalls =
     -- closed, or a sender, with a count
     ∷ callAt 0 (termsOf 0 (replicate 32 0) halfRate byDefault) 0 0 noVector (countsOf 0 0 0 4)
     ∷ callAt 1 (termsOf 2 desABCD halfRate byDefault) 1 1 seed (countsOf 4 0 0 0)
-    -- slots that aren't whole, or a lost one that isn't; none, at position 1, and two; past the limit, at the same position
-    ∷ counting 2 0 0 0
+    -- slots that aren't whole, or a lost one that isn't; none, two and three, at position 1; past the limit, at the same position
+    ∷ counting 6 0 0 0
     ∷ counting 0 0 2 2
     ∷ counting 0 0 0 0
     ∷ counting 8 0 0 0
+    ∷ counting 12 0 0 0
     ∷ counting 4000004 0 0 0
     ∷ counting 4294967295 4294967295 4294967295 4294967295
     -- scramble that held; words opened by one that by default knows no vector
@@ -122,7 +123,8 @@ badCalls =
     ∷ unknowing byDefault 4 0 0 0
     ∷ []
 
--- a receiver's told or carried vector may be zeros, and a sender's scramble vector is; both rates, and strict or not
+-- a receiver's told or carried vector may be zeros, and a sender's scramble vector is; both rates, and strict or not. Some of these no operation leaves: what
+-- would need the history is not asked
 abbrev pub goodCalls : List Call
 goodCalls =
     noCall ∷ des 2 desABCD 7 1 seed ∷ des 2 desABCD 0 1 noVector ∷ des 2 desABCD 0 0 noVector ∷ des 2 desABCD 0 2 seed ∷ des 2 desABCD 5 2 noVector
@@ -139,7 +141,7 @@ pub each-kind : (each (λ c. not (goodCall c)) badCalls ≡ true) × (each goodC
 unfolding goodCall isClosed closedTests isOpen openTests keyRight isRate termsRight vectorRight countsRight keyAllowed scrambleKey desKey oddOctet allZero allBelow
 each-kind = (refl, refl)
 
--- a slot's words, with one word in the mask, or none: opened, held and lost
+-- a slot's words: one word in the mask, opened and held, all and none of them; and lost
 pub slot-words : (arrivedWords 1 true ≡ countsOf 1 0 3 0) × (arrivedWords 8 false ≡ countsOf 0 1 3 0) × (arrivedWords 15 false ≡ countsOf 0 4 0 0)
     × (arrivedWords 0 false ≡ countsOf 0 0 4 0) × (lostWords ≡ countsOf 0 0 0 4)
 slot-words = (refl, refl, refl, refl, refl)

@@ -26,7 +26,7 @@ use Rattle.voice.specs.declared.call.Terms.{Terms}
 use Rattle.voice.specs.declared.call.Call.{Call}
 use Rattle.ciphers.specs.Keys.{keyRight}
 use Rattle.voice.specs.Counts.{noCounts, plus, total, lostWords, arrivedWords}
-use Rattle.voice.specs.Call.{sendingEnd, receivingEnd, unknownVector, toldVector, byDefault, termsRight, vectorRight, countsRight, closedTests, openTests, isClosed, isOpen, goodCall, Known, unknown, told, carried, isKnown, knownNumber, knownVector, knownBy, untold, Standing, closed, bad, sending, receiving, standing, termsOf, callAt, noCall, written, isBad, receives, knows, endRefusals, endOf}
+use Rattle.voice.specs.Call.{sendingEnd, receivingEnd, unknownVector, toldVector, byDefault, termsRight, vectorRight, countsRight, closedTests, openTests, isClosed, isOpen, goodCall, Known, unknown, told, carried, isKnown, knownNumber, knownVector, knownBy, untold, Standing, closed, bad, sending, receiving, standing, termsOf, callAt, noCall, written, isBad, receives, knows, endRefusals, endOf, afterEnd}
 use Rattle.voice.specs.Slot.{goingOn, rides, ridden, slotOn, isFull, lostRefusals, lostOf, voiceRefusals, streamOf, voiceAfter, voiceBy, voiceOf, voiceByOctets}
 use Rattle.voice.specs.Vector.{awaits, withVector, announceRefusals, announceOf}
 use Rattle.sizes.proofs.SizeLaws.{slot-ranged, no-vector-zero}
@@ -310,7 +310,7 @@ kept f before rs last good = by-refusals (λ o. goodCall (f (o .1)) ≡ true) be
 module _ (c : Call) (good : goodCall c ≡ true) where
   pub end-good : goodCall (endOf c .1 .0) ≡ true
   unfolding endOf
-  end-good = kept (λ (d : Call × Counts). d .0) (c, noCounts) (endRefusals (standing c)) (Done, (noCall, c .counts)) good (λ n. closed-good)
+  end-good = kept (λ (d : Call × Counts). d .0) (c, noCounts) (endRefusals (standing c)) (Done, afterEnd c) good (λ n. closed-good)
 
   pub lost-good : goodCall (lostOf c .1) ≡ true
   unfolding lostOf lostRefusals

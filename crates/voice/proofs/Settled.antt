@@ -12,7 +12,7 @@ use Rattle.voice.specs.declared.counts.Counts.{Counts}
 use Rattle.voice.specs.declared.call.Call.{Call}
 use Rattle.openings.specs.Ladder.{sessionVector, keyFor}
 use Rattle.voice.specs.Counts.{noCounts, plus, lostWords}
-use Rattle.voice.specs.Call.{sendingEnd, receivingEnd, byDefault, standing, termsOf, noCall, written, knows, endRefusals, endOf}
+use Rattle.voice.specs.Call.{sendingEnd, receivingEnd, byDefault, standing, termsOf, written, knows, endRefusals, endOf, afterEnd}
 use Rattle.voice.specs.Opening.{joinRefusals, begunRefusals, begun, begunOf, openOf, startOf, joined, joinOf}
 use Rattle.voice.specs.Slot.{slotOn, lostRefusals, lostOf, voiceRefusals, streamOf, voiceAfter, voiceBy, voiceOf, voiceByOctets, sessionStreamOf}
 use Rattle.voice.specs.Vector.{withVector, announceRefusals, announceOf, following, nextRefusals, nextVectorOf}
@@ -67,7 +67,7 @@ module _ (c : Call) where
   -- and end hands out zeros
   pub end-keeps : Refusal (endOf c .0) → endOf c .1 ≡ (c, noCounts)
   unfolding endOf
-  end-keeps = keeps (c, noCounts) (endRefusals (standing c)) (Done, (noCall, c .counts)) (omega arith)
+  end-keeps = keeps (c, noCounts) (endRefusals (standing c)) (Done, afterEnd c) (omega arith)
 
   pub lost-keeps : Refusal (lostOf c .0) → lostOf c .1 ≡ c
   unfolding lostOf

@@ -27,11 +27,11 @@ use Rattle.voice.specs.declared.call.Call.{Call}
 use Rattle.sizes.specs.Frame.{frameOctets, slotBits, sessionBits, sessionOctets, mostWords}
 use Rattle.octets.proofs.Words.{word-ends}
 use Rattle.voice.specs.Frame.{ofSlot, protect}
-use Rattle.voice.specs.Call.{closedEnd, sendingEnd, receivingEnd, unknownVector, carriedVector, byDefault, goodCall, carried, isKnown, knownNumber, knownVector, knownBy, untold, Standing, sending, receiving, standing, callAt, widthOf, written, widthIn, stands, knows}
+use Rattle.voice.specs.Call.{closedEnd, receivingEnd, unknownVector, carriedVector, byDefault, goodCall, carried, isKnown, knownNumber, knownVector, knownBy, untold, Standing, sending, receiving, standing, callAt, widthOf, written, widthIn, stands, knows}
 use Rattle.voice.specs.Counts.{noCounts, plus, total, lostWords, arrivedWords}
 use Rattle.voice.specs.Slot.{goingOn, rides, ridden, slotOn, isFull, lostRefusals, lostOf, topMask, voiceRefusals, streamOf, inSlot, voiceAfter, voiceBy, voiceOf, shortRefusals, voiceByOctets}
 use Rattle.voice.proofs.FrameLaws.{protect-same}
-use Rattle.voice.proofs.CallLaws.{counts-most, is-known, known-vector, untold-is, by-stands, is-sender, is-receiver, good-by, not-bad, stands-none, stands-some, width-in, inside, known-written}
+use Rattle.voice.proofs.CallLaws.{counts-most, is-known, known-vector, untold-is, by-stands, is-receiver, good-by, not-bad, stands-none, stands-some, width-in, inside, known-written}
 
 -- ---- a receiver as its next session starts
 
@@ -52,12 +52,12 @@ module _ (t : Terms) (n : ℕ) (v : List ℕ) {b : Bool} (e : b ≡ rides t (not
 -- ---- a sender's slot
 
 -- it counts nothing
-pub sent-alike : (c : Call) (n : Counts) → goodCall c ≡ true → c .end ≡ sendingEnd → written noCounts (slotOn (sending (c .terms) (c .position) (c .vector))) ≡ written n (slotOn (standing c))
+pub sent-alike : (t : Terms) (p : ℕ) (v : List ℕ) (n : Counts) → written noCounts (slotOn (sending t p v)) ≡ written n (slotOn (sending t p v))
 unfolding slotOn
-sent-alike c n good e = rw (is-sender c good e) (go (ltb (c .position + 1) (sessionSlots (c .terms .cipher))))
+sent-alike t p v n = go (ltb (p + 1) (sessionSlots (t .cipher)))
   where
     on : Bool → Standing
-    on b = pick b (sending (c .terms) (c .position + 1) (c .vector)) (sending (c .terms) 0 (goingOn (c .terms .cipher) (c .vector)))
+    on b = pick b (sending t (p + 1) v) (sending t 0 (goingOn (t .cipher) v))
 
     go : (b : Bool) → written noCounts (on b) ≡ written n (on b)
     go true = refl

@@ -199,5 +199,9 @@ knows (receiving t p k) = isKnown k
 unfoldable pub endRefusals : Standing → Refusals
 endRefusals s = (isBad s, Bad) ∷ (not (stands s), NotNow) ∷ []
 
+-- nothing of it stays in the call
+abbrev pub afterEnd : Call → Call × Counts
+afterEnd c = (noCall, c .counts)
+
 unfoldable pub endOf : Call → Answer × (Call × Counts)
-endOf c = outcome (c, noCounts) (endRefusals (standing c)) (noCall, c .counts)
+endOf c = outcome (c, noCounts) (endRefusals (standing c)) (afterEnd c)

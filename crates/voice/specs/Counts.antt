@@ -39,6 +39,6 @@ arrivedWords mask known =
 -- at most the limit's slots, all whole, and lost slots whole; as many as its position says, modulo a superframe, at whose start either way in is;
 -- none held, where every vector is known (scramble); and none opened, where none was ever known (by default, and unknown still)
 abbrev pub countTests : Bool → Bool → ℕ → Counts → List Bool
-countTests always never position n =
+countTests alwaysKnown neverKnown position n =
     leb (total n) mostWords ∷ eqb (total n % words) 0 ∷ eqb (n .lost % words) 0 ∷ eqb (total n / words % superframeSlots) (position % superframeSlots)
-    ∷ (not always || eqb (n .held) 0) ∷ (not never || eqb (n .opened) 0) ∷ []
+    ∷ (not alwaysKnown || eqb (n .held) 0) ∷ (not neverKnown || eqb (n .opened) 0) ∷ []

@@ -86,7 +86,7 @@ pub(crate) fn plus(counts: Counts, slot: Counts) -> Counts
 
 // ---- the rules
 
-fn none_where(asked: bool, words: u32) -> bool
+fn none_if(asked: bool, words: u32) -> bool
     ensures { λ r. ⌜ r ≡ (not asked || eqb words 0) ⌝ }
 {
     if asked {
@@ -112,8 +112,8 @@ pub(crate) fn receiver_counts_right(always: bool, never: bool, position: u8, cou
     if all / SLOT_WORDS as u64 % SUPERFRAME_SLOTS as u64 != (position % SUPERFRAME_SLOTS) as u64 {
         return false;
     }
-    if !none_where(always, counts.held) {
+    if !none_if(always, counts.held) {
         return false;
     }
-    none_where(never, counts.opened)
+    none_if(never, counts.opened)
 }

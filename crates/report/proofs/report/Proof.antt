@@ -19,7 +19,7 @@ report-spec =
     (λ c.
     let past = ⊎-elim (λ t. inl (omega arith)) (λ t. inr (some-above _ (fails (t .1 .ensures) (t .2 .taken)))) (c .before .if2 .came) in
     handed _ (c .refused2 .ensures) (past-limit _ (c .before .before .if1 .left, past)))
-    (λ c κs. (search needs, holds (c .before .counts-right .ensures) (c .if3 .left)))
+    (λ c κs. (search needs, holds (c .before .counts-within .ensures) (c .if3 .left)))
     (λ c.
-    let right = holds (c .before .before .counts-right .ensures) (c .before .if3 .left) in
+    let right = holds (c .before .before .counts-within .ensures) (c .before .if3 .left) in
     handed _ (c .added .ensures) (done-sums _ (record { four = search needs; few = omega arith; small = count-most _ right }))))

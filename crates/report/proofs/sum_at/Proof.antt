@@ -34,5 +34,5 @@ sum-at-spec =
     omega (arith, one-more (start .args .counts .now) small (start .pre .1) (start .args .place) (at .call) (at .sum) (at .inv .1) (search needs)))
     (λ c. search needs)
     (λ c. search needs)
-    (λ c. (search needs, ap₂ _+_ (c .before .before .before .loop .inv .1) (c .wide .ensures) ∙ sym (sum-more _ _)))
+    (λ c. (search needs, ap₂ _+_ (c .before .before .before .loop .inv .1) (c .widened .ensures) ∙ sym (sum-more _ _)))
     (λ c. let e : c .before .loop .call ≡ calls (c .before .before .before .args .counts .now) = omega arith in rw e at (c .before .loop .inv .1)))

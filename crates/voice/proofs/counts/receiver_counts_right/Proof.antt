@@ -26,6 +26,6 @@ receiver-counts-right-spec =
     (λ c. search needs)
     (λ c. every-fails (countTests (c .before .before .before .before .before .before .args .always) (c .before .before .before .before .before .before .args .never) (c .before .before .before .before .before .before .args .position) (c .before .before .before .before .before .before .args .counts)) 3 (rw (sym (c .before .before .before .before .before .total .ensures)) (ne-eqb _ _ (c .if4 .taken))))
     (λ c κs. search needs)
-    (λ c. every-fails (countTests (c .before .before .before .before .before .before .before .before .args .always) (c .before .before .before .before .before .before .before .before .args .never) (c .before .before .before .before .before .before .before .before .args .position) (c .before .before .before .before .before .before .before .before .args .counts)) 4 (fails (c .before .none-where .ensures) (c .if5 .taken)))
+    (λ c. every-fails (countTests (c .before .before .before .before .before .before .before .before .args .always) (c .before .before .before .before .before .before .before .before .args .never) (c .before .before .before .before .before .before .before .before .args .position) (c .before .before .before .before .before .before .before .before .args .counts)) 4 (fails (c .before .none-if .ensures) (c .if5 .taken)))
     (λ c κs. search needs)
-    (λ c. rw (sym (c .before .before .before .before .before .before .before .before .total .ensures), le-leb _ _ (c .before .before .before .before .before .before .before .if1 .left), eq-eqb _ _ (c .before .before .before .before .before .before .if2 .left), eq-eqb _ _ (c .before .before .before .before .if3 .left), eq-eqb _ _ (c .before .before .before .if4 .left), holds (c .before .before .none-where .ensures) (c .before .if5 .left), and-true) (c .none-where2 .ensures)))
+    (λ c. rw (sym (c .before .before .before .before .before .before .before .before .total .ensures), le-leb _ _ (c .before .before .before .before .before .before .before .if1 .left), eq-eqb _ _ (c .before .before .before .before .before .before .if2 .left), eq-eqb _ _ (c .before .before .before .before .if3 .left), eq-eqb _ _ (c .before .before .before .if4 .left), holds (c .before .before .none-if .ensures) (c .before .if5 .left), and-true) (c .none-if2 .ensures)))

@@ -1,4 +1,4 @@
--- `report::counts_right` meets its contract.
+-- `report::counts_within` meets its contract.
 use mathlib.Core.Path.{_≡_, sym}
 use mathlib.Core.Bool.{true}
 use Prim.Native.Nat.{_-_, _≤_}
@@ -9,9 +9,9 @@ use lib.ListN.{length, getD}
 use Rattle.octets.specs.Tests.{allBelow}
 use Rattle.octets.proofs.TestLaws.{all-none, all-more, all-fails, all-reached}
 use Rattle.sizes.specs.Frame.{mostWords}
-use Rattle.report.specs.Report.{countsRight}
-use Rattle.report.proofs.counts_right.Statement.{statement}
-use Rattle.report.proofs.counts_right.Tie as tie
+use Rattle.report.specs.Report.{countsWithin}
+use Rattle.report.proofs.counts_within.Statement.{statement}
+use Rattle.report.proofs.counts_within.Tie as tie
 
 abbrev Inv-loop : tie.InvT-loop
 Inv-loop counts i₀ i = (i ≤ length counts) × (allBelow (λ j. leb (getD counts j 0) mostWords) i ≡ true)
@@ -19,9 +19,9 @@ Inv-loop counts i₀ i = (i ≤ length counts) × (allBelow (λ j. leb (getD cou
 abbrev μ-loop : tie.MeasureT-loop
 μ-loop counts i₀ i = length counts - i
 
-pub counts-right-spec : {M : Type 1} → statement M
-unfolding countsRight
-counts-right-spec =
+pub counts-within-spec : {M : Type 1} → statement M
+unfolding countsWithin
+counts-within-spec =
     tie.close
     (tie.spec
     Inv-loop
