@@ -1,3 +1,4 @@
 pub mod NumberLaws
 pub mod OutcomeLaws
+pub mod OrderLaws
 pub mod TableLaws

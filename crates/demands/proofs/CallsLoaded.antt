@@ -19,7 +19,7 @@ use Rattle.voice.specs.declared.counts.Counts.{Counts}
 use Rattle.answers.proofs.OutcomeLaws.{around}
 use Rattle.answers.specs.declared.Answer.{Answer}
 use Rattle.voice.specs.declared.call.Call.{Call}
-use Rattle.voice.specs.Call.{sendingEnd, receivingEnd, byDefault, termsRight, goodCall, Known, told, knownBy, Standing, closed, bad, sending, receiving, standing, termsOf, written, isBad, stands, endRefusals, endOf, noCall}
+use Rattle.voice.specs.Call.{sendingEnd, receivingEnd, byDefault, termsRight, goodCall, Known, told, knownBy, Standing, closed, bad, sending, receiving, standing, termsOf, written, isBad, stands, endRefusals, afterEnd, endOf, noCall}
 use Rattle.voice.specs.Opening.{joinRefusals, begunRefusals, begun, begunOf, openOf, startOf, joined, joinOf}
 use Rattle.voice.specs.Slot.{goingOn, ridden, slotOn, lostRefusals, lostOf, voiceRefusals, streamOf, voiceAfter, voiceBy}
 use Rattle.voice.specs.Vector.{withVector, announceRefusals, announceOf, nextVectorOf}
@@ -115,7 +115,7 @@ call-left n b c Lost =
     (slot-kept c _)
 call-left n b c End =
     subst (λ (o : Answer × Call). Left theCalls n b (OfCall n End) c (o .0) (o .1))
-    (sym (around (λ (d : Call × Counts). d .0) (c, noCounts) (endRefusals (standing c)) (Done, (noCall, c .counts))))
+    (sym (around (λ (d : Call × Counts). d .0) (c, noCounts) (endRefusals (standing c)) (Done, afterEnd c)))
     (renewing theCalls n b (OfCall n End) c noCall (endRefusals (standing c)) refl (λ h s. absurd (s refl)))
 call-left n b c (Announce w) =
     keeping theCalls n b (OfCall n (Announce w)) (λ (d : Call). d) c (announceRefusals (standing c) w) (Done, written (c .counts) (withVector w (standing c)))

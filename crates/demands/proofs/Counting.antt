@@ -25,7 +25,7 @@ use Rattle.voice.specs.declared.call.Terms.{Terms}
 use Rattle.voice.specs.declared.call.Call.{Call}
 use Rattle.voice.specs.Frame.{inMask}
 use Rattle.voice.specs.Counts.{countsOf, noCounts, plus, total, lostWords, arrivedWords}
-use Rattle.voice.specs.Call.{closedEnd, sendingEnd, receivingEnd, unknownVector, byDefault, termsRight, goodCall, Known, sending, receiving, standing, termsOf, widthOf, noCall, written, isBad, stands, knows, endRefusals, endOf}
+use Rattle.voice.specs.Call.{closedEnd, sendingEnd, receivingEnd, unknownVector, byDefault, termsRight, goodCall, Known, sending, receiving, standing, termsOf, widthOf, noCall, written, isBad, stands, knows, endRefusals, afterEnd, endOf}
 use Rattle.voice.specs.Opening.{joinRefusals, begunRefusals, begun, begunOf, openOf, startOf, joined, joinOf}
 use Rattle.voice.specs.Slot.{goingOn, ridden, slotOn, isFull, lostRefusals, lostOf, streamOf, voiceOf}
 use Rattle.voice.specs.Vector.{withVector, announceRefusals, announceOf, nextVectorOf}
@@ -37,11 +37,12 @@ use Rattle.voice.proofs.GoodLaws.{slot-good, announce-good}
 use Rattle.voice.proofs.OpeningGood.{open-leaves, join-leaves}
 use Rattle.voice.proofs.Exactly as voice
 use Rattle.demands.specs.Device.{handedOut, Device, CallOperation, Open, Start, Join, Voice, Lost, End, Announce, NextVector, callStep, packetStep, Operation, OfBook, OfCall, OfPacket, Step, step, History, deviceAfter, history}
-use Rattle.demands.specs.Demand1.{opensOrEnds, renewsCall}
-use Rattle.demands.specs.Counted.{Slot, arrived, missed, slotOf, slotFor, toReceive, opensToReceive, receivesIn, slotsIn, Fate, opened, held, replaced, lost, placeOf, fates, howMany, fourCounts, AtLimit, Counted}
-use Rattle.demands.specs.Rates.{Layout}
+use Rattle.demands.specs.Demand1.{opensOrEnds, renewsCall, NoneDone, OpensCall, by-open, by-start, by-join}
+use Rattle.demands.specs.Counted.{Slot, arrived, missed, slotOf, slotFor, toReceive, opensToReceive, receivesIn, rateIn, slotsIn, Fate, opened, held, replaced, lost, placeOf, fates, howMany, fourCounts, AtLimit, Counted}
+use Rattle.demands.specs.Rates.{Layout, layout}
 use Rattle.demands.proofs.Layouts.{layout-is}
 use Rattle.demands.proofs.DeviceLaws.{by-number}
+use Rattle.demands.proofs.CallsLoaded.{calls-loaded}
 
 -- ---- the words of slots
 
@@ -251,7 +252,7 @@ module _ (n : ℕ) (h : History) (c : Call) (t : Tells n h c) where
       (λ z. true≢false (sym (receives-not c g (λ e. omega arith)) ∙ none .1 .0)) (none .1 .1 .0))
   call-told b End =
       subst (λ (x : Answer × Call). Left End (x .0) (x .1))
-      (sym (around (λ (d : Call × Counts). d .0) (c, noCounts) (endRefusals (standing c)) (Done, (noCall, c .counts))))
+      (sym (around (λ (d : Call × Counts). d .0) (c, noCounts) (endRefusals (standing c)) (Done, afterEnd c)))
       (renews End (endRefusals (standing c)) noCall refl (refl, refl, refl, λ e z. absurd (omega arith)))
   call-told b (Announce w) =
       by-refusals (λ x. (goodCall c ≡ true → goodCall (x .1) ≡ true) → Left (Announce w) (x .0) (x .1)) c (announceRefusals (standing c) w)
@@ -293,7 +294,7 @@ in-call os n = told os n .counts
 -- ---- what is asked of a device
 
 -- a call that doesn't receive has no slots
-pub none-slots : (n : ℕ) (h : History) → receivesIn n h ≡ false → slotsIn n h ≡ []
+none-slots : (n : ℕ) (h : History) → receivesIn n h ≡ false → slotsIn n h ≡ []
 unfolding receivesIn slotsIn
 none-slots n [] e = refl
 none-slots n (x ∷ h) e = go (isDone (x .1) && renewsCall n (x .0)) (receivesIn n h) (none-slots n h) e
@@ -344,7 +345,7 @@ module _ (os : List Operation) (n : ℕ) where
   unfolding endOf endRefusals
   hands-out =
       by-refusals (λ x. numberOf (x .0) ≡ 0 → handedOut (x .1 .1) ≡ handedOut (c .counts)) (c, noCounts) (endRefusals (standing c))
-      (Done, (noCall, c .counts)) (λ a m z. absurd (omega (arith, among-refuses a (endRefusals (standing c)) refl m))) (λ none z. refl)
+      (Done, afterEnd c) (λ a m z. absurd (omega (arith, among-refuses a (endRefusals (standing c)) refl m))) (λ none z. refl)
 
   -- where it receives, end is done
   pub end-done : receivesIn n (history step os) ≡ true → numberOf (step (deviceAfter step os) (OfCall n End) .0) ≡ 0
@@ -396,6 +397,24 @@ module _ (os : List Operation) (n : ℕ) where
         go true t = rw (voice.done-exactly c mask frame .1 t) (omega arith)
         go false t = rw (voice.held-exactly c mask frame .1 t) (omega arith)
 
+-- the rate at which it was opened
+since-rate : (n : ℕ) (since before : History) (x : Operation × Answer) → NoneDone (renewsCall n) since → rateIn n (since ++ (x ∷ before)) ≡ rateIn n (x ∷ before)
+unfolding rateIn
+since-rate n [] before x p = refl
+since-rate n (y ∷ ys) before x p = rw (p .0) (since-rate n ys before x (p .1))
+
+opening-rate : (n : ℕ) (ways : ℕ × ℕ) (c i : ℕ) (o : Operation) (before : History) → OpensCall n ways c i o → rateIn n ((o, Done) ∷ before) ≡ ways .0
+unfolding rateIn
+opening-rate n ways c i _ before (by-open w) = rw (eq-eqb n n refl)
+opening-rate n ways c i _ before (by-start w z) = rw (eq-eqb n n refl)
+opening-rate n ways c i _ before by-join = rw (eq-eqb n n refl)
+
+rate-told : (os : List Operation) (n : ℕ) → receivesIn n (history step os) ≡ true → rateIn n (history step os) ≡ c os n .terms .rate
+rate-told os n r =
+    let l = calls-loaded os n (λ z. omega (arith, z, receiver os n r)) in
+    ap (rateIn n) (l .is-history) ∙ since-rate n (l .since) (l .before) (l .opening, Done) (l .still-stands)
+    ∙ opening-rate n (c os n .terms .rate, c os n .terms .strictness) _ _ (l .opening) (l .before) (l .opens-it)
+
 pub ours-counts : Counted step
 unfolding step callStep
 ours-counts =
@@ -404,9 +423,9 @@ ours-counts =
       ended = end-done;
       limit = at-most;
       taken = λ os n r l. lost-done os n (record { receives = r; its = refl }) l;
-      arrives = λ os n mask frame r l i.
-          voice-taken os n (record { receives = r; its = refl }) l mask frame (i .0)
-          (i .2 ∙ ap (λ (x : Layout). x .frame) (layout-is (c os n .terms .rate)));
+      arrives = λ os n mask frame r l m i.
+          voice-taken os n (record { receives = r; its = refl }) l mask frame m
+          (i ∙ ap (λ (x : ℕ). layout x .frame) (rate-told os n r) ∙ ap (λ (x : Layout). x .frame) (layout-is (c os n .terms .rate)));
       lost-past = λ os n.
           let p = voice.lost-past (c os n) in
           (λ z. by-history os n (p .0 z), λ l. ap (λ (x : Answer × Call). numberOf (x .0)) (p .1 (by-struct os n l)));
@@ -423,3 +442,8 @@ pub one-count : (st su : Step) → Counted st → Counted su → (os : List Oper
     → st (deviceAfter st os) (OfCall n End) .1 .1 ≡ su (deviceAfter su os) (OfCall n End) .1 .1
 one-count st su p q os e n r =
     p .handed os n (p .ended os n r) ∙ ap (λ (h : History). fourCounts (slotsIn n h)) e ∙ sym (q .handed os n (q .ended os n (rw e at r)))
+
+-- of a call that doesn't receive, a sender's say, zeros are handed out
+pub others-zeros : (st : Step) → Counted st → (os : List Operation) (n : ℕ) → receivesIn n (history st os) ≡ false
+    → numberOf (st (deviceAfter st os) (OfCall n End) .0) ≡ 0 → st (deviceAfter st os) (OfCall n End) .1 .1 ≡ 0 ∷ 0 ∷ 0 ∷ 0 ∷ []
+others-zeros st right os n r z = right .handed os n z ∙ ap fourCounts (none-slots n (history st os) r)

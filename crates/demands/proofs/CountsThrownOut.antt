@@ -1,5 +1,5 @@
--- Devices that count wrongly are thrown out: those that are ours but for what end hands out of the four counts, and those without the slot limit. The
--- limit can be reached.
+-- Devices that count wrongly are thrown out: those that are ours but for what end hands out of the four counts, and those without the slot limit,
+-- or with an early one. The limit can be reached.
 use mathlib.Core.Path.{_≡_, refl, sym, ap, _∙_}
 use mathlib.Core.Bool.{true, false}
 use mathlib.Core.List.{List, [], _∷_}
@@ -8,9 +8,10 @@ use native.Mathlib.Omega.{arith}
 use lib.ListN.{length, getD}
 use Rattle.octets.specs.Tests.{allBelow, firstBelow}
 use Rattle.octets.specs.Lists.{allZero}
+use Rattle.octets.proofs.TestLaws.{and-false-r}
 use Rattle.answers.specs.declared.Answer.{Answer}
 use Rattle.answers.specs.declared.Answer.the-variants.{Done}
-use Rattle.answers.specs.Numbers.{numberOf}
+use Rattle.answers.specs.Numbers.{numberOf, isDone}
 use Rattle.ciphers.specs.Keys.{oddOctet, desKey, keyAllowed}
 use Rattle.keyentry.specs.Entry as entry
 use Rattle.keybook.specs.Book as rules
@@ -22,11 +23,12 @@ use Rattle.voice.specs.Call.{closedTests, isClosed, standing, termsOf, noCall, 
 use Rattle.voice.specs.Opening.{joinRefusals, joined, joinOf}
 use Rattle.demands.specs.Device.{Device, Open, Join, Voice, Lost, End, callStep, Operation, OfCall, Step, step, deviceAfter, history, CallOperation}
 use Rattle.demands.specs.OtherDevices.{handing, uncounted, exchanged, passedOff}
-use Rattle.demands.specs.Counted.{Slot, arrived, missed, receivesIn, slotsIn, fourCounts, AtLimit, Counted}
+use Rattle.demands.specs.Rates.{layout}
+use Rattle.demands.specs.Counted.{Slot, arrived, missed, receivesIn, rateIn, slotsIn, fourCounts, AtLimit, Counted}
 use Rattle.demands.proofs.Layouts.{ways-right}
 use Rattle.demands.proofs.Samples.{silence, silent-long}
 use Rattle.demands.proofs.Instance1.{ready, loading, is-loaded, opens, opening-call, is-open}
-use Rattle.demands.proofs.Counting.{none-slots, Receives, end-done, lost-on, voice-on, ours-counts}
+use Rattle.demands.proofs.Counting.{Receives, end-done, lost-on, voice-on, ours-counts}
 
 -- ---- what end hands out
 
@@ -54,7 +56,7 @@ module _ (f : List ℕ → List ℕ) where
 -- ---- slots that can be told
 
 module _ (r m : ℕ) (low : r ≤ 1) (lows : m ≤ 1) where
-  abbrev begun : List Operation
+  abbrev pub begun : List Operation
   begun = opening-call r m low lows
 
   open-done : step (deviceAfter step loading) (OfCall 0 (Open 2 0 r m seed)) .0 ≡ Done
@@ -67,7 +69,7 @@ module _ (r m : ℕ) (low : r ≤ 1) (lows : m ≤ 1) where
   opened-now = record { receives = rw open-done; its = rw open-done }
 
   -- two words of a slot, then a lost slot
-  opened-two : Receives 0 (missed ∷ arrived 3 true ∷ []) (history step (OfCall 0 Lost ∷ OfCall 0 (Voice 3 (silence r)) ∷ begun))
+  pub opened-two : Receives 0 (missed ∷ arrived 3 true ∷ []) (history step (OfCall 0 Lost ∷ OfCall 0 (Voice 3 (silence r)) ∷ begun))
   opened-two =
       lost-on (OfCall 0 (Voice 3 (silence r)) ∷ begun) 0
       (voice-on begun 0 opened-now (omega arith) 3 (silence r) true (omega arith) (rw (is-open r m low lows) (silent-long r))
@@ -80,7 +82,7 @@ module _ (r m : ℕ) (low : r ≤ 1) (lows : m ≤ 1) where
       entry.entryRight entry.usedRight entry.readyRight entry.lacks rules.entryOf rules.findEntry rules.apart rules.goodBook keyAllowed desKey oddOctet
   joins = rw (ways-right r m low lows)
 
-  abbrev joining : List Operation
+  abbrev pub joining : List Operation
   joining = OfCall 0 (Join 2 0 r m) ∷ loading
 
   join-done : step (deviceAfter step loading) (OfCall 0 (Join 2 0 r m)) .0 ≡ Done
@@ -91,7 +93,7 @@ module _ (r m : ℕ) (low : r ≤ 1) (lows : m ≤ 1) where
   unfolding deviceAfter step callStep
   is-joined = ap (λ (d : Device). step d (OfCall 0 (Join 2 0 r m)) .1 .0 .calls 0) is-loaded ∙ ap (λ (x : Answer × Call). x .1) joins
 
-  joined-two : Receives 0 (arrived 3 false ∷ []) (history step (OfCall 0 (Voice 3 (silence r)) ∷ joining))
+  pub joined-two : Receives 0 (arrived 3 false ∷ []) (history step (OfCall 0 (Voice 3 (silence r)) ∷ joining))
   unfolding history receivesIn slotsIn
   joined-two =
       voice-on joining 0 (record { receives = rw join-done; its = rw join-done }) (omega arith) 3 (silence r) false (omega arith)
@@ -136,6 +138,11 @@ module _ (r m : ℕ) (low : r ≤ 1) (lows : m ≤ 1) where
       let o = lost-on (missing k) 0 (record { receives = p .0; its = refl }) (omega (arith, p .1)) in
       (o .receives, ap length (o .its) ∙ ap suc (p .1))
 
+  missing-rate : (k : ℕ) → rateIn 0 (history step (missing k)) ≡ r
+  unfolding missing history rateIn
+  missing-rate zero = rw (open-done r m low lows)
+  missing-rate (suc k) = rw (and-false-r (isDone (step (deviceAfter step (missing k)) (OfCall 0 Lost) .0))) (missing-rate k)
+
   -- it can be reached
   pub limit-reached : AtLimit 0 (history step (missing 1000000))
   limit-reached = let p = missing-told 1000000 (omega arith) in record { receives = p .0; full = p .1 }
@@ -155,19 +162,22 @@ module _ (r m : ℕ) (low : r ≤ 1) (lows : m ≤ 1) where
     pub unlimited-voice-thrown-out : Alike 1000000 → (mask : ℕ) (frame : List ℕ) → mask ≤ 15 → (answers 1000000 (Voice mask frame) ≡ 16 → ⊥) → Counted st → ⊥
     unlimited-voice-thrown-out e mask frame l other right = other (right .voice-past (missing 1000000) 0 mask frame .1 (l, rw e limit-reached))
 
-    -- or if it refuses a lost slot before, by whatever number, or answers one that arrives 16
+    -- or if it refuses a slot before, lost or arrived, by whatever number
     pub early-thrown-out : (k : ℕ) → k < 1000000 → Alike k → (answers k Lost ≡ 0 → ⊥) → Counted st → ⊥
     early-thrown-out k l e other right =
         let p = missing-told k (omega arith) in
         other (right .taken (missing k) 0 (rw e (p .0)) (rw e (omega (arith, p .1))))
 
+    pub early-voice-thrown-out : (k mask : ℕ) (frame : List ℕ) → k < 1000000 → Alike k → mask ≤ 15 → length frame ≡ layout r .frame
+        → 2 ≤ answers k (Voice mask frame) → Counted st → ⊥
+    early-voice-thrown-out k mask frame l e four long z right =
+        let p = missing-told k (omega arith) in
+        let under = right .arrives (missing k) 0 mask frame (rw e (p .0)) (rw e (omega (arith, p .1))) four (rw (e, missing-rate k) long) in
+        omega (arith, under, z)
+
+    -- or by 16, whatever it is given
     pub sixteen-early-thrown-out : (k mask : ℕ) (frame : List ℕ) → k < 1000000 → Alike k → answers k (Voice mask frame) ≡ 16 → Counted st → ⊥
     sixteen-early-thrown-out k mask frame l e z right =
         let p = missing-told k (omega arith) in
         let q : length (slotsIn 0 (history step (missing k))) ≡ 1000000 = rw e at (right .voice-past (missing k) 0 mask frame .0 z .1 .full) in
         omega (arith, q, p .1)
-
--- of a call that doesn't receive, a sender's say, zeros are handed out
-pub others-zeros : (st : Step) → Counted st → (os : List Operation) (n : ℕ) → receivesIn n (history st os) ≡ false
-    → numberOf (st (deviceAfter st os) (OfCall n End) .0) ≡ 0 → st (deviceAfter st os) (OfCall n End) .1 .1 ≡ 0 ∷ 0 ∷ 0 ∷ 0 ∷ []
-others-zeros st right os n r z = right .handed os n z ∙ ap fourCounts (none-slots n (history st os) r)

@@ -23,7 +23,7 @@ use Rattle.openings.proofs.LadderLaws.{vector-in-table}
 use Rattle.voice.specs.Counts.{noCounts, plus, lostWords}
 use Rattle.voice.specs.declared.counts.Counts.{Counts}
 use Rattle.voice.specs.declared.call.Call.{Call}
-use Rattle.voice.specs.Call.{sendingEnd, receivingEnd, byDefault, standing, termsOf, written, knows, endRefusals, endOf, noCall}
+use Rattle.voice.specs.Call.{sendingEnd, receivingEnd, byDefault, standing, termsOf, written, knows, endRefusals, afterEnd, endOf}
 use Rattle.voice.specs.Opening.{joinRefusals, begunRefusals, begun, openOf, startOf, joined, joinOf}
 use Rattle.voice.specs.Slot.{slotOn, lostRefusals, lostOf, voiceRefusals, streamOf, voiceAfter, voiceBy}
 use Rattle.voice.specs.Vector.{withVector, announceRefusals, announceOf, following, nextRefusals, nextVectorOf}
@@ -63,7 +63,7 @@ call-settles b c (Voice mask frame) =
     settles (c, frame) (voiceRefusals c mask frame) (voiceAfter streamOf mask frame (c .counts) (standing c)) refl (taken-under-two (knows (standing c)))
 call-settles b c Lost = none-lent (settles c (lostRefusals c) (Done, written (plus (c .counts) lostWords) (slotOn (standing c))) refl (omega arith))
 call-settles b c End =
-    let s = settles {S = Call × Counts} (c, noCounts) (endRefusals (standing c)) (Done, (noCall, c .counts)) refl (omega arith) in
+    let s = settles {S = Call × Counts} (c, noCounts) (endRefusals (standing c)) (Done, afterEnd c) refl (omega arith) in
     record { number = s .number; answer = s .answer; none-holds = s .none-holds; keeps = λ h. ap (λ (x : Call × Counts). (x .0, handedOut (x .1))) (s .keeps h) }
 call-settles b c (Announce w) = none-lent (settles c (announceRefusals (standing c) w) (Done, written (c .counts) (withVector w (standing c))) refl (omega arith))
 call-settles b c (NextVector out) =

@@ -29,7 +29,6 @@ pub mod RefusedLaws
 pub mod LoadedLaws
 pub mod CallsLoaded
 pub mod Counting
-pub mod NightReport
 pub mod PacketOpens
 pub mod PacketsLoaded
 pub mod Meets1
@@ -37,4 +36,5 @@ pub mod ThrownOut1
 pub mod DevicesThrownOut
 pub mod Instance1
 pub mod CountsThrownOut
+pub mod NightReport
 pub mod ThrownOut2

@@ -9,10 +9,12 @@ use Rattle.answers.specs.declared.Answer.the-variants.{Done}
 use Rattle.report.specs.Report.{perCall, sumBelow, sumAt, sums, reportOf}
 use Rattle.report.proofs.SumLaws.{one-after-other}
 use Rattle.report.proofs.ReportLaws.{done-sums}
-use Rattle.demands.specs.Device.{Step, history}
-use Rattle.demands.specs.Counted.{Slot, slotsIn, Fate, opened, held, replaced, lost, placeOf, fates, howMany, fourCounts, Counted}
-use Rattle.demands.specs.Night.{Ending, AllEnded, handedOver, nightSlots, said}
-use Rattle.demands.proofs.Counting.{four-to-a-slot}
+use Rattle.demands.specs.Device.{Voice, Lost, OfCall, Step, step}
+use Rattle.demands.specs.Counted.{Slot, Fate, opened, held, replaced, lost, placeOf, fates, howMany, fourCounts, Counted}
+use Rattle.demands.specs.Night.{Ending, AllEnded, handedOver, slotsOf, nightSlots, said}
+use Rattle.demands.proofs.Samples.{silence}
+use Rattle.demands.proofs.Counting.{four-to-a-slot, end-done, ours-counts}
+use Rattle.demands.proofs.CountsThrownOut.{begun, joining, opened-two, joined-two}
 
 -- of slots one after another
 how-many-both : (f : Fate) (xs ys : List Slot) → howMany f (fates (xs ++ ys)) ≡ howMany f (fates xs) + howMany f (fates ys)
@@ -42,29 +44,38 @@ within xs more l h (suc (suc (suc zero))) = omega (arith, four-to-a-slot xs)
 within xs more l h (suc (suc (suc (suc i)))) = h i
 
 module _ (st : Step) (right : Counted st) where
-  abbrev slotsOf : Ending → List Slot
-  slotsOf e = slotsIn (e .1) (history st (e .0))
-
-  four-each : (es : List Ending) → AllEnded st es → length (handedOver st es) ≡ 4 * length es
-  four-each [] a = refl
-  four-each (e ∷ es) a = rw (right .handed (e .0) (e .1) (a .0)) (omega (arith, length-append (fourCounts (slotsOf e)) (handedOver st es), four-each es (a .1)))
+  four-to-a-call : (es : List Ending) → AllEnded st es → length (handedOver st es) ≡ 4 * length es
+  four-to-a-call [] a = refl
+  four-to-a-call (e ∷ es) a = rw (right .handed (e .0) (e .1) (a .0)) (omega (arith, length-append (fourCounts (slotsOf st e)) (handedOver st es), four-to-a-call es (a .1)))
 
   all-within : (es : List Ending) → AllEnded st es → (i : ℕ) → getD (handedOver st es) i 0 ≤ 4000000
   all-within [] a = λ i. omega arith
   all-within (e ∷ es) a =
-      rw (right .handed (e .0) (e .1) (a .0)) (within (slotsOf e) (handedOver st es) (right .limit (e .0) (e .1)) (all-within es (a .1)))
+      rw (right .handed (e .0) (e .1) (a .0)) (within (slotsOf st e) (handedOver st es) (right .limit (e .0) (e .1)) (all-within es (a .1)))
 
   sum-of-all : (f : Fate) (es : List Ending) → AllEnded st es → sumAt (placeOf f) (handedOver st es) ≡ howMany f (fates (nightSlots st es))
   unfolding sumAt sumBelow
   sum-of-all f [] a = refl
   sum-of-all f (e ∷ es) a =
       rw (right .handed (e .0) (e .1) (a .0))
-      (one-after-other (placeOf f) (place-below f) (fourCounts (slotsOf e)) (handedOver st es) refl (omega (arith, four-each es (a .1)))
-      ∙ ap₂ _+_ (one-call f (slotsOf e)) (sum-of-all f es (a .1))
-      ∙ sym (how-many-both f (slotsOf e) (nightSlots st es)))
+      (one-after-other (placeOf f) (place-below f) (fourCounts (slotsOf st e)) (handedOver st es) refl (omega (arith, four-to-a-call es (a .1)))
+      ∙ ap₂ _+_ (one-call f (slotsOf st e)) (sum-of-all f es (a .1))
+      ∙ sym (how-many-both f (slotsOf st e) (nightSlots st es)))
 
   pub night-report : (es : List Ending) → AllEnded st es → length es ≤ 10000 → reportOf (handedOver st es) ≡ (Done, said (nightSlots st es))
   unfolding sums
   night-report es a few =
-      done-sums (handedOver st es) (record { four = omega (arith, four-each es a); few = omega (arith, four-each es a); small = all-within es a })
+      done-sums (handedOver st es) (record { four = omega (arith, four-to-a-call es a); few = omega (arith, four-to-a-call es a); small = all-within es a })
       ∙ rw (sum-of-all opened es a, sum-of-all held es a, sum-of-all replaced es a, sum-of-all lost es a)
+
+-- ---- a night of two calls, at either rate and of either strictness: one opened and told of two words and a lost slot, one joined and told of two words
+
+module _ (r m : ℕ) (low : r ≤ 1) (lows : m ≤ 1) where
+  abbrev twoCalls : List Ending
+  twoCalls = (OfCall 0 Lost ∷ OfCall 0 (Voice 3 (silence r)) ∷ begun r m low lows, 0) ∷ (OfCall 0 (Voice 3 (silence r)) ∷ joining r m low lows, 0) ∷ []
+
+  pub short-night : reportOf (handedOver step twoCalls) ≡ (Done, 2 ∷ 2 ∷ 4 ∷ 4 ∷ 2 ∷ 4 ∷ [])
+  short-night =
+      night-report step ours-counts twoCalls
+      (end-done _ 0 (opened-two r m low lows .receives), (end-done _ 0 (joined-two r m low lows .receives), tt)) (omega arith)
+      ∙ rw (opened-two r m low lows .its, joined-two r m low lows .its)

@@ -1,20 +1,19 @@
 -- Every operation's refusals stand in the order in which document 01 has them count, whatever the device, and it answers by no others.
-use mathlib.Core.Path.{_≡_, refl, sym}
-use mathlib.Core.Bool.{true, false, _&&_, not, Bool, _||_, or-true, true≢false}
-use mathlib.Core.Logic.{_⊎_, inl, inr}
+use mathlib.Core.Path.{_≡_, refl, sym, _∙_}
+use mathlib.Core.Bool.{true, false, _&&_, not, Bool}
 use mathlib.Core.List.{List, [], _∷_}
 use Prim.Native.Nat.{ℕ, _≤_, _<_}
 use native.Mathlib.Omega.{arith}
 use lib.Dec.{eqb}
 use lib.ListN.{length}
-use borrow.Author.Tests.{eq-eqb, eqb-true}
+use borrow.Author.Tests.{eq-eqb}
 use Rattle.octets.specs.Tests.{pick}
-use Rattle.octets.proofs.TestLaws.{and-left, and-right}
 use Rattle.answers.specs.declared.Answer.{Answer}
 use Rattle.answers.specs.declared.Answer.the-variants.{NotNow}
 use Rattle.answers.specs.Numbers.{numberOf, isOneOf}
-use Rattle.answers.specs.Outcomes.{answered, Refusals, settled}
-use Rattle.answers.specs.Order.{refusalOrder, withoutZeros, openingOrder, numbersOf, afterNumber, inOrder}
+use Rattle.answers.specs.Outcomes.{answered}
+use Rattle.answers.specs.Order.{refusalOrder, withoutZeros, openingOrder, numbersOf, inOrder}
+use Rattle.answers.proofs.OrderLaws.{of-its-order}
 use Rattle.keyentry.specs.Entry.{inRange, extendRefusals, completeRefusals}
 use Rattle.keybook.specs.Book.{bookOctets, bookRefusals}
 use Rattle.keybook.specs.Operations.{beginRefusals, addRefusals, finishRefusals, eraseRefusals, notReady, readyRefusals}
@@ -34,7 +33,7 @@ use Rattle.data.specs.Opening as opening
 use Rattle.data.specs.Message as message
 use Rattle.demands.specs.Device.{Device, Open, Start, Join, Voice, Lost, End, Announce, NextVector, OpenPacket, Message, LostMessage, EndPacket, Operation, OfBook, OfCall, OfPacket, step}
 use Rattle.demands.proofs.DeviceLaws.{refusals-decide}
-use Rattle.demands.specs.Refusals.{refusalsOf, withoutCall, voiceOrder, orderOf, unrefused, withoutBook, lostOrder}
+use Rattle.demands.specs.Refusals.{refusalsOf, withoutCall, voiceOrder, orderOf, unrefused, withoutBook, lostOrder, isSlot}
 
 -- open and start
 begun-in-order : (end : ℕ) (s : Standing) (c i r m : ℕ) (w b : List ℕ)
@@ -71,45 +70,7 @@ pub one-order : (inOrder refusalOrder openingOrder ≡ true) × (inOrder refusal
     × (inOrder refusalOrder withoutBook ≡ true) × (inOrder refusalOrder lostOrder ≡ true)
 one-order = (refl, refl, refl, refl, refl)
 
--- ---- an operation answers nothing from outside its order: 16, say, is a slot's alone
-
-or-here : (a b : Bool) → (a || b) ≡ true → (a ≡ true) ⊎ (b ≡ true)
-or-here true b e = inl refl
-or-here false b e = inr e
-
--- what comes after a number in an order is of that order
-after-of : (n m : ℕ) (order : List ℕ) → isOneOf n (afterNumber m order) ≡ true → isOneOf n order ≡ true
-after-of n m [] e = e
-after-of n m (x ∷ xs) e = go (eqb m x) (eqb m 2) (after-of n m xs) e
-  where
-    rest : isOneOf n xs ≡ true → (eqb n x || isOneOf n xs) ≡ true
-    rest h = rw (h, or-true (eqb n x))
-
-    go : (t u : Bool) → (isOneOf n (afterNumber m xs) ≡ true → isOneOf n xs ≡ true) → isOneOf n (pick t (pick u (x ∷ xs) xs) (afterNumber m xs)) ≡ true
-        → (eqb n x || isOneOf n xs) ≡ true
-    go true true later h = h
-    go true false later h = rest h
-    go false u later h = rest (later h)
-
-listed-of : (n : ℕ) (order ns : List ℕ) → inOrder order ns ≡ true → isOneOf n ns ≡ true → isOneOf n order ≡ true
-listed-of n order [] h e = absurd (true≢false (sym e))
-listed-of n order (m ∷ ms) h e =
-    go (listed-of n (afterNumber m order) ms (and-right (isOneOf m order) (inOrder (afterNumber m order) ms) h)) (or-here (eqb n m) (isOneOf n ms) e)
-  where
-    go : (isOneOf n ms ≡ true → isOneOf n (afterNumber m order) ≡ true) → (eqb n m ≡ true) ⊎ (isOneOf n ms ≡ true) → isOneOf n order ≡ true
-    go later (inl q) = rw (eqb-true n m q) (and-left (isOneOf m order) (inOrder (afterNumber m order) ms) h)
-    go later (inr q) = after-of n m order (later q)
-
-given-listed : (rs : Refusals) (a : Answer) → numberOf a < 2 → 2 ≤ numberOf (answered rs a) → isOneOf (numberOf (answered rs a)) (numbersOf rs) ≡ true
-given-listed [] a l = λ h. absurd (omega arith)
-given-listed (r ∷ rs) a l = go (r .0) (given-listed rs a l)
-  where
-    go : (t : Bool) → (2 ≤ numberOf (answered rs a) → isOneOf (numberOf (answered rs a)) (numbersOf rs) ≡ true)
-        → 2 ≤ numberOf (pick {A = Answer × Unit {0}} t (r .1, tt) (settled tt rs (a, tt)) .0)
-        → (eqb (numberOf (pick {A = Answer × Unit {0}} t (r .1, tt) (settled tt rs (a, tt)) .0)) (numberOf (r .1))
-        || isOneOf (numberOf (pick {A = Answer × Unit {0}} t (r .1, tt) (settled tt rs (a, tt)) .0)) (numbersOf rs)) ≡ true
-    go true later h = rw (eq-eqb (numberOf (r .1)) (numberOf (r .1)) refl)
-    go false later h = rw (later h, or-true (eqb (numberOf (answered rs a)) (numberOf (r .1))))
+-- ---- an operation answers nothing from outside its order, and 16 is a slot's alone
 
 unrefused-under : (d : Device) (o : Operation) → numberOf (unrefused d o) < 2
 unrefused-under d (OfBook o) = omega arith
@@ -126,8 +87,29 @@ unrefused-under d (OfPacket n o) = omega arith
 pub only-its-own : (d : Device) (o : Operation) → 2 ≤ numberOf (step d o .0) → isOneOf (numberOf (step d o .0)) (orderOf o) ≡ true
 only-its-own d o h =
     let e = refusals-decide d o in
-    listed-of (numberOf (step d o .0)) (orderOf o) (numbersOf (refusalsOf d o)) (in-order d o)
-    (rw e (given-listed (refusalsOf d o) (unrefused d o) (unrefused-under d o) (rw e at h)))
+    rw e (of-its-order (orderOf o) (refusalsOf d o) (unrefused d o) (in-order d o) (unrefused-under d o) (rw e at h))
+
+sixteen-of : (o : Operation) → isOneOf 16 (orderOf o) ≡ isSlot o
+sixteen-of (OfBook o) = refl
+sixteen-of (OfCall n (Open c i r m w)) = refl
+sixteen-of (OfCall n (Start c i r w)) = refl
+sixteen-of (OfCall n (Join c i r m)) = refl
+sixteen-of (OfCall n (Voice mask frame)) = refl
+sixteen-of (OfCall n Lost) = refl
+sixteen-of (OfCall n End) = refl
+sixteen-of (OfCall n (Announce w)) = refl
+sixteen-of (OfCall n (NextVector out)) = refl
+sixteen-of (OfPacket n (OpenPacket end kind c i w)) = go (eqb end opening.toSend)
+  where
+    go : (b : Bool) → isOneOf 16 (pick b openingOrder withoutZeros) ≡ false
+    go true = refl
+    go false = refl
+sixteen-of (OfPacket n (Message octets)) = refl
+sixteen-of (OfPacket n LostMessage) = refl
+sixteen-of (OfPacket n EndPacket) = refl
+
+pub slots-alone : (d : Device) (o : Operation) → numberOf (step d o .0) ≡ 16 → isSlot o ≡ true
+slots-alone d o e = sym (sixteen-of o) ∙ (rw e at (only-its-own d o (omega (arith, e))))
 
 -- the openings with a vector and announce, in full: 8 is a sender's alone
 pub vector-orders : (d : Device) (n kind c i r m : ℕ) (w : List ℕ)

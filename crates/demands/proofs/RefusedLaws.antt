@@ -28,7 +28,7 @@ use Rattle.openings.specs.Ladder as ladder
 use Rattle.voice.specs.Counts.{noCounts}
 use Rattle.voice.specs.declared.counts.Counts.{Counts}
 use Rattle.voice.specs.declared.call.Call.{Call}
-use Rattle.voice.specs.Call.{sendingEnd, receivingEnd, unknownVector, byDefault, strict, termsRight, goodCall, standing, knows, endRefusals, noCall, endOf}
+use Rattle.voice.specs.Call.{sendingEnd, receivingEnd, unknownVector, byDefault, strict, termsRight, goodCall, standing, knows, endRefusals, afterEnd, endOf}
 use Rattle.voice.specs.Opening.{joinRefusals, begunRefusals}
 use Rattle.voice.specs.Slot.{lostRefusals, voiceRefusals, streamOf, voiceOf}
 use Rattle.voice.specs.Vector.{announceRefusals, following, nextRefusals, nextVectorOf}
@@ -178,7 +178,7 @@ call-untouched b c (Join m i r s) n = refl
 call-untouched b c (Voice mask frame) n = undone-stays streamOf c mask frame n
 call-untouched b c Lost n = refl
 call-untouched b c End n =
-    ap (λ (x : Call × Counts). handedOut (x .1)) (undone {S = Call × Counts} (c, noCounts) (noCall, c .counts) (endRefusals (standing c)) n)
+    ap (λ (x : Call × Counts). handedOut (x .1)) (undone {S = Call × Counts} (c, noCounts) (afterEnd c) (endRefusals (standing c)) n)
 call-untouched b c (Announce w) n = refl
 call-untouched b c (NextVector out) n = undone out (following (standing c)) (nextRefusals (standing c) out) n
 

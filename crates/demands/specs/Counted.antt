@@ -11,7 +11,8 @@ use Rattle.answers.specs.declared.Answer.{Answer}
 use Rattle.answers.specs.Numbers.{numberOf, isDone}
 use Rattle.voice.specs.Frame.{inMask}
 use Rattle.demands.specs.Device.{CallOperation, Open, Start, Join, Voice, Lost, End, Announce, NextVector, Operation, OfBook, OfCall, OfPacket, Step, History, deviceAfter, history}
-use Rattle.demands.specs.Demand1.{RightInput, renewsCall}
+use Rattle.demands.specs.Demand1.{renewsCall}
+use Rattle.demands.specs.Rates.{layout}
 
 -- ---- the history of slots
 
@@ -56,6 +57,27 @@ opensToReceive (OfPacket m o) = false
 unfoldable pub receivesIn : ℕ → History → Bool
 receivesIn n [] = false
 receivesIn n (x ∷ h) = pick (isDone (x .1) && renewsCall n (x .0)) (opensToReceive (x .0)) (receivesIn n h)
+
+-- the rate that an opening names
+abbrev pub rateNamed : CallOperation → ℕ
+rateNamed (Open c i r s w) = r
+rateNamed (Start c i r w) = r
+rateNamed (Join c i r s) = r
+rateNamed (Voice mask frame) = 0
+rateNamed Lost = 0
+rateNamed End = 0
+rateNamed (Announce w) = 0
+rateNamed (NextVector out) = 0
+
+abbrev pub opensAt : Operation → ℕ
+opensAt (OfBook o) = 0
+opensAt (OfCall m o) = rateNamed o
+opensAt (OfPacket m o) = 0
+
+-- at which call n was opened
+unfoldable pub rateIn : ℕ → History → ℕ
+rateIn n [] = 0
+rateIn n (x ∷ h) = pick (isDone (x .1) && renewsCall n (x .0)) (opensAt (x .0)) (rateIn n h)
 
 -- the slots of call n since it was opened to receive, the latest first. A sender's are not counted, and a call that was ended has none
 unfoldable pub slotsIn : ℕ → History → List Slot
@@ -109,9 +131,9 @@ pub record Counted (st : Step) : Type 0 where
   pub limit : (os : List Operation) (n : ℕ) → length (slotsIn n (history st os)) ≤ 1000000
   pub taken : (os : List Operation) (n : ℕ) → receivesIn n (history st os) ≡ true → length (slotsIn n (history st os)) < 1000000
       → numberOf (st (deviceAfter st os) (OfCall n Lost) .0) ≡ 0
-  -- and so is a voice slot that has what it is to be given
+  -- and so is a voice slot with a right mask and a frame as long as the rate has it
   pub arrives : (os : List Operation) (n mask : ℕ) (frame : List ℕ) → receivesIn n (history st os) ≡ true → length (slotsIn n (history st os)) < 1000000
-      → RightInput (deviceAfter st os) (OfCall n (Voice mask frame)) → numberOf (st (deviceAfter st os) (OfCall n (Voice mask frame)) .0) < 2
+      → mask ≤ 15 → length frame ≡ layout (rateIn n (history st os)) .frame → numberOf (st (deviceAfter st os) (OfCall n (Voice mask frame)) .0) < 2
   -- a slot is 16 there, and nowhere else
   pub lost-past : (os : List Operation) (n : ℕ)
       → (numberOf (st (deviceAfter st os) (OfCall n Lost) .0) ≡ 16 → AtLimit n (history st os))

@@ -14,20 +14,23 @@ Ending = List Operation × ℕ
 
 module _ (st : Step) where
   -- its answer, and what it hands out
-  abbrev pub ending : Ending → Answer × List ℕ
-  ending e = let r = st (deviceAfter st (e .0)) (OfCall (e .1) End) in (r .0, r .1 .1)
+  abbrev pub atEnd : Ending → Answer × List ℕ
+  atEnd e = let r = st (deviceAfter st (e .0)) (OfCall (e .1) End) in (r .0, r .1 .1)
 
   abbrev pub AllEnded : List Ending → Type 0
   AllEnded [] = Unit {0}
-  AllEnded (e ∷ es) = (numberOf (ending e .0) ≡ 0) × AllEnded es
+  AllEnded (e ∷ es) = (numberOf (atEnd e .0) ≡ 0) × AllEnded es
 
   abbrev pub handedOver : List Ending → List ℕ
   handedOver [] = []
-  handedOver (e ∷ es) = ending e .1 ++ handedOver es
+  handedOver (e ∷ es) = atEnd e .1 ++ handedOver es
+
+  abbrev pub slotsOf : Ending → List Slot
+  slotsOf e = slotsIn (e .1) (history st (e .0))
 
   abbrev pub nightSlots : List Ending → List Slot
   nightSlots [] = []
-  nightSlots (e ∷ es) = slotsIn (e .1) (history st (e .0)) ++ nightSlots es
+  nightSlots (e ∷ es) = slotsOf e ++ nightSlots es
 
 -- what a report is to say of slots: the four counts, and opened over opened plus held
 abbrev pub said : List Slot → List ℕ

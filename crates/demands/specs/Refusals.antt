@@ -1,4 +1,5 @@
 -- What refuses each operation, all in one table, what it is answered else, and the order in which refusals count (document 01, "Answer numbers": "Several at once").
+use mathlib.Core.Bool.{Bool, true, false}
 use mathlib.Core.List.{List, [], _∷_, _++_}
 use Prim.Native.Nat.{ℕ}
 use lib.Dec.{eqb}
@@ -103,3 +104,16 @@ abbrev pub orderOf : Operation → List ℕ
 orderOf (OfBook o) = withoutCall
 orderOf (OfCall n o) = callOrder o
 orderOf (OfPacket n o) = packetOrder o
+
+-- a slot, arrived or lost
+abbrev pub isSlot : Operation → Bool
+isSlot (OfBook o) = false
+isSlot (OfCall n (Open c i r m w)) = false
+isSlot (OfCall n (Start c i r w)) = false
+isSlot (OfCall n (Join c i r m)) = false
+isSlot (OfCall n (Voice mask frame)) = true
+isSlot (OfCall n Lost) = true
+isSlot (OfCall n End) = false
+isSlot (OfCall n (Announce w)) = false
+isSlot (OfCall n (NextVector out)) = false
+isSlot (OfPacket n o) = false

@@ -25,7 +25,7 @@ use Rattle.openings.specs.Ladder.{sessionVector, keyFor}
 use Rattle.voice.specs.declared.call.Terms.{Terms}
 use Rattle.voice.specs.declared.counts.Counts.{Counts}
 use Rattle.voice.specs.declared.call.Call.{Call}
-use Rattle.voice.specs.Call.{sendingEnd, receivingEnd, carriedVector, strict, goodCall, Known, knownBy, Standing, closed, receiving, standing, termsOf, noCall, written, knows, endRefusals, endOf}
+use Rattle.voice.specs.Call.{sendingEnd, receivingEnd, carriedVector, strict, goodCall, Known, knownBy, Standing, closed, receiving, standing, termsOf, noCall, written, knows, endRefusals, afterEnd, endOf}
 use Rattle.voice.specs.Counts.{noCounts, plus, lostWords, arrivedWords}
 use Rattle.voice.specs.Opening.{joinRefusals, begunRefusals, begun, openOf, joined, joinOf}
 use Rattle.voice.specs.Slot.{ridden, slotOn, lostRefusals, lostOf, voiceRefusals, streamOf, voiceAfter, voiceBy, voiceOf}
@@ -120,7 +120,7 @@ module _ (c : Call) (good : goodCall c ≡ true) (h : Heard c) where
 
   end-ends : Heard (endOf c .1 .0)
   unfolding endOf
-  end-ends = unless (λ (d : Call × Counts). d .0) (c, noCounts) (endRefusals (standing c)) (Done, (noCall, c .counts)) h none-heard
+  end-ends = unless (λ (d : Call × Counts). d .0) (c, noCounts) (endRefusals (standing c)) (Done, afterEnd c) h none-heard
 
   lost-ends : Heard (lostOf c .1)
   unfolding lostOf

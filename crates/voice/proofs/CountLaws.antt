@@ -80,50 +80,50 @@ unless-holds true n f = eq-eqb n 0 (f refl)
 unless-holds false n f = refl
 
 -- what the tests ask
-pub record Tallied (always never : Bool) (p : ℕ) (n : Counts) : Type 0 where
+pub record Tallied (alwaysKnown neverKnown : Bool) (p : ℕ) (n : Counts) : Type 0 where
   pub most : total n ≤ mostWords
   pub whole : total n % words ≡ 0
   pub lost : n .lost % words ≡ 0
   pub place : total n / words % superframeSlots ≡ p % superframeSlots
-  pub held : always ≡ true → n .held ≡ 0
-  pub opened : never ≡ true → n .opened ≡ 0
+  pub held : alwaysKnown ≡ true → n .held ≡ 0
+  pub opened : neverKnown ≡ true → n .opened ≡ 0
 
-module _ (always never : Bool) (p : ℕ) (n : Counts) where
-  pub tallied : every (countTests always never p n) ≡ true → Tallied always never p n
+module _ (alwaysKnown neverKnown : Bool) (p : ℕ) (n : Counts) where
+  pub tallied : every (countTests alwaysKnown neverKnown p n) ≡ true → Tallied alwaysKnown neverKnown p n
   tallied e =
       record {
-        most = leb-true _ _ (every-at (countTests always never p n) 0 e);
-        whole = eqb-true _ _ (every-at (countTests always never p n) 1 e);
-        lost = eqb-true _ _ (every-at (countTests always never p n) 2 e);
-        place = eqb-true _ _ (every-at (countTests always never p n) 3 e);
-        held = unless always (n .held) (every-at (countTests always never p n) 4 e);
-        opened = unless never (n .opened) (every-at (countTests always never p n) 5 e);
+        most = leb-true _ _ (every-at (countTests alwaysKnown neverKnown p n) 0 e);
+        whole = eqb-true _ _ (every-at (countTests alwaysKnown neverKnown p n) 1 e);
+        lost = eqb-true _ _ (every-at (countTests alwaysKnown neverKnown p n) 2 e);
+        place = eqb-true _ _ (every-at (countTests alwaysKnown neverKnown p n) 3 e);
+        held = unless alwaysKnown (n .held) (every-at (countTests alwaysKnown neverKnown p n) 4 e);
+        opened = unless neverKnown (n .opened) (every-at (countTests alwaysKnown neverKnown p n) 5 e);
       }
 
-  pub tests-pass : Tallied always never p n → every (countTests always never p n) ≡ true
+  pub tests-pass : Tallied alwaysKnown neverKnown p n → every (countTests alwaysKnown neverKnown p n) ≡ true
   tests-pass r =
       rw (
         le-leb _ _ (r .most),
         eq-eqb _ _ (r .whole),
         eq-eqb _ _ (r .lost),
         eq-eqb _ _ (r .place),
-        unless-holds always (n .held) (r .held),
-        unless-holds never (n .opened) (r .opened),
+        unless-holds alwaysKnown (n .held) (r .held),
+        unless-holds neverKnown (n .opened) (r .opened),
       ) refl
 
 -- no words at a superframe's start
-pub none-tallied : (always never : Bool) (p : ℕ) → p % superframeSlots ≡ 0 → every (countTests always never p noCounts) ≡ true
-none-tallied always never p e =
-    tests-pass always never p noCounts
+pub none-tallied : (alwaysKnown neverKnown : Bool) (p : ℕ) → p % superframeSlots ≡ 0 → every (countTests alwaysKnown neverKnown p noCounts) ≡ true
+none-tallied alwaysKnown neverKnown p e =
+    tests-pass alwaysKnown neverKnown p noCounts
     (record { most = omega arith; whole = refl; lost = refl; place = sym e; held = λ q. refl; opened = λ q. refl })
 
 -- one slot on, below the limit
-pub slot-right : (known always never never′ : Bool) (p q : ℕ) (n w : Counts) → every (countTests always never p n) ≡ true → total n < mostWords → Fits known w
-    → (always ≡ true → known ≡ true) → (never′ ≡ true → (never ≡ true) × (known ≡ false)) → q % superframeSlots ≡ (p + 1) % superframeSlots
-    → every (countTests always never′ q (plus n w)) ≡ true
-slot-right known always never never′ p q n w right l f a b e =
-    let r = tallied always never p n right in
-    tests-pass always never′ q (plus n w)
+pub slot-right : (known alwaysKnown neverKnown neverKnown′ : Bool) (p q : ℕ) (n w : Counts) → every (countTests alwaysKnown neverKnown p n) ≡ true → total n < mostWords → Fits known w
+    → (alwaysKnown ≡ true → known ≡ true) → (neverKnown′ ≡ true → (neverKnown ≡ true) × (known ≡ false)) → q % superframeSlots ≡ (p + 1) % superframeSlots
+    → every (countTests alwaysKnown neverKnown′ q (plus n w)) ≡ true
+slot-right known alwaysKnown neverKnown neverKnown′ p q n w right l f a b e =
+    let r = tallied alwaysKnown neverKnown p n right in
+    tests-pass alwaysKnown neverKnown′ q (plus n w)
     (record {
       most = omega (arith, r .whole, f .four);
       whole = omega (arith, r .whole, f .four);
