@@ -126,6 +126,10 @@ pub voice-order : (d : Device) (n mask : ℕ) (frame : List ℕ) → numbersOf (
 unfolding voiceRefusals
 voice-order d n mask frame = refl
 
+pub lost-order : (d : Device) (n : ℕ) → numbersOf (refusalsOf d (OfCall n Lost)) ≡ 4 ∷ 9 ∷ 16 ∷ []
+unfolding lostRefusals
+lost-order d n = refl
+
 pub message-order : (d : Device) (n : ℕ) (octets : List ℕ) → numbersOf (refusalsOf d (OfPacket n (Message octets))) ≡ 4 ∷ 9 ∷ 2 ∷ []
 unfolding message.messageRefusals message.lostRefusals
 message-order d n octets = refl
