@@ -76,28 +76,29 @@ module _ (r m : ℕ) (low : r ≤ 1) (lows : m ≤ 1) where
       (rw (is-open r m low lows)))
       (omega arith)
 
-  -- and of one that joined, whose vector is unknown
   joins : joinOf noCall 2 0 r m ready ≡ (Done, written noCounts (joined (termsOf 2 desABCD r m)))
   unfolding joinOf joinRefusals keyRefusals standing isClosed closedTests allZero allBelow firstBelow entry.inRange entry.isFor
       entry.entryRight entry.usedRight entry.readyRight entry.lacks rules.entryOf rules.findEntry rules.apart rules.goodBook keyAllowed desKey oddOctet
   joins = rw (ways-right r m low lows)
 
-  abbrev pub joining : List Operation
-  joining = OfCall 0 (Join 2 0 r m) ∷ loading
+  abbrev pub joining : List Operation → List Operation
+  joining os = OfCall 1 (Join 2 0 r m) ∷ os
 
-  join-done : step (deviceAfter step loading) (OfCall 0 (Join 2 0 r m)) .0 ≡ Done
-  unfolding step callStep
-  join-done = ap (λ (d : Device). step d (OfCall 0 (Join 2 0 r m)) .0) is-loaded ∙ ap (λ (x : Answer × Call). x .0) joins
+  -- and of call 1, joined where the key is ready and there is no such call: its vector is unknown
+  module _ (os : List Operation) (has : deviceAfter step os .book ≡ ready) (free : deviceAfter step os .calls 1 ≡ noCall) where
+    join-done : step (deviceAfter step os) (OfCall 1 (Join 2 0 r m)) .0 ≡ Done
+    unfolding step callStep
+    join-done = rw (has, free) (ap (λ (x : Answer × Call). x .0) joins)
 
-  is-joined : deviceAfter step joining .calls 0 ≡ written noCounts (joined (termsOf 2 desABCD r m))
-  unfolding deviceAfter step callStep
-  is-joined = ap (λ (d : Device). step d (OfCall 0 (Join 2 0 r m)) .1 .0 .calls 0) is-loaded ∙ ap (λ (x : Answer × Call). x .1) joins
+    is-joined : deviceAfter step (joining os) .calls 1 ≡ written noCounts (joined (termsOf 2 desABCD r m))
+    unfolding deviceAfter step callStep
+    is-joined = rw (has, free) (ap (λ (x : Answer × Call). x .1) joins)
 
-  pub joined-two : Receives 0 (arrived 3 false ∷ []) (history step (OfCall 0 (Voice 3 (silence r)) ∷ joining))
-  unfolding history receivesIn slotsIn
-  joined-two =
-      voice-on joining 0 (record { receives = rw join-done; its = rw join-done }) (omega arith) 3 (silence r) false (omega arith)
-      (rw is-joined (silent-long r)) (rw is-joined)
+    pub joined-two : Receives 1 (arrived 3 false ∷ []) (history step (OfCall 1 (Voice 3 (silence r)) ∷ joining os))
+    unfolding history receivesIn slotsIn
+    joined-two =
+        voice-on (joining os) 1 (record { receives = rw join-done; its = rw join-done }) (omega arith) 3 (silence r) false (omega arith)
+        (rw is-joined (silent-long r)) (rw is-joined)
 
 -- ---- the devices that are thrown out
 
@@ -107,7 +108,9 @@ module _ (f : List ℕ → List ℕ) where
   opened-thrown-out wrong right = wrong (hands-ours f right _ 0 (opened-two 0 0 (omega arith) (omega arith)))
 
   pub held-thrown-out : (f (0 ∷ 2 ∷ 2 ∷ 0 ∷ []) ≡ 0 ∷ 2 ∷ 2 ∷ 0 ∷ [] → ⊥) → Counted (handing f) → ⊥
-  held-thrown-out wrong right = wrong (hands-ours f right _ 0 (joined-two 0 0 (omega arith) (omega arith)))
+  held-thrown-out wrong right =
+      wrong (hands-ours f right _ 1
+      (joined-two 0 0 (omega arith) (omega arith) loading (ap (λ (d : Device). d .book) is-loaded) (ap (λ (d : Device). d .calls 1) is-loaded)))
 
 -- count n of two lists that are equal
 at : (n : ℕ) {xs ys : List ℕ} → xs ≡ ys → getD xs n 0 ≡ getD ys n 0
@@ -155,7 +158,7 @@ module _ (r m : ℕ) (low : r ≤ 1) (lows : m ≤ 1) where
     abbrev answers : ℕ → CallOperation → ℕ
     answers k o = numberOf (st (deviceAfter st (missing k)) (OfCall 0 o) .0)
 
-    -- is thrown out if it doesn't answer the next slot 16, lost or arrived
+    -- is thrown out if it doesn't answer the next slot 16, lost or arrived with a mask of at most 15
     pub unlimited-thrown-out : Alike 1000000 → (answers 1000000 Lost ≡ 16 → ⊥) → Counted st → ⊥
     unlimited-thrown-out e other right = other (right .lost-past (missing 1000000) 0 .1 (rw e limit-reached))
 

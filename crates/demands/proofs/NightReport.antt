@@ -1,6 +1,6 @@
 -- A night's report (document 02, W-207): of a device that counts right, what end hands out of up to 10,000 calls is taken by a report, which says of all their
 -- slots what end says of one call's.
-use mathlib.Core.Path.{_≡_, refl, sym, ap₂, _∙_}
+use mathlib.Core.Path.{_≡_, refl, sym, ap, ap₂, _∙_}
 use mathlib.Core.List.{List, [], _∷_, _++_}
 use Prim.Native.Nat.{ℕ, zero, suc, _+_, _*_, _≤_, _<_}
 use native.Mathlib.Omega.{arith}
@@ -9,10 +9,12 @@ use Rattle.answers.specs.declared.Answer.the-variants.{Done}
 use Rattle.report.specs.Report.{perCall, sumBelow, sumAt, sums, reportOf}
 use Rattle.report.proofs.SumLaws.{one-after-other}
 use Rattle.report.proofs.ReportLaws.{done-sums}
-use Rattle.demands.specs.Device.{Voice, Lost, OfCall, Step, step}
+use Rattle.voice.specs.Call.{noCall}
+use Rattle.demands.specs.Device.{Device, Voice, Lost, End, Operation, OfCall, Step, step, deviceAfter}
 use Rattle.demands.specs.Counted.{Slot, Fate, opened, held, replaced, lost, placeOf, fates, howMany, fourCounts, Counted}
 use Rattle.demands.specs.Night.{Ending, AllEnded, handedOver, slotsOf, nightSlots, said}
 use Rattle.demands.proofs.Samples.{silence}
+use Rattle.demands.proofs.Instance1.{ready, is-loaded}
 use Rattle.demands.proofs.Counting.{four-to-a-slot, end-done, ours-counts}
 use Rattle.demands.proofs.CountsThrownOut.{begun, joining, opened-two, joined-two}
 
@@ -68,14 +70,29 @@ module _ (st : Step) (right : Counted st) where
       done-sums (handedOver st es) (record { four = omega (arith, four-to-a-call es a); few = omega (arith, four-to-a-call es a); small = all-within es a })
       ∙ rw (sum-of-all opened es a, sum-of-all held es a, sum-of-all replaced es a, sum-of-all lost es a)
 
--- ---- a night of two calls, at either rate and of either strictness: one opened and told of two words and a lost slot, one joined and told of two words
+-- ---- a night of two calls, at either rate and of either strictness: one opened, told of two words and a lost slot, and ended; then one joined and told of
+-- two words
 
 module _ (r m : ℕ) (low : r ≤ 1) (lows : m ≤ 1) where
+  abbrev first : List Operation
+  first = OfCall 0 Lost ∷ OfCall 0 (Voice 3 (silence r)) ∷ begun r m low lows
+
+  abbrev between : List Operation
+  between = OfCall 0 End ∷ first
+
+  has : deviceAfter step between .book ≡ ready
+  unfolding deviceAfter step
+  has = ap (λ (d : Device). d .book) is-loaded
+
+  free : deviceAfter step between .calls 1 ≡ noCall
+  unfolding deviceAfter step
+  free = ap (λ (d : Device). d .calls 1) is-loaded
+
   abbrev twoCalls : List Ending
-  twoCalls = (OfCall 0 Lost ∷ OfCall 0 (Voice 3 (silence r)) ∷ begun r m low lows, 0) ∷ (OfCall 0 (Voice 3 (silence r)) ∷ joining r m low lows, 0) ∷ []
+  twoCalls = (first, 0) ∷ (OfCall 1 (Voice 3 (silence r)) ∷ joining r m low lows between, 1) ∷ []
 
   pub short-night : reportOf (handedOver step twoCalls) ≡ (Done, 2 ∷ 2 ∷ 4 ∷ 4 ∷ 2 ∷ 4 ∷ [])
   short-night =
-      night-report step ours-counts twoCalls
-      (end-done _ 0 (opened-two r m low lows .receives), (end-done _ 0 (joined-two r m low lows .receives), tt)) (omega arith)
-      ∙ rw (opened-two r m low lows .its, joined-two r m low lows .its)
+      let a = opened-two r m low lows in
+      let b = joined-two r m low lows between has free in
+      night-report step ours-counts twoCalls (end-done _ 0 (a .receives), (end-done _ 1 (b .receives), tt)) (omega arith) ∙ rw (a .its, b .its)

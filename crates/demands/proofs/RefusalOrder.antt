@@ -121,14 +121,15 @@ pub vector-orders : (d : Device) (n kind c i r m : ℕ) (w : List ℕ)
 unfolding begunRefusals opening.openRefusals vectorRefusals keyRefusals zeroRefusals announceRefusals
 vector-orders d n kind c i r m w = (refl, refl, refl, refl, refl)
 
+-- a lost slot, in full
+pub lost-order : (d : Device) (n : ℕ) → numbersOf (refusalsOf d (OfCall n Lost)) ≡ 4 ∷ 9 ∷ 16 ∷ []
+unfolding lostRefusals
+lost-order d n = refl
+
 -- the two exceptions are all of their own lists
 pub voice-order : (d : Device) (n mask : ℕ) (frame : List ℕ) → numbersOf (refusalsOf d (OfCall n (Voice mask frame))) ≡ 10 ∷ 4 ∷ 9 ∷ 16 ∷ 2 ∷ []
 unfolding voiceRefusals
 voice-order d n mask frame = refl
-
-pub lost-order : (d : Device) (n : ℕ) → numbersOf (refusalsOf d (OfCall n Lost)) ≡ 4 ∷ 9 ∷ 16 ∷ []
-unfolding lostRefusals
-lost-order d n = refl
 
 pub message-order : (d : Device) (n : ℕ) (octets : List ℕ) → numbersOf (refusalsOf d (OfPacket n (Message octets))) ≡ 4 ∷ 9 ∷ 2 ∷ []
 unfolding message.messageRefusals message.lostRefusals
