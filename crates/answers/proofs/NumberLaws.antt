@@ -5,14 +5,14 @@ use Prim.Native.Nat.{ℕ}
 use native.Mathlib.Omega.{arith}
 use lib.ListN.{getD}
 use Rattle.answers.specs.declared.Answer.{Answer}
-use Rattle.answers.specs.declared.Answer.the-variants.{Done, Held, WrongLength, OutOfRange, Bad, NoEntry, NotReady, NotAllowed, ZeroVector, NotNow, BadMask, Already, Full, TooMany, Malformed, PastLimit}
+use Rattle.answers.specs.declared.Answer.the-variants.{Done, Held, WrongLength, OutOfRange, Bad, NoEntry, NotReady, NotAllowed, ZeroVector, NotNow, BadMask, Already, Full, TooMany, Malformed, PastLimit, BadName}
 use Rattle.answers.specs.Numbers.{numberOf}
 
 -- the answer with a number; where none has it, Done
 abbrev pub answerOf : ℕ → Answer
 answerOf n =
     getD (Done ∷ Held ∷ WrongLength ∷ OutOfRange ∷ Bad ∷ NoEntry ∷ NotReady ∷ NotAllowed ∷ ZeroVector ∷ NotNow
-    ∷ BadMask ∷ Already ∷ Full ∷ TooMany ∷ Done ∷ Malformed ∷ PastLimit ∷ []) n Done
+    ∷ BadMask ∷ Already ∷ Full ∷ TooMany ∷ Done ∷ Malformed ∷ PastLimit ∷ BadName ∷ []) n Done
 
 answer-number : (a : Answer) → answerOf (numberOf a) ≡ a
 answer-number Done = refl
@@ -31,6 +31,7 @@ answer-number Full = refl
 answer-number TooMany = refl
 answer-number Malformed = refl
 answer-number PastLimit = refl
+answer-number BadName = refl
 
 -- no two answers share a number
 pub one-number : (a b : Answer) → numberOf a ≡ numberOf b → a ≡ b

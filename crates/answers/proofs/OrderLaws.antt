@@ -14,7 +14,7 @@ use Rattle.answers.specs.Outcomes.{Refusals, answered}
 use Rattle.answers.specs.Order.{refusalOrder, numbersOf, afterNumber, inOrder}
 use Rattle.answers.proofs.OutcomeLaws.{Refusal, Among, by-refusals}
 
-pub paper-order : refusalOrder ≡ 2 ∷ 3 ∷ 10 ∷ 4 ∷ 9 ∷ 16 ∷ 4 ∷ 5 ∷ 11 ∷ 6 ∷ 13 ∷ 7 ∷ 12 ∷ 8 ∷ []
+pub paper-order : refusalOrder ≡ 2 ∷ 3 ∷ 17 ∷ 10 ∷ 4 ∷ 9 ∷ 16 ∷ 4 ∷ 5 ∷ 11 ∷ 6 ∷ 13 ∷ 7 ∷ 12 ∷ 8 ∷ []
 paper-order = refl
 
 -- what comes after a number in an order is of that order

@@ -5,7 +5,7 @@ use mathlib.Core.Bool.{Bool, false, _||_}
 use mathlib.Core.List.{List, [], _∷_}
 use lib.Dec.{eqb}
 use Rattle.answers.specs.declared.Answer.{Answer}
-use Rattle.answers.specs.declared.Answer.the-variants.{Done, Held, WrongLength, OutOfRange, Bad, NoEntry, NotReady, NotAllowed, ZeroVector, NotNow, BadMask, Already, Full, TooMany, Malformed, PastLimit}
+use Rattle.answers.specs.declared.Answer.the-variants.{Done, Held, WrongLength, OutOfRange, Bad, NoEntry, NotReady, NotAllowed, ZeroVector, NotNow, BadMask, Already, Full, TooMany, Malformed, PastLimit, BadName}
 
 abbrev pub numberOf : Answer → ℕ
 -- done
@@ -40,6 +40,8 @@ numberOf TooMany = 13
 numberOf Malformed = 15
 -- a slot past the 1,000,000th of a receiving call; a report of more than 10,000 calls, or with a count above 4,000,000 (W-207)
 numberOf PastLimit = 16
+-- begin is given a name that isn't printable ASCII, padded at its end with zeros (W-201)
+numberOf BadName = 17
 
 abbrev pub isDone : Answer → Bool
 isDone a = eqb (numberOf a) 0
@@ -53,4 +55,4 @@ isOneOf n (m ∷ ms) = eqb n m || isOneOf n ms
 
 -- those that an operation can give: 15 is the program's
 abbrev pub operationNumbers : List ℕ
-operationNumbers = 0 ∷ 1 ∷ 2 ∷ 3 ∷ 4 ∷ 5 ∷ 6 ∷ 7 ∷ 8 ∷ 9 ∷ 10 ∷ 11 ∷ 12 ∷ 13 ∷ 16 ∷ []
+operationNumbers = 0 ∷ 1 ∷ 2 ∷ 3 ∷ 4 ∷ 5 ∷ 6 ∷ 7 ∷ 8 ∷ 9 ∷ 10 ∷ 11 ∷ 12 ∷ 13 ∷ 16 ∷ 17 ∷ []

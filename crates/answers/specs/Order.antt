@@ -7,9 +7,16 @@ use Rattle.octets.specs.Tests.{pick}
 use Rattle.answers.specs.Numbers.{numberOf, isOneOf}
 use Rattle.answers.specs.Outcomes.{Refusals}
 
--- the parts of the order: of what is given, of the call or packet, of a receiving call's slots (document 02, W-207), and of the book
+-- the parts of the order: of what is given, of a name (document 02, W-201), of a mask, of the call or packet, of a receiving call's slots (W-207), and of
+-- the book
 abbrev pub ofGiven : List ℕ
-ofGiven = 2 ∷ 3 ∷ 10 ∷ []
+ofGiven = 2 ∷ 3 ∷ []
+
+abbrev pub ofName : List ℕ
+ofName = 17 ∷ []
+
+abbrev pub ofMask : List ℕ
+ofMask = 10 ∷ []
 
 abbrev pub ofCall : List ℕ
 ofCall = 4 ∷ 9 ∷ []
@@ -20,11 +27,11 @@ ofSlots = 16 ∷ []
 abbrev pub ofBook : List ℕ
 ofBook = 4 ∷ 5 ∷ 11 ∷ 6 ∷ 13 ∷ 7 ∷ 12 ∷ []
 
--- 2, then 3, 10, 4 for the call, 9, 16, 4 for the book, 5, 11, 6, 13, 7, 12, 8, each where the operation can give it
+-- 2, then 3, 17, 10, 4 for the call, 9, 16, 4 for the book, 5, 11, 6, 13, 7, 12, 8, each where the operation can give it
 abbrev pub refusalOrder : List ℕ
-refusalOrder = ofGiven ++ (ofCall ++ (ofSlots ++ (ofBook ++ (8 ∷ []))))
+refusalOrder = ofGiven ++ (ofName ++ (ofMask ++ (ofCall ++ (ofSlots ++ (ofBook ++ (8 ∷ []))))))
 
--- an opening is of no slot, and 8 is for senders only (document 02, W-204)
+-- an opening is of no name, mask or slot, and 8 is for senders only (document 02, W-204)
 abbrev pub withoutZeros : List ℕ
 withoutZeros = ofGiven ++ (ofCall ++ ofBook)
 

@@ -19,6 +19,7 @@ pub enum Answer {
     TooMany,
     Malformed,
     PastLimit,
+    BadName,
 }
 
 impl Answer {
@@ -43,6 +44,7 @@ impl Answer {
             Answer::TooMany => 13,
             Answer::Malformed => 15,
             Answer::PastLimit => 16,
+            Answer::BadName => 17,
         }
     }
 }
