@@ -99,7 +99,7 @@ module _ (p : Packet) (kind c i : ℕ) (w b : List ℕ) where
 
 -- whatever else is asked, for any end: a wrong length is 2; and then any other end is 3
 module _ (p : Packet) (end kind c i : ℕ) (w b : List ℕ) where
-  pub lengths-first : (length w ≡ 8 → ⊥) ⊎ (length b ≡ 576 → ⊥) → openOf p end kind c i w b ≡ (WrongLength, p)
+  pub lengths-first : (length w ≡ 8 → ⊥) ⊎ (length b ≡ 832 → ⊥) → openOf p end kind c i w b ≡ (WrongLength, p)
   unfolding openOf openRefusals vectorRefusals keyRefusals
   lengths-first (inl n) = rw (ne-eqb _ _ n)
   lengths-first (inr n) = rw (ne-eqb _ _ n) (go (eqb (length w) 8))
@@ -108,7 +108,7 @@ module _ (p : Packet) (end kind c i : ℕ) (w b : List ℕ) where
       go true = refl
       go false = refl
 
-  pub no-other-end : length w ≡ 8 → length b ≡ 576 → 2 ≤ end → openOf p end kind c i w b ≡ (OutOfRange, p)
+  pub no-other-end : length w ≡ 8 → length b ≡ 832 → 2 ≤ end → openOf p end kind c i w b ≡ (OutOfRange, p)
   unfolding openOf openRefusals isEnd vectorRefusals keyRefusals
   no-other-end l m h =
       rw (eq-eqb _ _ l, eq-eqb _ _ m, ne-eqb end toReceive (λ e. omega (arith, e)), ne-eqb end toSend (λ e. omega (arith, e)))

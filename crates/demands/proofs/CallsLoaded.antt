@@ -24,7 +24,7 @@ use Rattle.voice.specs.Opening.{joinRefusals, begunRefusals, begun, begunOf, op
 use Rattle.voice.specs.Slot.{goingOn, ridden, slotOn, lostRefusals, lostOf, voiceRefusals, streamOf, voiceAfter, voiceBy}
 use Rattle.voice.specs.Vector.{withVector, announceRefusals, announceOf, nextVectorOf}
 use Rattle.voice.proofs.CallLaws.{by-stands, stands-bad}
-use Rattle.demands.specs.Device.{Device, CallOperation, Open, Start, Join, Voice, Lost, End, Announce, NextVector, callStep, packetStep, Operation, OfBook, OfCall, OfPacket, step, deviceAfter, history}
+use Rattle.demands.specs.Device.{Device, screenStep, CallOperation, Open, Start, Join, Voice, Lost, End, Announce, NextVector, callStep, packetStep, Operation, OfBook, OfScreen, OfCall, OfPacket, step, deviceAfter, history}
 use Rattle.demands.specs.Demand1.{OpensCall, by-open, by-start, by-join, renewsCall}
 use Rattle.demands.proofs.LoadedLaws.{Holder, SameKey, KeepsKey, begins, Left, Held, always-loaded, as-it-was, renewing, keeping, of-number}
 use Rattle.openings.proofs.ReadyLaws.{none-ready, none-ready-vector}
@@ -127,6 +127,7 @@ call-left n b c (NextVector out) = as-it-was theCalls n b (OfCall n (NextVector 
 device-left : (d : Device) (o : Operation) (n : ℕ) → Left theCalls n (d .book) o (d .calls n) (step d o .0) (step d o .1 .0 .calls n)
 unfolding step
 device-left d (OfBook o) n = as-it-was theCalls n (d .book) (OfBook o) refl (d .calls n) (book.step o (d .book) .0)
+device-left d (OfScreen o) n = as-it-was theCalls n (d .book) (OfScreen o) refl (d .calls n) (screenStep (d .book) o .0)
 device-left d (OfCall m o) n =
     let r = callStep (d .book) (d .calls m) o in
     of-number theCalls (d .book) (OfCall m o) m (r .1 .0) (d .calls) (r .0) (call-left m (d .book) (d .calls m) o) (λ n q. rw (ne-eqb m n q)) n

@@ -36,7 +36,7 @@ use Rattle.voice.proofs.SlotSteps.{lost-at}
 use Rattle.voice.proofs.GoodLaws.{slot-good, announce-good}
 use Rattle.voice.proofs.OpeningGood.{open-leaves, join-leaves}
 use Rattle.voice.proofs.Exactly as voice
-use Rattle.demands.specs.Device.{handedOut, Device, CallOperation, Open, Start, Join, Voice, Lost, End, Announce, NextVector, callStep, packetStep, Operation, OfBook, OfCall, OfPacket, Step, step, History, deviceAfter, history}
+use Rattle.demands.specs.Device.{handedOut, Device, screenStep, CallOperation, Open, Start, Join, Voice, Lost, End, Announce, NextVector, callStep, packetStep, Operation, OfBook, OfScreen, OfCall, OfPacket, Step, step, History, deviceAfter, history}
 use Rattle.demands.specs.Demand1.{opensOrEnds, renewsCall, NoneDone, OpensCall, by-open, by-start, by-join}
 use Rattle.demands.specs.Counted.{Slot, arrived, missed, slotOf, slotFor, toReceive, opensToReceive, receivesIn, rateIn, slotsIn, Fate, opened, held, replaced, lost, placeOf, fates, howMany, fourCounts, AtLimit, Counted}
 use Rattle.demands.specs.Rates.{Layout, layout}
@@ -273,6 +273,7 @@ module _ (n : ℕ) (h : History) (c : Call) (t : Tells n h c) where
 device-told : (n : ℕ) (h : History) (d : Device) (o : Operation) → Tells n h (d .calls n) → Tells n ((o, step d o .0) ∷ h) (step d o .1 .0 .calls n)
 unfolding step
 device-told n h d (OfBook o) t = let a = book.step o (d .book) .0 in unmoved n h (OfBook o) a t (and-false-r (isDone a)) refl
+device-told n h d (OfScreen o) t = let a = screenStep (d .book) o .0 in unmoved n h (OfScreen o) a t (and-false-r (isDone a)) refl
 device-told n h d (OfCall m o) t =
     let r = callStep (d .book) (d .calls m) o in
     by-number (λ (c : Call). Tells n ((OfCall m o, r .0) ∷ h) c) m (r .1 .0) (d .calls) n

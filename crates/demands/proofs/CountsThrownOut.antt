@@ -13,6 +13,7 @@ use Rattle.answers.specs.declared.Answer.{Answer}
 use Rattle.answers.specs.declared.Answer.the-variants.{Done}
 use Rattle.answers.specs.Numbers.{numberOf, isDone}
 use Rattle.ciphers.specs.Keys.{oddOctet, desKey, keyAllowed}
+use Rattle.keyentry.specs.Name as name
 use Rattle.keyentry.specs.Entry as entry
 use Rattle.keybook.specs.Book as rules
 use Rattle.openings.specs.Ladder.{keyRefusals}
@@ -78,7 +79,7 @@ module _ (r m : ℕ) (low : r ≤ 1) (lows : m ≤ 1) where
 
   joins : joinOf noCall 2 0 r m ready ≡ (Done, written noCounts (joined (termsOf 2 desABCD r m)))
   unfolding joinOf joinRefusals keyRefusals standing isClosed closedTests allZero allBelow firstBelow entry.inRange entry.isFor
-      entry.entryRight entry.usedRight entry.readyRight entry.lacks rules.entryOf rules.findEntry rules.apart rules.goodBook keyAllowed desKey oddOctet
+      entry.entryRight name.nameRight name.textOctets name.isPrintable entry.usedRight entry.readyRight entry.lacks rules.entryOf rules.findEntry rules.apart rules.goodBook keyAllowed desKey oddOctet
   joins = rw (ways-right r m low lows)
 
   abbrev pub joining : List Operation → List Operation

@@ -13,9 +13,11 @@ use Rattle.answers.specs.Numbers.{numberOf, isOneOf, operationNumbers}
 use Rattle.answers.specs.Outcomes.{Refusals, answered}
 use Rattle.answers.proofs.OutcomeLaws.{Refusal, NoneHolds}
 use Rattle.answers.proofs.TableLaws.{Settles, settles}
-use Rattle.keyentry.specs.Entry.{extendRefusals, completeRefusals, blank, extended, completed}
-use Rattle.keybook.specs.Book.{bookRefusals}
+use Rattle.keyentry.specs.Name.{noName}
+use Rattle.keyentry.specs.Entry.{extendRefusals, completeRefusals, nameIn, blank, extended, completed}
+use Rattle.keybook.specs.Book.{entryOf, bookRefusals}
 use Rattle.keybook.specs.Operations as operations
+use Rattle.keybook.specs.Screen as screen
 use Rattle.keybook.specs.History as book
 use Rattle.openings.specs.Ladder as ladder
 use Rattle.openings.specs.Ladder.{sessionVector, keyFor, vectorRefusals}
@@ -33,21 +35,28 @@ use Rattle.data.specs.Kinds.{isKind}
 use Rattle.data.specs.Packet as packet
 use Rattle.data.specs.Opening as opening
 use Rattle.data.specs.Message as message
-use Rattle.demands.specs.Device.{withNone, handedOut, Device, CallOperation, Open, Start, Join, Voice, Lost, End, Announce, NextVector, callStep, lentCall, PacketOperation, OpenPacket, Message, LostMessage, EndPacket, packetStep, lentPacket, Operation, OfBook, OfCall, OfPacket, withNumber, step}
-use Rattle.demands.specs.Refusals.{keyRefusals, callRefusals, packetRefusals, refusalsOf, callUnrefused, unrefused}
+use Rattle.demands.specs.Device.{withNone, handedOut, Device, ScreenOperation, Name, Inventory, listed, screenStep, lentScreen, CallOperation, Open, Start, Join, Voice, Lost, End, Announce, NextVector, callStep, lentCall, PacketOperation, OpenPacket, Message, LostMessage, EndPacket, packetStep, lentPacket, Operation, OfBook, OfScreen, OfCall, OfPacket, withNumber, step}
+use Rattle.demands.specs.Refusals.{keyRefusals, screenRefusals, callRefusals, packetRefusals, refusalsOf, callUnrefused, unrefused}
 use Rattle.demands.specs.Demand1.{Same, SameBeside}
 
 -- ---- on the book, a call, a packet
 
 pub book-settles : (b : List ℕ) (o : book.Operation) → Settles b (keyRefusals b o) Done (book.step o b)
 unfolding book.step operations.beginOf operations.addOf operations.finishOf operations.eraseOf operations.beginRefusals operations.addRefusals
-    operations.finishRefusals operations.eraseRefusals bookRefusals extendRefusals completeRefusals
-book-settles b (book.Begin c i) = settles b (operations.beginRefusals b c i) (Done, operations.beginAfter b c i) refl (omega arith)
+    operations.finishRefusals operations.entryRefusals bookRefusals extendRefusals completeRefusals
+book-settles b (book.Begin c i n) = settles b (operations.beginRefusals b c i n) (Done, operations.beginAfter b c i n) refl (omega arith)
 book-settles b (book.Add c i xs) =
     settles b (operations.addRefusals b c i xs) (Done, operations.withFor b c i (extended (operations.entryFor b c i) xs)) refl (omega arith)
 book-settles b (book.Finish c i) =
     settles b (operations.finishRefusals b c i) (Done, operations.withFor b c i (completed (operations.entryFor b c i))) refl (omega arith)
-book-settles b (book.Erase c i) = settles b (operations.eraseRefusals b c i) (Done, operations.withFor b c i blank) refl (omega arith)
+book-settles b (book.Erase c i) = settles b (operations.entryRefusals b c i) (Done, operations.withFor b c i blank) refl (omega arith)
+
+pub screen-settles : (b : List ℕ) (o : ScreenOperation) → Settles (lentScreen o) (screenRefusals b o) Done (screenStep b o)
+unfolding screenStep screen.nameOf screen.inventoryOf screen.inventoryRefusals screen.shown operations.entryRefusals bookRefusals noName blank
+screen-settles b (Name c i) = settles noName (operations.entryRefusals b c i) (Done, nameIn (operations.entryFor b c i)) refl (omega arith)
+screen-settles b (Inventory k) =
+    let s = settles (screen.shown blank) (screen.inventoryRefusals b k) (Done, screen.shown (entryOf b k)) refl (omega arith) in
+    record { number = s .number; answer = s .answer; none-holds = s .none-holds; keeps = λ h. ap listed (s .keeps h) }
 
 -- an operation that writes no lent octets
 none-lent : {S : Type 0} {before : S} {rs : Refusals} {a : Answer} {o : Answer × S} → Settles before rs a o → Settles (before, []) rs a (withNone o)
@@ -99,6 +108,7 @@ same-number {A} m {x} f e n = by-number (λ (y : A). y ≡ f n) m x f n (λ q. e
 pub answers-by-table : (d : Device) (o : Operation) → isOneOf (numberOf (step d o .0)) operationNumbers ≡ true
 unfolding step
 answers-by-table d (OfBook o) = book-settles (d .book) o .number
+answers-by-table d (OfScreen o) = screen-settles (d .book) o .number
 answers-by-table d (OfCall n o) = call-settles (d .book) (d .calls n) o .number
 answers-by-table d (OfPacket n o) = packet-settles (d .book) (d .packets n) o .number
 
@@ -106,18 +116,21 @@ answers-by-table d (OfPacket n o) = packet-settles (d .book) (d .packets n) o .n
 pub refusals-decide : (d : Device) (o : Operation) → step d o .0 ≡ answered (refusalsOf d o) (unrefused d o)
 unfolding step
 refusals-decide d (OfBook o) = book-settles (d .book) o .answer
+refusals-decide d (OfScreen o) = screen-settles (d .book) o .answer
 refusals-decide d (OfCall n o) = call-settles (d .book) (d .calls n) o .answer
 refusals-decide d (OfPacket n o) = packet-settles (d .book) (d .packets n) o .answer
 
 pub unrefused-only : (d : Device) (o : Operation) → numberOf (step d o .0) < 2 → NoneHolds (refusalsOf d o)
 unfolding step
 unrefused-only d (OfBook o) = book-settles (d .book) o .none-holds
+unrefused-only d (OfScreen o) = screen-settles (d .book) o .none-holds
 unrefused-only d (OfCall n o) = call-settles (d .book) (d .calls n) o .none-holds
 unrefused-only d (OfPacket n o) = packet-settles (d .book) (d .packets n) o .none-holds
 
 pub refusal-changes-nothing : (d : Device) (o : Operation) → Refusal (step d o .0) → Same (step d o .1 .0) d
 unfolding step
 refusal-changes-nothing d (OfBook o) h = record { book = book-settles (d .book) o .keeps h; calls = λ n. refl; packets = λ n. refl }
+refusal-changes-nothing d (OfScreen o) h = record { book = refl; calls = λ n. refl; packets = λ n. refl }
 refusal-changes-nothing d (OfCall m o) h =
     let e = call-settles (d .book) (d .calls m) o .keeps h in
     record { book = refl; calls = same-number m (d .calls) (ap (λ (r : Call × List ℕ). r .0) e); packets = λ n. refl }
@@ -132,5 +145,6 @@ others-stay {A} m x f n q = by-number (λ (y : A). y ≡ f n) m x f n (λ e. abs
 pub reaches-its-own : (d : Device) (o : Operation) → SameBeside o (step d o .1 .0) d
 unfolding step
 reaches-its-own d (OfBook o) = ((λ n. refl), (λ n. refl))
+reaches-its-own d (OfScreen o) = record { book = refl; calls = λ n. refl; packets = λ n. refl }
 reaches-its-own d (OfCall m o) = (refl, others-stay m (callStep (d .book) (d .calls m) o .1 .0) (d .calls), (λ n. refl))
 reaches-its-own d (OfPacket m o) = (refl, (λ n. refl), others-stay m (packetStep (d .book) (d .packets m) o .1 .0) (d .packets))

@@ -16,6 +16,8 @@ use Rattle.ciphers.specs.Keys.{oddOctet, scrambleKey, desKey, keyAllowed, keyRi
 use Rattle.answers.specs.declared.Answer.{Answer}
 use Rattle.answers.specs.declared.Answer.the-variants.{Done, Held}
 use Rattle.answers.specs.Numbers.{numberOf, isDone}
+use Rattle.keyentry.specs.Name as name
+use Rattle.keyentry.specs.Name.{noName}
 use Rattle.keyentry.specs.Entry as entry
 use Rattle.keybook.specs.Book as rules
 use Rattle.keybook.specs.Operations as operations
@@ -34,7 +36,7 @@ use Rattle.voice.proofs.CallLaws.{not-bad}
 use Rattle.voice.proofs.SlotSteps.{voice-at}
 use Rattle.data.specs.Packet as packet
 use Rattle.demands.specs.Marked.{holding}
-use Rattle.demands.specs.Device.{Device, CallOperation, Open, Start, Join, Voice, Lost, Announce, callStep, Operation, OfBook, OfCall, OfPacket, Step, step, deviceAfter, history}
+use Rattle.demands.specs.Device.{Device, CallOperation, Open, Start, Join, Voice, Lost, Announce, callStep, Operation, OfBook, OfScreen, OfCall, OfPacket, Step, step, deviceAfter, history}
 use Rattle.demands.specs.Demand1.{NotTold, TimeOfCall, Unknown, slot, NoneDone, Demand1}
 use Rattle.demands.specs.OtherDevices.{noise, noisy, filing, wiped, wiping, careless, holdingAll, ending, hastyCall, hasty, eager}
 use Rattle.demands.proofs.Layouts.{ways-right, sender-right}
@@ -85,7 +87,7 @@ pub wiping-thrown-out : (st : Step) → Demand1 (wiping st) → ⊥
 unfolding rules.goodBook
 wiping-thrown-out st meets =
     let d = having [] (λ n. noCall) in
-    let r : 2 ≤ 0 = meets .refused d (OfBook (book.Begin 1 0)) (λ k. true≢false (sym (k .good))) in
+    let r : 2 ≤ 0 = meets .refused d (OfBook (book.Erase 1 0)) (λ k. true≢false (sym (k .good))) in
     omega arith
 
 -- so is the two of them in one, which answers by the table, changes nothing where it refuses, and turns words and messages as ours
@@ -98,10 +100,10 @@ pub careless-thrown-out : (st : Step) → Demand1 (careless st) → ⊥
 unfolding rules.goodBook
 careless-thrown-out st meets =
     let d = having [] (λ n. noCall) in
-    let o = OfBook (book.Begin 1 0) in
+    let o = OfBook (book.Erase 1 0) in
     let r : 2 ≤ numberOf (st d o .0) = meets .refused d o (λ k. true≢false (sym (k .good))) in
     let s : pick (leb 2 (numberOf (st d o .0))) (wiped d) (st d o .1 .0) .book ≡ [] = meets .changes-nothing d o r .book in
-    let t : replicate {A = ℕ} 576 0 ≡ [] = rw (le-leb 2 (numberOf (st d o .0)) r) at s in
+    let t : replicate {A = ℕ} 832 0 ≡ [] = rw (le-leb 2 (numberOf (st d o .0)) r) at s in
     let z = ap (λ (xs : List ℕ). length xs) t in
     omega arith
 
@@ -109,6 +111,7 @@ careless-thrown-out st meets =
 
 abbrev isOnCall : Operation → Bool
 isOnCall (OfBook o) = false
+isOnCall (OfScreen o) = false
 isOnCall (OfCall n o) = true
 isOnCall (OfPacket n o) = false
 
@@ -118,7 +121,7 @@ on-call d _ (slot n mask frame e k) = refl
 pub holding-all-thrown-out : Demand1 holdingAll → ⊥
 holding-all-thrown-out meets =
     let d = having [] (λ n. noCall) in
-    let o = OfBook (book.Begin 1 0) in
+    let o = OfBook (book.Begin 1 0 noName) in
     true≢false (sym (on-call d o (meets .held d o refl)))
 
 -- ---- a key operation that reaches a call
@@ -195,11 +198,11 @@ halfScramble = 0x01 ∷ []
 abbrev keptScramble : List ℕ
 keptScramble = halfScramble ++ replicate 31 0
 
-books : (book.step (book.Begin 3 0) (replicate 576 0) ≡ (Done, holding 3 [])) × (book.step (book.Add 3 0 halfAes) (holding 3 []) ≡ (Done, holding 3 halfAes))
-    × (book.step (book.Begin 1 0) (replicate 576 0) ≡ (Done, holding 1 [])) × (book.step (book.Add 1 0 halfScramble) (holding 1 []) ≡ (Done, holding 1 halfScramble))
+books : (book.step (book.Begin 3 0 noName) (replicate 832 0) ≡ (Done, holding 3 [])) × (book.step (book.Add 3 0 halfAes) (holding 3 []) ≡ (Done, holding 3 halfAes))
+    × (book.step (book.Begin 1 0 noName) (replicate 832 0) ≡ (Done, holding 1 [])) × (book.step (book.Add 1 0 halfScramble) (holding 1 []) ≡ (Done, holding 1 halfScramble))
 unfolding book.step operations.beginOf operations.addOf operations.beginRefusals operations.beginAfter operations.addRefusals rules.bookRefusals rules.entryOf
     rules.withEntry rules.apart rules.goodBook rules.findEntry rules.freeEntry entry.inRange entry.isFor entry.entryRight entry.usedRight entry.readyRight
-    entry.lacks entry.newEntry entry.extendRefusals entry.extended allZero allBelow firstBelow replaced keyAllowed
+    entry.lacks noName name.nameRight name.textOctets name.isPrintable entry.newEntry entry.extendRefusals entry.extended allZero allBelow firstBelow replaced keyAllowed
 books = (refl, refl, refl, refl)
 
 -- the calls, and that they stand, at any one rate and of any one strictness
@@ -227,10 +230,10 @@ module _ (r m : ℕ) (low : r ≤ 1) (lows : m ≤ 1) where
 
 -- half a key of cipher c is added, a call is opened all the same, and its first slot is turned
 module _ (isHasty : CallOperation → Bool) where
-  module _ (c : ℕ) (half : List ℕ) (begins : book.step (book.Begin c 0) (replicate 576 0) ≡ (Done, holding c []))
+  module _ (c : ℕ) (half : List ℕ) (begins : book.step (book.Begin c 0 noName) (replicate 832 0) ≡ (Done, holding c []))
       (adds : book.step (book.Add c 0 half) (holding c []) ≡ (Done, holding c half)) where
     half-loaded : List Operation
-    half-loaded = OfBook (book.Add c 0 half) ∷ OfBook (book.Begin c 0) ∷ []
+    half-loaded = OfBook (book.Add c 0 half) ∷ OfBook (book.Begin c 0 noName) ∷ []
 
     is-half : deviceAfter (hasty isHasty) half-loaded ≡ having (holding c half) (λ n. noCall)
     unfolding deviceAfter step half-loaded
@@ -245,7 +248,7 @@ module _ (isHasty : CallOperation → Bool) where
         let st = hasty isHasty in
         no-word st (OfCall 0 o ∷ half-loaded)
         (never-done st (OfCall 0 o) half-loaded refl
-        (never-done st (OfBook (book.Add c 0 half)) (OfBook (book.Begin c 0) ∷ []) refl (never-done st (OfBook (book.Begin c 0)) [] refl (none-yet st))))
+        (never-done st (OfBook (book.Add c 0 half)) (OfBook (book.Begin c 0 noName) ∷ []) refl (never-done st (OfBook (book.Begin c 0 noName)) [] refl (none-yet st))))
         0 meets 15 frame
         (ap (λ (d : Device). numberOf (voiceOf (hastyCall isHasty (d .book) (d .calls 0) o .1 .0) 15 frame .0)) is-half
         ∙ ap (λ (r : Answer × (Call × List ℕ)). numberOf (voiceOf (r .1 .0) 15 frame .0)) opens
@@ -255,20 +258,20 @@ module _ (isHasty : CallOperation → Bool) where
   module _ (r m : ℕ) (low : r ≤ 1) (lows : m ≤ 1) where
     pub hasty-open-thrown-out : isHasty (Open 3 0 r m seed) ≡ true → Demand1 (hasty isHasty) → ⊥
     unfolding begunRefusals vectorRefusals keyRefusals zeroRefusals zeroFor standing isClosed closedTests allZero allBelow firstBelow entry.inRange entry.isFor
-        entry.entryRight entry.usedRight entry.readyRight entry.lacks rules.entryOf rules.findEntry rules.apart rules.goodBook
+        entry.entryRight name.nameRight name.textOctets name.isPrintable entry.usedRight entry.readyRight entry.lacks rules.entryOf rules.findEntry rules.apart rules.goodBook
     hasty-open-thrown-out e =
         half-key-fails 3 halfAes (books .0) (books .1) (Open 3 0 r m seed) (written noCounts (openedAes r m)) (silence r) (rw (e, ways-right r m low lows))
         (turns r m low lows (openedAes r m) refl (stand r m low lows .0) refl refl refl)
 
     pub hasty-start-thrown-out : isHasty (Start 3 0 r seed) ≡ true → Demand1 (hasty isHasty) → ⊥
     unfolding begunRefusals vectorRefusals keyRefusals zeroRefusals zeroFor standing isClosed closedTests allZero allBelow firstBelow entry.inRange entry.isFor
-        entry.entryRight entry.usedRight entry.readyRight entry.lacks rules.entryOf rules.findEntry rules.apart rules.goodBook
+        entry.entryRight name.nameRight name.textOctets name.isPrintable entry.usedRight entry.readyRight entry.lacks rules.entryOf rules.findEntry rules.apart rules.goodBook
     hasty-start-thrown-out e =
         half-key-fails 3 halfAes (books .0) (books .1) (Start 3 0 r seed) (written noCounts (startedAes r)) (silence r) (rw (e, sender-right r low))
         (turns r m low lows (startedAes r) refl (stand r m low lows .1) refl refl refl)
 
     pub hasty-join-thrown-out : isHasty (Join 1 0 r m) ≡ true → Demand1 (hasty isHasty) → ⊥
-    unfolding joinRefusals keyRefusals standing isClosed closedTests allZero allBelow firstBelow entry.inRange entry.isFor entry.entryRight entry.usedRight
+    unfolding joinRefusals keyRefusals standing isClosed closedTests allZero allBelow firstBelow entry.inRange entry.isFor entry.entryRight name.nameRight name.textOctets name.isPrintable entry.usedRight
         entry.readyRight entry.lacks rules.entryOf rules.findEntry rules.apart rules.goodBook
     hasty-join-thrown-out e =
         half-key-fails 1 halfScramble (books .2) (books .3) (Join 1 0 r m) (written noCounts (joinedScramble r m)) (silence r) (rw (e, ways-right r m low lows))

@@ -14,6 +14,8 @@ use Rattle.answers.specs.declared.Answer.{Answer}
 use Rattle.answers.specs.declared.Answer.the-variants.{Done}
 use Rattle.answers.specs.Numbers.{numberOf}
 use Rattle.answers.proofs.OutcomeLaws.{NoneHolds}
+use Rattle.keyentry.specs.Name as name
+use Rattle.keyentry.specs.Name.{noName}
 use Rattle.keyentry.specs.Entry as entry
 use Rattle.keybook.specs.Book as rules
 use Rattle.keybook.specs.Operations as operations
@@ -50,15 +52,15 @@ abbrev last : List ℕ
 last = 0x23 ∷ 0x45 ∷ 0x67 ∷ 0x89 ∷ []
 
 abbrev pub ready : List ℕ
-ready = 2 ∷ 0 ∷ 8 ∷ 1 ∷ (keyABCD ++ replicate 564 0)
+ready = 2 ∷ 0 ∷ 8 ∷ 1 ∷ (keyABCD ++ replicate 820 0)
 
-books : (book.step (book.Begin 2 0) (replicate 576 0) ≡ (Done, holding 2 []))
+books : (book.step (book.Begin 2 0 noName) (replicate 832 0) ≡ (Done, holding 2 []))
     × (book.step (book.Add 2 0 first) (holding 2 []) ≡ (Done, holding 2 first))
     × (book.step (book.Add 2 0 last) (holding 2 first) ≡ (Done, holding 2 keyABCD))
     × (book.step (book.Finish 2 0) (holding 2 keyABCD) ≡ (Done, ready))
 unfolding book.step operations.beginOf operations.addOf operations.finishOf operations.beginRefusals operations.beginAfter operations.addRefusals
     operations.finishRefusals rules.bookRefusals rules.entryOf rules.withEntry rules.apart rules.goodBook rules.findEntry rules.freeEntry entry.inRange
-    entry.isFor entry.entryRight entry.usedRight entry.readyRight entry.lacks entry.newEntry entry.extendRefusals entry.extended entry.completeRefusals
+    entry.isFor entry.entryRight entry.usedRight entry.readyRight entry.lacks noName name.nameRight name.textOctets name.isPrintable entry.newEntry entry.extendRefusals entry.extended entry.completeRefusals
     entry.completed allZero allBelow firstBelow replaced keyAllowed desKey oddOctet
 books = (refl, refl, refl, refl)
 
@@ -73,17 +75,17 @@ loads os o d e =
     ap (λ (x : Device). step x (OfBook o) .1 .0) d ∙ ap (λ (r : Answer × List ℕ). withBook (r .1)) e
 
 abbrev pub loading : List Operation
-loading = OfBook (book.Finish 2 0) ∷ OfBook (book.Add 2 0 last) ∷ OfBook (book.Add 2 0 first) ∷ OfBook (book.Begin 2 0) ∷ []
+loading = OfBook (book.Finish 2 0) ∷ OfBook (book.Add 2 0 last) ∷ OfBook (book.Add 2 0 first) ∷ OfBook (book.Begin 2 0 noName) ∷ []
 
-none-yet : deviceAfter step [] ≡ withBook (replicate 576 0)
+none-yet : deviceAfter step [] ≡ withBook (replicate 832 0)
 unfolding deviceAfter
 none-yet = refl
 
 pub is-loaded : deviceAfter step loading ≡ withBook ready
 is-loaded =
-    loads (OfBook (book.Add 2 0 last) ∷ OfBook (book.Add 2 0 first) ∷ OfBook (book.Begin 2 0) ∷ []) (book.Finish 2 0)
-    (loads (OfBook (book.Add 2 0 first) ∷ OfBook (book.Begin 2 0) ∷ []) (book.Add 2 0 last)
-    (loads (OfBook (book.Begin 2 0) ∷ []) (book.Add 2 0 first) (loads [] (book.Begin 2 0) none-yet (books .0)) (books .1)) (books .2))
+    loads (OfBook (book.Add 2 0 last) ∷ OfBook (book.Add 2 0 first) ∷ OfBook (book.Begin 2 0 noName) ∷ []) (book.Finish 2 0)
+    (loads (OfBook (book.Add 2 0 first) ∷ OfBook (book.Begin 2 0 noName) ∷ []) (book.Add 2 0 last)
+    (loads (OfBook (book.Begin 2 0 noName) ∷ []) (book.Add 2 0 first) (loads [] (book.Begin 2 0 noName) none-yet (books .0)) (books .1)) (books .2))
     (books .3)
 
 -- ---- it opens a call, at either rate and of either strictness
@@ -94,7 +96,7 @@ module _ (r m : ℕ) (low : r ≤ 1) (lows : m ≤ 1) where
 
   pub opens : openOf noCall 2 0 r m seed ready ≡ (Done, written noCounts heard)
   unfolding openOf begunRefusals vectorRefusals keyRefusals zeroRefusals standing isClosed closedTests allZero allBelow firstBelow entry.inRange entry.isFor
-      entry.entryRight entry.usedRight entry.readyRight entry.lacks rules.entryOf rules.findEntry rules.apart rules.goodBook keyAllowed desKey oddOctet
+      entry.entryRight name.nameRight name.textOctets name.isPrintable entry.usedRight entry.readyRight entry.lacks rules.entryOf rules.findEntry rules.apart rules.goodBook keyAllowed desKey oddOctet
   opens = rw (ways-right r m low lows)
 
   heard-stands : standing (written noCounts heard) ≡ heard
@@ -129,7 +131,7 @@ dcalls = opening.newPacket 1 2 seed desABCD
 
 opens-packet : opening.openOf packet.noPacket opening.toSend 1 2 0 seed ready ≡ (Done, dcalls)
 unfolding opening.openOf opening.openRefusals opening.isEnd vectorRefusals keyRefusals zeroRefusals zeroFor packet.goodPacket packet.isClosed packet.closedTests isKind allZero
-    allBelow firstBelow entry.inRange entry.isFor entry.entryRight entry.usedRight entry.readyRight entry.lacks rules.entryOf rules.findEntry rules.apart
+    allBelow firstBelow entry.inRange entry.isFor entry.entryRight name.nameRight name.textOctets name.isPrintable entry.usedRight entry.readyRight entry.lacks rules.entryOf rules.findEntry rules.apart
     rules.goodBook keyAllowed desKey oddOctet
 opens-packet = refl
 

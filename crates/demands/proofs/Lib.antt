@@ -27,6 +27,7 @@ pub mod RefusalOrder
 pub mod TimeLaws
 pub mod RefusedLaws
 pub mod LoadedLaws
+pub mod NamesAreKept
 pub mod CallsLoaded
 pub mod Counting
 pub mod PacketOpens
@@ -34,6 +35,7 @@ pub mod PacketsLoaded
 pub mod Meets1
 pub mod ThrownOut1
 pub mod DevicesThrownOut
+pub mod NamesThrownOut
 pub mod Instance1
 pub mod CountsThrownOut
 pub mod NightReport

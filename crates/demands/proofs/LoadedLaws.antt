@@ -12,29 +12,32 @@ use Rattle.answers.proofs.OutcomeLaws.{NoneHolds, neverDone, among-not-done, by
 use Rattle.keybook.specs.Operations.{readyKeyOf}
 use Rattle.keybook.specs.History as book
 use Rattle.keybook.proofs.HistoryLaws.{ready-only-if-told}
-use Rattle.demands.specs.Device.{Device, atFirst, withNumber, Operation, OfBook, OfCall, OfPacket, step, History, deviceAfter, history, keyOperations}
+use Rattle.demands.specs.Device.{Device, atFirst, withNumber, Operation, OfBook, OfScreen, OfCall, OfPacket, step, History, deviceAfter, history, keyOperations}
 use Rattle.demands.specs.Demand1.{Loaded}
 use Rattle.demands.proofs.DeviceLaws.{by-number}
 
 -- ---- the key operations of a device, and its book
 
-keysIn : List Operation → List book.Operation
+pub keysIn : List Operation → List book.Operation
 keysIn [] = []
 keysIn (OfBook o ∷ os) = o ∷ keysIn os
+keysIn (OfScreen o ∷ os) = keysIn os
 keysIn (OfCall n o ∷ os) = keysIn os
 keysIn (OfPacket n o ∷ os) = keysIn os
 
-book-is : (os : List Operation) → deviceAfter step os .book ≡ book.bookAfter (keysIn os)
+pub book-is : (os : List Operation) → deviceAfter step os .book ≡ book.bookAfter (keysIn os)
 unfolding deviceAfter step keysIn book.bookAfter
 book-is [] = refl
 book-is (OfBook o ∷ os) = ap (λ (b : List ℕ). book.step o b .1) (book-is os)
+book-is (OfScreen o ∷ os) = book-is os
 book-is (OfCall n o ∷ os) = book-is os
 book-is (OfPacket n o ∷ os) = book-is os
 
-keys-are : (os : List Operation) → keyOperations (history step os) ≡ book.history (keysIn os)
+pub keys-are : (os : List Operation) → keyOperations (history step os) ≡ book.history (keysIn os)
 unfolding history step keysIn keyOperations book.history
 keys-are [] = refl
 keys-are (OfBook o ∷ os) = ap₂ (λ (b : List ℕ) (h : book.History). (o, book.step o b .0) ∷ h) (book-is os) (keys-are os)
+keys-are (OfScreen o ∷ os) = keys-are os
 keys-are (OfCall n o ∷ os) = keys-are os
 keys-are (OfPacket n o ∷ os) = keys-are os
 

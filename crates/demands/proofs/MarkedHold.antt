@@ -8,6 +8,7 @@ use Rattle.octets.specs.Lists.{allZero}
 use Rattle.octets.specs.Tests.{allBelow, firstBelow}
 use Rattle.ciphers.specs.Keys.{oddOctet, scrambleKey, desKey, keyAllowed}
 use Rattle.ciphers.specs.Keystream.{feedback, stream}
+use Rattle.keyentry.specs.Name.{noName, nameRight, textOctets, isPrintable}
 use Rattle.keyentry.specs.Entry.{inRange, lacks, readyRight, usedRight, entryRight, isFor, completeRefusals}
 use Rattle.keybook.specs.Book.{entryOf, apart, goodBook, findEntry, bookRefusals}
 use Rattle.keybook.specs.Operations.{finishRefusals, finishOf}
@@ -17,7 +18,7 @@ use Rattle.demands.proofs.MarkedVoice.{openings, example-2, from-join, 
 use Rattle.demands.proofs.MarkedData.{example-3, example-10}
 
 pub marked : Marked
-unfolding stream feedback slotOn finishNumber allBelow firstBelow oddOctet scrambleKey desKey keyAllowed allZero inRange lacks readyRight usedRight entryRight isFor completeRefusals entryOf apart goodBook findEntry bookRefusals finishRefusals finishOf
+unfolding stream feedback slotOn finishNumber allBelow firstBelow oddOctet scrambleKey desKey keyAllowed allZero inRange lacks readyRight usedRight entryRight isFor completeRefusals noName nameRight textOctets isPrintable entryOf apart goodBook findEntry bookRefusals finishRefusals finishOf
 marked =
     record {
       example-1 = key-one;

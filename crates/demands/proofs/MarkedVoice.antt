@@ -17,6 +17,7 @@ use Rattle.scramble.specs.Sequence.{keyNumber, stepped, P}
 use Rattle.ciphers.specs.Keys.{oddOctet, scrambleKey, desKey, keyAllowed, keyRight}
 use Rattle.ciphers.specs.Keystream.{stream}
 use Rattle.answers.specs.declared.Answer.the-variants.{Done, Held, NotNow, ZeroVector}
+use Rattle.keyentry.specs.Name as name
 use Rattle.keyentry.specs.Entry as entry
 use Rattle.keybook.specs.Book as book
 use Rattle.sizes.specs.Ciphers.{vectorOctets, noVector}
@@ -61,7 +62,7 @@ module _ (n : ℕ) (low : n ≤ 1) where
       × (openOf noCall 1 0 halfRate n noVector bookOfTwo ≡ (Done, scrambling n 0 noCounts))
       × (joinOf noCall 2 0 halfRate n bookOfTwo ≡ (Done, waiting n 4 noCounts))
   unfolding openOf startOf joinOf begunRefusals joinRefusals vectorRefusals keyRefusals zeroRefusals zeroFor standing isClosed closedTests allZero allBelow firstBelow
-      entry.inRange entry.isFor entry.entryRight entry.usedRight entry.readyRight entry.lacks book.entryOf book.findEntry book.apart book.goodBook
+      entry.inRange entry.isFor entry.entryRight entry.usedRight entry.readyRight entry.lacks name.noName name.nameRight name.textOctets name.isPrintable book.entryOf book.findEntry book.apart book.goodBook
       keyAllowed scrambleKey desKey oddOctet
   openings = rw (ways-right halfRate n (omega arith) low, sender-right halfRate (omega arith)) (refl, refl, refl, refl)
 

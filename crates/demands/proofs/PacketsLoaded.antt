@@ -15,7 +15,7 @@ use Rattle.data.specs.Kinds.{isKind}
 use Rattle.data.specs.Packet as packet
 use Rattle.data.specs.Opening as opening
 use Rattle.data.specs.Message as message
-use Rattle.demands.specs.Device.{Device, callStep, PacketOperation, OpenPacket, Message, LostMessage, EndPacket, packetStep, Operation, OfBook, OfCall, OfPacket, step, deviceAfter, history}
+use Rattle.demands.specs.Device.{Device, screenStep, callStep, PacketOperation, OpenPacket, Message, LostMessage, EndPacket, packetStep, Operation, OfBook, OfScreen, OfCall, OfPacket, step, deviceAfter, history}
 use Rattle.demands.specs.Demand1.{OpensPacket, by-opening, renewsPacket}
 use Rattle.demands.proofs.LoadedLaws.{Holder, begins, Left, Held, always-loaded, as-it-was, renewing, keeping, of-number}
 use Rattle.openings.proofs.ReadyLaws.{none-ready-vector}
@@ -57,6 +57,7 @@ packet-left n b p EndPacket = renewing thePackets n b (OfPacket n EndPacket) p p
 device-left : (d : Device) (o : Operation) (n : ℕ) → Left thePackets n (d .book) o (d .packets n) (step d o .0) (step d o .1 .0 .packets n)
 unfolding step
 device-left d (OfBook o) n = as-it-was thePackets n (d .book) (OfBook o) refl (d .packets n) (book.step o (d .book) .0)
+device-left d (OfScreen o) n = as-it-was thePackets n (d .book) (OfScreen o) refl (d .packets n) (screenStep (d .book) o .0)
 device-left d (OfCall m o) n = as-it-was thePackets n (d .book) (OfCall m o) refl (d .packets n) (callStep (d .book) (d .calls m) o .0)
 device-left d (OfPacket m o) n =
     let r = packetStep (d .book) (d .packets m) o in

@@ -16,7 +16,8 @@ use Rattle.answers.specs.Order.{refusalOrder, withoutZeros, openingOrder, numbe
 use Rattle.answers.proofs.OrderLaws.{of-its-order}
 use Rattle.keyentry.specs.Entry.{inRange, extendRefusals, completeRefusals}
 use Rattle.keybook.specs.Book.{bookOctets, bookRefusals}
-use Rattle.keybook.specs.Operations.{beginRefusals, addRefusals, finishRefusals, eraseRefusals, notReady, readyRefusals}
+use Rattle.keybook.specs.Operations.{beginRefusals, addRefusals, finishRefusals, entryRefusals, notReady, readyRefusals}
+use Rattle.keybook.specs.Screen.{inventoryRefusals}
 use Rattle.keybook.specs.History as book
 use Rattle.sizes.specs.Ciphers.{vectorOctets}
 use Rattle.openings.specs.Ladder.{keyRefusals, zeroRefusals, vectorRefusals}
@@ -31,9 +32,9 @@ use Rattle.data.specs.Kinds.{isKind}
 use Rattle.data.specs.Packet as packet
 use Rattle.data.specs.Opening as opening
 use Rattle.data.specs.Message as message
-use Rattle.demands.specs.Device.{Device, Open, Start, Join, Voice, Lost, End, Announce, NextVector, OpenPacket, Message, LostMessage, EndPacket, Operation, OfBook, OfCall, OfPacket, step}
+use Rattle.demands.specs.Device.{Device, Name, Inventory, Open, Start, Join, Voice, Lost, End, Announce, NextVector, OpenPacket, Message, LostMessage, EndPacket, Operation, OfBook, OfScreen, OfCall, OfPacket, step}
 use Rattle.demands.proofs.DeviceLaws.{refusals-decide}
-use Rattle.demands.specs.Refusals.{refusalsOf, withoutCall, voiceOrder, orderOf, unrefused, withoutBook, lostOrder, isSlot}
+use Rattle.demands.specs.Refusals.{refusalsOf, withoutCall, beginOrder, voiceOrder, orderOf, unrefused, withoutBook, lostOrder, isBegin, isSlot}
 
 -- open and start
 begun-in-order : (end : ℕ) (s : Standing) (c i r m : ℕ) (w b : List ℕ)
@@ -42,12 +43,14 @@ unfolding begunRefusals
 begun-in-order end s c i r m w b = vector-in-order (termsRight end r m) (isBad s) (stands s) c i b w (eqb end sendingEnd)
 
 pub in-order : (d : Device) (o : Operation) → inOrder (orderOf o) (numbersOf (refusalsOf d o)) ≡ true
-unfolding beginRefusals addRefusals finishRefusals eraseRefusals bookRefusals extendRefusals completeRefusals joinRefusals voiceRefusals lostRefusals
+unfolding beginRefusals addRefusals finishRefusals entryRefusals bookRefusals inventoryRefusals extendRefusals completeRefusals joinRefusals voiceRefusals lostRefusals
     endRefusals announceRefusals nextRefusals opening.openRefusals message.messageRefusals message.lostRefusals packet.endRefusals
-in-order d (OfBook (book.Begin c i)) = refl
+in-order d (OfBook (book.Begin c i name)) = refl
 in-order d (OfBook (book.Add c i xs)) = refl
 in-order d (OfBook (book.Finish c i)) = refl
 in-order d (OfBook (book.Erase c i)) = refl
+in-order d (OfScreen (Name c i)) = refl
+in-order d (OfScreen (Inventory k)) = refl
 in-order d (OfCall n (Open c i r m w)) = begun-in-order receivingEnd (standing (d .calls n)) c i r m w (d .book)
 in-order d (OfCall n (Start c i r w)) = begun-in-order sendingEnd (standing (d .calls n)) c i r byDefault w (d .book)
 in-order d (OfCall n (Join c i r m)) =
@@ -67,13 +70,14 @@ in-order d (OfPacket n EndPacket) = refl
 
 -- these orders are parts of the one order, but for the two exceptions
 pub one-order : (inOrder refusalOrder openingOrder ≡ true) × (inOrder refusalOrder withoutZeros ≡ true) × (inOrder refusalOrder withoutCall ≡ true)
-    × (inOrder refusalOrder withoutBook ≡ true) × (inOrder refusalOrder lostOrder ≡ true)
-one-order = (refl, refl, refl, refl, refl)
+    × (inOrder refusalOrder beginOrder ≡ true) × (inOrder refusalOrder withoutBook ≡ true) × (inOrder refusalOrder lostOrder ≡ true)
+one-order = (refl, refl, refl, refl, refl, refl)
 
--- ---- an operation answers nothing from outside its order, and 16 is a slot's alone
+-- ---- an operation answers nothing from outside its order, 16 is a slot's alone, and 17 begin's
 
 unrefused-under : (d : Device) (o : Operation) → numberOf (unrefused d o) < 2
 unrefused-under d (OfBook o) = omega arith
+unrefused-under d (OfScreen o) = omega arith
 unrefused-under d (OfCall n (Open c i r m w)) = omega arith
 unrefused-under d (OfCall n (Start c i r w)) = omega arith
 unrefused-under d (OfCall n (Join c i r m)) = omega arith
@@ -89,27 +93,45 @@ only-its-own d o h =
     let e = refusals-decide d o in
     rw e (of-its-order (orderOf o) (refusalsOf d o) (unrefused d o) (in-order d o) (unrefused-under d o) (rw e at h))
 
-sixteen-of : (o : Operation) → isOneOf 16 (orderOf o) ≡ isSlot o
-sixteen-of (OfBook o) = refl
-sixteen-of (OfCall n (Open c i r m w)) = refl
-sixteen-of (OfCall n (Start c i r w)) = refl
-sixteen-of (OfCall n (Join c i r m)) = refl
-sixteen-of (OfCall n (Voice mask frame)) = refl
-sixteen-of (OfCall n Lost) = refl
-sixteen-of (OfCall n End) = refl
-sixteen-of (OfCall n (Announce w)) = refl
-sixteen-of (OfCall n (NextVector out)) = refl
-sixteen-of (OfPacket n (OpenPacket end kind c i w)) = go (eqb end opening.toSend)
+-- where 16 and 17 stand in an operation's order
+its-numbers : (o : Operation) → (isOneOf 16 (orderOf o) ≡ isSlot o) × (isOneOf 17 (orderOf o) ≡ isBegin o)
+its-numbers (OfBook (book.Begin c i name)) = (refl, refl)
+its-numbers (OfBook (book.Add c i xs)) = (refl, refl)
+its-numbers (OfBook (book.Finish c i)) = (refl, refl)
+its-numbers (OfBook (book.Erase c i)) = (refl, refl)
+its-numbers (OfScreen o) = (refl, refl)
+its-numbers (OfCall n (Open c i r m w)) = (refl, refl)
+its-numbers (OfCall n (Start c i r w)) = (refl, refl)
+its-numbers (OfCall n (Join c i r m)) = (refl, refl)
+its-numbers (OfCall n (Voice mask frame)) = (refl, refl)
+its-numbers (OfCall n Lost) = (refl, refl)
+its-numbers (OfCall n End) = (refl, refl)
+its-numbers (OfCall n (Announce w)) = (refl, refl)
+its-numbers (OfCall n (NextVector out)) = (refl, refl)
+its-numbers (OfPacket n (OpenPacket end kind c i w)) = go (eqb end opening.toSend)
   where
-    go : (b : Bool) → isOneOf 16 (pick b openingOrder withoutZeros) ≡ false
-    go true = refl
-    go false = refl
-sixteen-of (OfPacket n (Message octets)) = refl
-sixteen-of (OfPacket n LostMessage) = refl
-sixteen-of (OfPacket n EndPacket) = refl
+    go : (b : Bool) → (isOneOf 16 (pick b openingOrder withoutZeros) ≡ false) × (isOneOf 17 (pick b openingOrder withoutZeros) ≡ false)
+    go true = (refl, refl)
+    go false = (refl, refl)
+its-numbers (OfPacket n (Message octets)) = (refl, refl)
+its-numbers (OfPacket n LostMessage) = (refl, refl)
+its-numbers (OfPacket n EndPacket) = (refl, refl)
 
 pub slots-alone : (d : Device) (o : Operation) → numberOf (step d o .0) ≡ 16 → isSlot o ≡ true
-slots-alone d o e = sym (sixteen-of o) ∙ (rw e at (only-its-own d o (omega (arith, e))))
+slots-alone d o e = sym (its-numbers o .0) ∙ (rw e at (only-its-own d o (omega (arith, e))))
+
+pub begins-alone : (d : Device) (o : Operation) → numberOf (step d o .0) ≡ 17 → isBegin o ≡ true
+begins-alone d o e = sym (its-numbers o .1) ∙ (rw e at (only-its-own d o (omega (arith, e))))
+
+-- begin, and what a screen shows, in full
+pub begin-order : (d : Device) (c i : ℕ) (name : List ℕ) → numbersOf (refusalsOf d (OfBook (book.Begin c i name))) ≡ 2 ∷ 2 ∷ 3 ∷ 17 ∷ 4 ∷ 11 ∷ 12 ∷ []
+unfolding beginRefusals
+begin-order d c i name = refl
+
+pub screen-orders : (d : Device) (c i k : ℕ) → (numbersOf (refusalsOf d (OfScreen (Name c i))) ≡ 2 ∷ 3 ∷ 4 ∷ 5 ∷ [])
+    × (numbersOf (refusalsOf d (OfScreen (Inventory k))) ≡ 2 ∷ 3 ∷ 4 ∷ [])
+unfolding entryRefusals bookRefusals inventoryRefusals
+screen-orders d c i k = (refl, refl)
 
 -- the openings with a vector and announce, in full: 8 is a sender's alone
 pub vector-orders : (d : Device) (n kind c i r m : ℕ) (w : List ℕ)
@@ -143,7 +165,7 @@ ready-in-order b c i = refl
 -- ---- the two 4s
 
 -- the test is of numbers, and an opening has 4 twice: with 9 between them, the one after it is the book's. What stands is 9, whatever the book holds
-module _ (c i : ℕ) (b : List ℕ) (long : length b ≡ 576) (in-range : inRange c i ≡ true) where
+module _ (c i : ℕ) (b : List ℕ) (long : length b ≡ 832) (in-range : inRange c i ≡ true) where
   module _ (r m : ℕ) (s : Standing) (good : isBad s ≡ false) (there : stands s ≡ true) where
     pub busy-join : termsRight receivingEnd r m ≡ true → (a : Answer) → answered (joinRefusals s c i r m b) a ≡ NotNow
     unfolding joinRefusals keyRefusals
@@ -161,7 +183,8 @@ module _ (c i : ℕ) (b : List ℕ) (long : length b ≡ 576) (in-range : inRang
 -- ---- what the test throws out
 
 -- an opening that asks whether a call stands before whether it is bad, or for a good book before whether a call stands; and a slot that asks for its
--- length first, or in the middle, or whether a call stands before whether it is bad, or for the limit before that or after its length
+-- length first, or in the middle, or whether a call stands before whether it is bad, or for the limit before that or after its length; and a begin that asks for the name
+-- before the range, or after the book
 pub wrong-orders : (inOrder openingOrder (2 ∷ 2 ∷ 3 ∷ 9 ∷ 4 ∷ 4 ∷ 5 ∷ 6 ∷ 8 ∷ []) ≡ false)
     × (inOrder openingOrder (2 ∷ 2 ∷ 3 ∷ 4 ∷ 4 ∷ 9 ∷ 5 ∷ 6 ∷ 8 ∷ []) ≡ false)
     × (inOrder voiceOrder (2 ∷ 10 ∷ 4 ∷ 9 ∷ []) ≡ false)
@@ -171,4 +194,6 @@ pub wrong-orders : (inOrder openingOrder (2 ∷ 2 ∷ 3 ∷ 9 ∷ 4 ∷ 4 ∷ 5 
     × (inOrder voiceOrder (10 ∷ 4 ∷ 16 ∷ 9 ∷ 2 ∷ []) ≡ false)
     × (inOrder voiceOrder (10 ∷ 4 ∷ 9 ∷ 2 ∷ 16 ∷ []) ≡ false)
     × (inOrder lostOrder (4 ∷ 16 ∷ 9 ∷ []) ≡ false)
-wrong-orders = (refl, refl, refl, refl, refl, refl, refl, refl, refl)
+    × (inOrder beginOrder (2 ∷ 2 ∷ 17 ∷ 3 ∷ 4 ∷ 11 ∷ 12 ∷ []) ≡ false)
+    × (inOrder beginOrder (2 ∷ 2 ∷ 3 ∷ 4 ∷ 17 ∷ 11 ∷ 12 ∷ []) ≡ false)
+wrong-orders = (refl, refl, refl, refl, refl, refl, refl, refl, refl, refl, refl)

@@ -7,7 +7,7 @@ use Prim.Native.Nat.{ℕ, zero, suc, _≤_, _<_}
 use native.Mathlib.Omega.{arith}
 use lib.Dec.{leb, eqb}
 use lib.ListN.{length, replicate}
-use borrow.Author.Tests.{eq-eqb, eqb-true, ne-eqb, leb-true, ltb-false, not-false}
+use borrow.Author.Tests.{eq-eqb, eqb-true, ne-eqb, leb-true, ltb-true, ltb-false, not-false}
 use Rattle.octets.specs.Tests.{allBelow}
 use Rattle.octets.specs.Lists.{allZero}
 use Rattle.octets.proofs.TestLaws.{and-left, and-right}
@@ -18,8 +18,11 @@ use Rattle.answers.specs.Outcomes.{Refusals, outcome}
 use Rattle.answers.proofs.OutcomeLaws.{NoneHolds, Refusal, refusal-keeps}
 use Rattle.answers.proofs.TableLaws.{Settles, not-refused}
 use Rattle.keyentry.specs.Entry.{inRange}
+use Rattle.keyentry.specs.Name.{nameOctets, nameRight}
+use Rattle.keyentry.proofs.NameLaws.{right-is-name}
 use Rattle.keybook.specs.Book.{bookOctets, goodBook, bookRefusals}
-use Rattle.keybook.specs.Operations.{beginRefusals, addRefusals, finishRefusals, eraseRefusals}
+use Rattle.keybook.specs.Operations.{beginRefusals, addRefusals, finishRefusals, entryRefusals}
+use Rattle.keybook.specs.Screen.{inventoryRefusals}
 use Rattle.keybook.specs.History as book
 use Rattle.sizes.specs.Ciphers.{vectorOctets}
 use Rattle.sizes.specs.Frame.{isRate}
@@ -41,13 +44,13 @@ use Rattle.data.proofs.KindLaws.{kind-range}
 use Rattle.data.specs.Packet as packet
 use Rattle.data.specs.Opening as opening
 use Rattle.data.specs.Message as message
-use Rattle.demands.specs.Device.{Device, CallOperation, Open, Start, Join, Voice, Lost, End, Announce, NextVector, callStep, lentCall, PacketOperation, OpenPacket, Message, LostMessage, EndPacket, packetStep, lentPacket, Operation, OfBook, OfCall, OfPacket, step, lent, handedOut}
-use Rattle.demands.specs.Refusals.{keyRefusals, callRefusals, packetRefusals, refusalsOf}
-use Rattle.demands.specs.Demand1.{Keyed, RightBook, NotZeros, RightCall, RightPacket, RightInput, InTime, Unknown, slot}
+use Rattle.demands.specs.Device.{Device, ScreenOperation, Name, Inventory, screenStep, lentScreen, CallOperation, Open, Start, Join, Voice, Lost, End, Announce, NextVector, callStep, lentCall, PacketOperation, OpenPacket, Message, LostMessage, EndPacket, packetStep, lentPacket, Operation, OfBook, OfScreen, OfCall, OfPacket, step, lent, handedOut}
+use Rattle.demands.specs.Refusals.{keyRefusals, screenRefusals, callRefusals, packetRefusals, refusalsOf}
+use Rattle.demands.specs.Demand1.{Keyed, RightBook, RightScreen, NotZeros, RightCall, RightPacket, RightInput, InTime, Unknown, slot}
 use Rattle.demands.specs.Rates.{Layout}
 use Rattle.demands.proofs.Layouts.{layout-is}
 use Rattle.demands.proofs.TimeLaws.{unrefused-in-time}
-use Rattle.demands.proofs.DeviceLaws.{book-settles, call-settles, packet-settles, unrefused-only}
+use Rattle.demands.proofs.DeviceLaws.{book-settles, screen-settles, call-settles, packet-settles, unrefused-only}
 
 -- ---- what nothing refuses is right
 
@@ -68,11 +71,19 @@ keyed b c i own l n g =
     }
 
 key-right : (b : List ℕ) (o : book.Operation) → NoneHolds (keyRefusals b o) → RightBook b o
-unfolding beginRefusals addRefusals finishRefusals eraseRefusals bookRefusals
-key-right b (book.Begin c i) n = keyed b c i true (n .0) (n .1 .0) (n .1 .1 .0)
+unfolding beginRefusals addRefusals finishRefusals entryRefusals bookRefusals
+key-right b (book.Begin c i name) n =
+    (keyed b c i true (n .1 .0) (n .1 .1 .0) (n .1 .1 .1 .1 .0), right-is-name name (sized (length name) nameOctets (n .0)) (not-false (nameRight name) (n .1 .1 .1 .0)))
 key-right b (book.Add c i xs) n = (keyed b c i true (n .1 .0) (n .1 .1 .0) (n .1 .1 .1 .0), ltb-false 32 (length xs) (n .0))
 key-right b (book.Finish c i) n = keyed b c i true (n .0) (n .1 .0) (n .1 .1 .0)
 key-right b (book.Erase c i) n = keyed b c i true (n .0) (n .1 .0) (n .1 .1 .0)
+
+screen-right : (b : List ℕ) (o : ScreenOperation) → NoneHolds (screenRefusals b o) → RightScreen b o
+unfolding entryRefusals bookRefusals inventoryRefusals
+screen-right b (Name c i) n = keyed b c i true (n .0) (n .1 .0) (n .1 .1 .0)
+screen-right b (Inventory k) n =
+    let l : k < 16 = ltb-true k 16 (not-false _ (n .1 .0)) in
+    (sized (length b) bookOctets (n .0), omega arith, not-false (goodBook b) (n .1 .1 .0))
 
 -- a vector that is not all zero
 not-zeros : (w : List ℕ) → allZero w ≡ false → w ≡ replicate 8 0 → ⊥
@@ -150,6 +161,7 @@ packet-right b p EndPacket n = not-false (packet.goodPacket p) (n .0)
 
 unrefused-right : (d : Device) (o : Operation) → NoneHolds (refusalsOf d o) → RightInput d o
 unrefused-right d (OfBook o) = key-right (d .book) o
+unrefused-right d (OfScreen o) = screen-right (d .book) o
 unrefused-right d (OfCall n o) = call-right (d .book) (d .calls n) o
 unrefused-right d (OfPacket n o) = packet-right (d .book) (d .packets n) o
 
@@ -190,9 +202,13 @@ packet-untouched b p (Message octets) n =
 packet-untouched b p LostMessage n = refl
 packet-untouched b p EndPacket n = refl
 
+screen-untouched : (b : List ℕ) (o : ScreenOperation) → (numberOf (screenStep b o .0) ≡ 0 → ⊥) → screenStep b o .1 ≡ lentScreen o
+screen-untouched b o n = let s = screen-settles b o in s .keeps (from-two (numberOf (screenStep b o .0)) (λ l. n (ap numberOf (not-refused s l))))
+
 pub undone-untouched : (d : Device) (o : Operation) → (numberOf (step d o .0) ≡ 0 → ⊥) → step d o .1 .1 ≡ lent o
 unfolding step
 undone-untouched d (OfBook o) n = refl
+undone-untouched d (OfScreen o) n = screen-untouched (d .book) o n
 undone-untouched d (OfCall m o) n = call-untouched (d .book) (d .calls m) o n
 undone-untouched d (OfPacket m o) n = packet-untouched (d .book) (d .packets m) o n
 
@@ -220,6 +236,7 @@ call-held d n (NextVector out) z = absurd (not-held (call-settles (d .book) (d .
 pub only-slots-held : (d : Device) (o : Operation) → numberOf (step d o .0) ≡ 1 → Unknown d o
 unfolding step
 only-slots-held d (OfBook o) z = absurd (not-held (book-settles (d .book) o) z)
+only-slots-held d (OfScreen o) z = absurd (not-held (screen-settles (d .book) o) z)
 only-slots-held d (OfCall n o) z = call-held d n o z
 only-slots-held d (OfPacket n o) z = absurd (not-held (packet-settles (d .book) (d .packets n) o) z)
 

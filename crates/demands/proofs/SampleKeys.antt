@@ -10,10 +10,11 @@ use Rattle.octets.specs.Bits.{Octets}
 use Rattle.sizes.specs.Ciphers.{byCipher, keyOctets}
 use Rattle.ciphers.specs.Keys.{oddOctet, scrambleKey, desKey, keyAllowed}
 use Rattle.sizes.proofs.Cases.{by-range}
+use Rattle.keyentry.specs.Name as name
 use Rattle.keyentry.specs.Entry as entry
 use Rattle.keybook.specs.Book as book
 use Rattle.openings.specs.Samples.{scramble0001, desABCD}
-use Rattle.demands.specs.Marked.{key0001}
+use Rattle.demands.specs.Marked.{key0001, readyEntry}
 use Rattle.demands.specs.Talk.{HasKey}
 use Rattle.octets.proofs.Zeros.{octets-by}
 
@@ -33,17 +34,16 @@ keyOf c = byCipher c key0001 keyABCD key1F []
 -- all three as key ID 0
 abbrev pub bookOfThree : List ℕ
 bookOfThree =
-    (1 ∷ 0 ∷ 2 ∷ 1 ∷ scramble0001)
-    ++ ((2 ∷ 0 ∷ 8 ∷ 1 ∷ desABCD) ++ ((3 ∷ 0 ∷ 32 ∷ 1 ∷ key1F) ++ replicate (13 * entry.entryOctets) 0))
+    readyEntry 1 2 scramble0001 ++ (readyEntry 2 8 desABCD ++ (readyEntry 3 32 key1F ++ replicate (13 * entry.entryOctets) 0))
 
 three-good : book.goodBook bookOfThree ≡ true
 unfolding book.goodBook book.apart book.findEntry book.entryOf allBelow firstBelow allZero entry.isFor entry.inRange entry.entryRight
-    entry.usedRight entry.readyRight entry.lacks keyAllowed scrambleKey desKey oddOctet
+    entry.usedRight entry.readyRight entry.lacks name.noName name.nameRight name.textOctets name.isPrintable keyAllowed scrambleKey desKey oddOctet
 three-good = refl
 
 module _ (c : ℕ) (r : (1 ≤ c) × (c ≤ 3)) where
   pub has-key : HasKey bookOfThree c 0 (keyOf c)
-  unfolding book.findEntry book.entryOf firstBelow entry.isFor
+  unfolding book.findEntry book.entryOf firstBelow entry.isFor name.noName
   has-key =
       by-range (λ c. HasKey bookOfThree c 0 (keyOf c))
       (record { good = three-good; there = refl; ready = refl; same = refl })

@@ -14,7 +14,7 @@ use Rattle.answers.specs.Numbers.{numberOf, isDone}
 use Rattle.voice.specs.Call.{byDefault}
 use Rattle.keybook.specs.History as book
 use Rattle.keybook.proofs.HistoryLaws.{one-told}
-use Rattle.demands.specs.Device.{Device, CallOperation, Open, Start, Join, Voice, Lost, End, Announce, NextVector, PacketOperation, OpenPacket, Message, LostMessage, EndPacket, Operation, OfBook, OfCall, OfPacket, Step, History, deviceAfter, history, keyOperations}
+use Rattle.demands.specs.Device.{Device, CallOperation, Open, Start, Join, Voice, Lost, End, Announce, NextVector, PacketOperation, OpenPacket, Message, LostMessage, EndPacket, Operation, OfBook, OfScreen, OfCall, OfPacket, Step, History, deviceAfter, history, keyOperations}
 use Rattle.octets.proofs.TestLaws.{and-false-r}
 use Rattle.demands.proofs.LoadedLaws.{still-loaded}
 use Rattle.demands.specs.Demand1.{OpensCall, by-open, by-start, by-join, OpensPacket, by-opening, renewsCall, renewsPacket, NoneDone, Loaded, Demand1}
@@ -22,27 +22,28 @@ use Rattle.demands.specs.Demand1.{OpensCall, by-open, by-start, by-join,
 -- ---- without a finish that was done no key is loaded
 
 abbrev isFinish : book.Operation → Bool
-isFinish (book.Begin c i) = false
+isFinish (book.Begin c i n) = false
 isFinish (book.Add c i xs) = false
 isFinish (book.Finish c i) = true
 isFinish (book.Erase c i) = false
 
 abbrev pub finishing : Operation → Bool
 finishing (OfBook o) = isFinish o
+finishing (OfScreen o) = false
 finishing (OfCall n o) = false
 finishing (OfPacket n o) = false
 
 abbrev isFinished : book.Progress → Bool
 isFinished book.nothing = false
-isFinished (book.loading xs) = false
-isFinished (book.finished xs) = true
+isFinished (book.loading n xs) = false
+isFinished (book.finished n xs) = true
 
 -- another operation finishes nothing
 not-by : (o : book.Operation) (t : book.Progress) → isFinish o ≡ false → isFinished (book.tells o t) ≡ false
-not-by (book.Begin d j) t e = refl
+not-by (book.Begin d j n) t e = refl
 not-by (book.Add d j xs) book.nothing e = refl
-not-by (book.Add d j xs) (book.loading ys) e = refl
-not-by (book.Add d j xs) (book.finished ys) e = refl
+not-by (book.Add d j xs) (book.loading n ys) e = refl
+not-by (book.Add d j xs) (book.finished n ys) e = refl
 not-by (book.Finish d j) t e = absurd (true≢false e)
 not-by (book.Erase d j) t e = refl
 
@@ -55,6 +56,7 @@ unfinished ((OfBook o, a) ∷ h) n c i = go (isDone a) (book.concerns c i o) (n 
     go true true e t f = not-by o t e
     go true false e t f = f
     go false m e t f = f
+unfinished ((OfScreen o, a) ∷ h) n c i = unfinished h (n .1) c i
 unfinished ((OfCall m o, a) ∷ h) n c i = unfinished h (n .1) c i
 unfinished ((OfPacket m o, a) ∷ h) n c i = unfinished h (n .1) c i
 
@@ -82,16 +84,16 @@ module _ (st : Step) (os : List Operation) (none : NoneDone finishing (history s
       (t .loaded)
 
 -- version one: half a key is added, the finish is refused, and a call is opened all the same, in whichever way; or a packet
-abbrev pub tooEarly : ℕ → ℕ → List ℕ → Operation → History
-tooEarly c i half o = (o, Done) ∷ (OfBook (book.Finish c i), NotReady) ∷ (OfBook (book.Add c i half), Done) ∷ (OfBook (book.Begin c i), Done) ∷ []
+abbrev pub tooEarly : ℕ → ℕ → List ℕ → List ℕ → Operation → History
+tooEarly c i name half o = (o, Done) ∷ (OfBook (book.Finish c i), NotReady) ∷ (OfBook (book.Add c i half), Done) ∷ (OfBook (book.Begin c i name), Done) ∷ []
 
-module _ (n c i d : ℕ) (half k : List ℕ) where
-  pub version-one : (f e : ℕ × ℕ) (o : Operation) → OpensCall n f c i o → Loaded (OpensCall n) (renewsCall n) (tooEarly c i half o) e d k → ⊥
+module _ (n c i d : ℕ) (name half k : List ℕ) where
+  pub version-one : (f e : ℕ × ℕ) (o : Operation) → OpensCall n f c i o → Loaded (OpensCall n) (renewsCall n) (tooEarly c i name half o) e d k → ⊥
   version-one f e _ (by-open w) = unfinished-loads-none (OpensCall n) (renewsCall n) _ e d k (refl, (refl, (refl, (refl, tt))))
   version-one f e _ (by-start w z) = unfinished-loads-none (OpensCall n) (renewsCall n) _ e d k (refl, (refl, (refl, (refl, tt))))
   version-one f e _ by-join = unfinished-loads-none (OpensCall n) (renewsCall n) _ e d k (refl, (refl, (refl, (refl, tt))))
 
-  pub version-one-packet : (f e : ℕ) (o : Operation) → OpensPacket n f c i o → Loaded (OpensPacket n) (renewsPacket n) (tooEarly c i half o) e d k → ⊥
+  pub version-one-packet : (f e : ℕ) (o : Operation) → OpensPacket n f c i o → Loaded (OpensPacket n) (renewsPacket n) (tooEarly c i name half o) e d k → ⊥
   version-one-packet f e _ (by-opening end w) = unfinished-loads-none (OpensPacket n) (renewsPacket n) _ e d k (refl, (refl, (refl, (refl, tt))))
 
 -- ---- one opening stands, and so one key is loaded
@@ -152,6 +154,7 @@ callNames (NextVector out) = ((0, 0), 0, 0)
 
 abbrev ofCall : Operation → (ℕ × ℕ) × ℕ × ℕ
 ofCall (OfBook o) = ((0, 0), 0, 0)
+ofCall (OfScreen o) = ((0, 0), 0, 0)
 ofCall (OfCall n o) = callNames o
 ofCall (OfPacket n o) = ((0, 0), 0, 0)
 
@@ -163,6 +166,7 @@ packetNames EndPacket = (0, 0, 0)
 
 abbrev ofPacket : Operation → ℕ × ℕ × ℕ
 ofPacket (OfBook o) = (0, 0, 0)
+ofPacket (OfScreen o) = (0, 0, 0)
 ofPacket (OfCall n o) = (0, 0, 0)
 ofPacket (OfPacket n o) = packetNames o
 

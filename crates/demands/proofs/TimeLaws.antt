@@ -22,7 +22,7 @@ use Rattle.data.specs.Packet as packet
 use Rattle.data.specs.Opening as opening
 use Rattle.data.specs.Message as message
 use Rattle.data.proofs.PacketLaws.{kind-closed}
-use Rattle.demands.specs.Device.{Device, CallOperation, Open, Start, Join, Voice, Lost, End, Announce, NextVector, PacketOperation, OpenPacket, Message, LostMessage, EndPacket, Operation, OfBook, OfCall, OfPacket}
+use Rattle.demands.specs.Device.{Device, CallOperation, Open, Start, Join, Voice, Lost, End, Announce, NextVector, PacketOperation, OpenPacket, Message, LostMessage, EndPacket, Operation, OfBook, OfScreen, OfCall, OfPacket}
 use Rattle.demands.specs.Refusals.{callRefusals, packetRefusals, refusalsOf}
 use Rattle.demands.specs.Demand1.{TimeOfCall, TimeOfPacket, InTime}
 
@@ -95,5 +95,6 @@ packet-time b p EndPacket n = some-time p (n .0) (n .1 .0)
 
 pub unrefused-in-time : (d : Device) (o : Operation) → NoneHolds (refusalsOf d o) → InTime d o
 unrefused-in-time d (OfBook o) n = tt
+unrefused-in-time d (OfScreen o) n = tt
 unrefused-in-time d (OfCall m o) n = call-time (d .book) (d .calls m) o n
 unrefused-in-time d (OfPacket m o) n = packet-time (d .book) (d .packets m) o n

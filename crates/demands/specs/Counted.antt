@@ -10,7 +10,7 @@ use Rattle.octets.specs.Tests.{pick}
 use Rattle.answers.specs.declared.Answer.{Answer}
 use Rattle.answers.specs.Numbers.{numberOf, isDone}
 use Rattle.voice.specs.Frame.{inMask}
-use Rattle.demands.specs.Device.{CallOperation, Open, Start, Join, Voice, Lost, End, Announce, NextVector, Operation, OfBook, OfCall, OfPacket, Step, History, deviceAfter, history}
+use Rattle.demands.specs.Device.{CallOperation, Open, Start, Join, Voice, Lost, End, Announce, NextVector, Operation, OfBook, OfScreen, OfCall, OfPacket, Step, History, deviceAfter, history}
 use Rattle.demands.specs.Demand1.{renewsCall}
 use Rattle.demands.specs.Rates.{layout}
 
@@ -35,6 +35,7 @@ slotOf (NextVector out) a = []
 abbrev pub slotFor : ℕ → Operation → Answer → List Slot
 slotFor n (OfBook o) a = []
 slotFor n (OfCall m o) a = pick (eqb m n) (slotOf o a) []
+slotFor n (OfScreen o) a = []
 slotFor n (OfPacket m o) a = []
 
 -- it opens a call to receive
@@ -51,6 +52,7 @@ toReceive (NextVector out) = false
 abbrev pub opensToReceive : Operation → Bool
 opensToReceive (OfBook o) = false
 opensToReceive (OfCall m o) = toReceive o
+opensToReceive (OfScreen o) = false
 opensToReceive (OfPacket m o) = false
 
 -- call n was opened to receive, and not ended since
@@ -72,6 +74,7 @@ rateNamed (NextVector out) = 0
 abbrev pub opensAt : Operation → ℕ
 opensAt (OfBook o) = 0
 opensAt (OfCall m o) = rateNamed o
+opensAt (OfScreen o) = 0
 opensAt (OfPacket m o) = 0
 
 -- at which call n was opened

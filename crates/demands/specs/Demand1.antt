@@ -10,6 +10,7 @@ use lib.Dec.{eqb}
 use lib.ListN.{length, replicate}
 use Rattle.answers.specs.declared.Answer.the-variants.{Done}
 use Rattle.answers.specs.Numbers.{numberOf, isDone, isOneOf, operationNumbers}
+use Rattle.keyentry.specs.Name.{IsName}
 use Rattle.keybook.specs.Book.{goodBook}
 use Rattle.keybook.specs.History as book
 use Rattle.keybook.specs.History.{Told}
@@ -22,23 +23,28 @@ use Rattle.data.specs.Kinds.{messageOctets}
 use Rattle.data.specs.Packet.{goodPacket}
 use Rattle.data.specs.Message.{messageTurned}
 use Rattle.demands.specs.Rates.{layout}
-use Rattle.demands.specs.Device.{Device, CallOperation, Open, Start, Join, Voice, Lost, End, Announce, NextVector, PacketOperation, OpenPacket, Message, LostMessage, EndPacket, Operation, OfBook, OfCall, OfPacket, Step, lent, History, deviceAfter, history, keyOperations}
+use Rattle.demands.specs.Device.{Device, ScreenOperation, Name, Inventory, CallOperation, Open, Start, Join, Voice, Lost, End, Announce, NextVector, PacketOperation, OpenPacket, Message, LostMessage, EndPacket, Operation, OfBook, OfScreen, OfCall, OfPacket, Step, lent, History, deviceAfter, history, keyOperations}
 
 -- ---- what an operation has to be given, or it is refused: lengths, numbers, the book where it reads it, and what it is for
 
--- a good book of 576 octets, a cipher type of 1 to 3 and a key ID of at most 63
+-- a good book of 832 octets, a cipher type of 1 to 3 and a key ID of at most 63
 pub record Keyed (b : List ℕ) (c i : ℕ) : Type 0 where
-  pub long : length b ≡ 576
+  pub long : length b ≡ 832
   pub good : goodBook b ≡ true
   pub cipher : (1 ≤ c) × (c ≤ 3)
   pub id : i ≤ 63
 
--- add is given at most 32 octets
+-- begin is given a name, 16 octets, printable ASCII padded at its end with zeros (document 02, W-201), and add at most 32 octets
 abbrev pub RightBook : List ℕ → book.Operation → Type 0
-RightBook b (book.Begin c i) = Keyed b c i
+RightBook b (book.Begin c i n) = Keyed b c i × IsName n
 RightBook b (book.Add c i xs) = Keyed b c i × (length xs ≤ 32)
 RightBook b (book.Finish c i) = Keyed b c i
 RightBook b (book.Erase c i) = Keyed b c i
+
+-- the inventory is of entries 0 to 15
+abbrev pub RightScreen : List ℕ → ScreenOperation → Type 0
+RightScreen b (Name c i) = Keyed b c i
+RightScreen b (Inventory k) = (length b ≡ 832) × (k ≤ 15) × (goodBook b ≡ true)
 
 -- with DES or AES a sender's vector is not all zero
 abbrev pub NotZeros : ℕ → List ℕ → Type 0
@@ -65,6 +71,7 @@ RightPacket b p EndPacket = goodPacket p ≡ true
 
 abbrev pub RightInput : Device → Operation → Type 0
 RightInput d (OfBook o) = RightBook (d .book) o
+RightInput d (OfScreen o) = RightScreen (d .book) o
 RightInput d (OfCall n o) = RightCall (d .book) (d .calls n) o
 RightInput d (OfPacket n o) = RightPacket (d .book) (d .packets n) o
 
@@ -97,9 +104,10 @@ TimeOfPacket p (Message octets) = (p .kind ≡ 0 → ⊥) × (p .count < 1000)
 TimeOfPacket p LostMessage = (p .kind ≡ 0 → ⊥) × (p .count < 1000)
 TimeOfPacket p EndPacket = p .kind ≡ 0 → ⊥
 
--- keys may be loaded and erased at any time
+-- keys may be loaded, erased and looked through at any time
 abbrev pub InTime : Device → Operation → Type 0
 InTime d (OfBook o) = Unit {0}
+InTime d (OfScreen o) = Unit {0}
 InTime d (OfCall n o) = TimeOfCall (d .calls n) o
 InTime d (OfPacket n o) = TimeOfPacket (d .packets n) o
 
@@ -111,9 +119,10 @@ pub record Same (d e : Device) : Type 0 where
   pub calls : (n : ℕ) → d .calls n ≡ e .calls n
   pub packets : (n : ℕ) → d .packets n ≡ e .packets n
 
--- all but what the operation is for is the same: the book, or the call, or packet, of its number
+-- all but what the operation is for is the same: the book, or the call, or packet, of its number; what only looks is for none of them
 abbrev pub SameBeside : Operation → Device → Device → Type 0
 SameBeside (OfBook o) d e = ((n : ℕ) → d .calls n ≡ e .calls n) × ((n : ℕ) → d .packets n ≡ e .packets n)
+SameBeside (OfScreen o) d e = Same d e
 SameBeside (OfCall m o) d e = (d .book ≡ e .book) × ((n : ℕ) → (n ≡ m → ⊥) → d .calls n ≡ e .calls n) × ((n : ℕ) → d .packets n ≡ e .packets n)
 SameBeside (OfPacket m o) d e = (d .book ≡ e .book) × ((n : ℕ) → d .calls n ≡ e .calls n) × ((n : ℕ) → (n ≡ m → ⊥) → d .packets n ≡ e .packets n)
 
@@ -153,11 +162,13 @@ opensOrEndsPacket EndPacket = true
 
 abbrev pub renewsCall : ℕ → Operation → Bool
 renewsCall n (OfBook o) = false
+renewsCall n (OfScreen o) = false
 renewsCall n (OfCall m o) = eqb m n && opensOrEnds o
 renewsCall n (OfPacket m o) = false
 
 abbrev pub renewsPacket : ℕ → Operation → Bool
 renewsPacket n (OfBook o) = false
+renewsPacket n (OfScreen o) = false
 renewsPacket n (OfCall m o) = false
 renewsPacket n (OfPacket m o) = eqb m n && opensOrEndsPacket o
 
@@ -200,7 +211,7 @@ pub record Demand1 (st : Step) : Type 0 where
   pub untimely : (d : Device) (o : Operation) → (InTime d o → ⊥) → 2 ≤ numberOf (st d o .0)
   -- any answer but 0 and 1 leaves the device as it was
   pub changes-nothing : (d : Device) (o : Operation) → 2 ≤ numberOf (st d o .0) → Same (st d o .1 .0) d
-  -- any but 0 leaves the lent octets as they came, and of end hands out zeros
+  -- any but 0 leaves the lent octets as they came, and where something is handed out it is zeros
   pub untouched : (d : Device) (o : Operation) → (numberOf (st d o .0) ≡ 0 → ⊥) → st d o .1 .1 ≡ lent o
   -- only a slot whose vector is unknown is held, and no such slot is done: what was not opened is not handed out as opened
   pub held : (d : Device) (o : Operation) → numberOf (st d o .0) ≡ 1 → Unknown d o

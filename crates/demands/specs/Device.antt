@@ -1,4 +1,4 @@
--- Demand 1, its setting: one book and any number of calls and packets, each by its number; every operation of document 01 on them; and the history of
+-- Demand 1, its setting: one book and any number of calls and packets, each by its number; every operation of documents 01 and 02 on them; and the history of
 -- what was asked and answered.
 use mathlib.Core.List.{List, [], _∷_}
 use Prim.Native.Nat.{ℕ}
@@ -7,6 +7,8 @@ use lib.ListN.{replicate}
 use Rattle.octets.specs.Tests.{pick}
 use Rattle.answers.specs.declared.Answer.{Answer}
 use Rattle.keybook.specs.Book.{bookOctets}
+use Rattle.keybook.specs.declared.screen.Shown.{Shown}
+use Rattle.keybook.specs.Screen.{nameOf, inventoryOf}
 use Rattle.keybook.specs.History as book
 use Rattle.voice.specs.declared.counts.Counts.{Counts}
 use Rattle.voice.specs.declared.call.Call.{Call}
@@ -38,7 +40,27 @@ pub record Device : Type 0 where
 abbrev pub atFirst : Device
 atFirst = record { book = replicate bookOctets 0; calls = λ n. noCall; packets = λ n. packet.noPacket }
 
--- ---- every operation, with all that it is given; what it answers and leaves, and the octets that it may write, or the counts that end hands out
+-- ---- every operation, with all that it is given; what it answers and leaves, and the octets that it may write, or what it hands out
+
+-- on what a screen shows of the book (document 02, W-201)
+pub data ScreenOperation : Type 0 where
+  -- cipher and key ID
+  Name : ℕ → ℕ → ScreenOperation
+  -- the entry's number
+  Inventory : ℕ → ScreenOperation
+
+-- what the inventory hands out, in this order
+abbrev pub listed : Shown → List ℕ
+listed s = s .cipher ∷ s .id ∷ s .loaded ∷ pick (s .ready) 1 0 ∷ s .name
+
+unfoldable pub screenStep : List ℕ → ScreenOperation → Answer × List ℕ
+screenStep b (Name c i) = nameOf b c i
+screenStep b (Inventory k) = let o = inventoryOf b k in (o .0, listed (o .1))
+
+-- where it isn't done it hands out zeros
+abbrev pub lentScreen : ScreenOperation → List ℕ
+lentScreen (Name c i) = replicate 16 0
+lentScreen (Inventory k) = replicate 20 0
 
 -- on a call
 pub data CallOperation : Type 0 where
@@ -99,9 +121,10 @@ lentPacket (Message octets) = octets
 lentPacket LostMessage = []
 lentPacket EndPacket = []
 
--- on a device: begin, add, finish and erase; or on the call, or packet, of a number
+-- on a device: begin, add, finish and erase; what a screen shows; or on the call, or packet, of a number
 pub data Operation : Type 0 where
   OfBook : book.Operation → Operation
+  OfScreen : ScreenOperation → Operation
   OfCall : ℕ → CallOperation → Operation
   OfPacket : ℕ → PacketOperation → Operation
 
@@ -117,18 +140,20 @@ withCall d n r = (r .0, (record { book = d .book; calls = withNumber n (r .1 .0)
 abbrev pub withPacket : Device → ℕ → Answer × (Packet × List ℕ) → Answer × (Device × List ℕ)
 withPacket d n r = (r .0, (record { book = d .book; calls = d .calls; packets = withNumber n (r .1 .0) (d .packets) }, r .1 .1))
 
--- what a device answers to an operation, what it is then, and the octets that the operation may write, or end's counts
+-- what a device answers to an operation, what it is then, and the octets that the operation may write, or what it hands out
 abbrev pub Step : Type 0
 Step = Device → Operation → Answer × (Device × List ℕ)
 
 -- ours
 unfoldable pub step : Step
 step d (OfBook o) = let r = book.step o (d .book) in (r .0, (record { book = r .1; calls = d .calls; packets = d .packets }, []))
+step d (OfScreen o) = let r = screenStep (d .book) o in (r .0, (d, r .1))
 step d (OfCall n o) = withCall d n (callStep (d .book) (d .calls n) o)
 step d (OfPacket n o) = withPacket d n (packetStep (d .book) (d .packets n) o)
 
 abbrev pub lent : Operation → List ℕ
 lent (OfBook o) = []
+lent (OfScreen o) = lentScreen o
 lent (OfCall n o) = lentCall o
 lent (OfPacket n o) = lentPacket o
 
@@ -152,6 +177,7 @@ module _ (st : Step) where
 -- the key operations of a history
 abbrev pub ontoKeys : Operation → Answer → book.History → book.History
 ontoKeys (OfBook o) a h = (o, a) ∷ h
+ontoKeys (OfScreen o) a h = h
 ontoKeys (OfCall n o) a h = h
 ontoKeys (OfPacket n o) a h = h
 

@@ -11,6 +11,7 @@ pub mod OurSender
 pub mod Device
 pub mod Refusals
 pub mod Demand1
+pub mod Names
 pub mod Counted
 pub mod Night
 pub mod OtherDevices

@@ -11,6 +11,7 @@ use Rattle.aes.specs.Cipher.{aes}
 use Rattle.ciphers.specs.Keystream.{usedBlock, stream}
 use Rattle.answers.specs.declared.Answer.the-variants.{Done, Held, NotNow, ZeroVector}
 use Rattle.answers.specs.Numbers.{numberOf}
+use Rattle.keyentry.specs.Name.{noName}
 use Rattle.keyentry.specs.Entry.{entryOctets, keyPlace}
 use Rattle.keybook.specs.Book.{bookOctets}
 use Rattle.keybook.specs.Operations.{finishOf}
@@ -41,9 +42,13 @@ holding c k = c ∷ 0 ∷ length k ∷ 0 ∷ (k ++ replicate (bookOctets - keyPl
 unfoldable pub finishNumber : ℕ → List ℕ → ℕ
 finishNumber c k = numberOf (finishOf (holding c k) c 0 .0)
 
+-- an entry for cipher type c and key ID 0, without a name, whose key of n octets is ready
+abbrev pub readyEntry : ℕ → ℕ → List ℕ → List ℕ
+readyEntry c n key = c ∷ 0 ∷ n ∷ 1 ∷ (key ++ noName)
+
 -- a book that has key 0001 and DES key ABCDEF0123456789 ready, as key ID 0
 abbrev pub bookOfTwo : List ℕ
-bookOfTwo = (1 ∷ 0 ∷ 2 ∷ 1 ∷ scramble0001) ++ ((2 ∷ 0 ∷ 8 ∷ 1 ∷ desABCD) ++ replicate (14 * entryOctets) 0)
+bookOfTwo = readyEntry 1 2 scramble0001 ++ (readyEntry 2 8 desABCD ++ replicate (14 * entryOctets) 0)
 
 -- at half rate a scramble receiver at position p, and a DES receiver at position p that does not know its session's vector, by what they have counted
 abbrev pub scrambling : ℕ → ℕ → Counts → Call

@@ -1,5 +1,5 @@
--- Devices that demand 1 throws out: each does what the user fears. And devices that count wrong (document 02, W-207).
-use mathlib.Core.Bool.{Bool, true, false, _&&_}
+-- Devices that demand 1 throws out: each does what the user fears. And devices that count wrong (document 02, W-207), or lose names (W-201).
+use mathlib.Core.Bool.{Bool, true, false, _&&_, not}
 use mathlib.Core.List.{List, [], _∷_}
 use Prim.Native.Nat.{ℕ, _+_}
 use lib.Dec.{leb, eqb}
@@ -17,7 +17,7 @@ use Rattle.voice.specs.Counts.{noCounts}
 use Rattle.voice.specs.Opening.{begun, joined}
 use Rattle.voice.specs.Slot.{streamOf, inSlot}
 use Rattle.voice.specs.Vector.{withVector}
-use Rattle.demands.specs.Device.{withNone, Device, CallOperation, Open, Start, Join, Voice, Lost, End, Announce, NextVector, callStep, Operation, OfBook, OfCall, OfPacket, withCall, Step, step, lent}
+use Rattle.demands.specs.Device.{withNone, Device, ScreenOperation, Name, Inventory, CallOperation, Open, Start, Join, Voice, Lost, End, Announce, NextVector, callStep, Operation, OfBook, OfScreen, OfCall, OfPacket, withCall, Step, step, lent}
 use Rattle.demands.specs.Refusals.{callRefusals}
 
 -- octets that nobody said
@@ -41,6 +41,7 @@ turnedAt c (NextVector out) = []
 
 abbrev zerosTurned : Device → Operation → List ℕ
 zerosTurned d (OfBook o) = []
+zerosTurned d (OfScreen o) = []
 zerosTurned d (OfCall n o) = turnedAt (d .calls n) o
 zerosTurned d (OfPacket n o) = []
 
@@ -70,6 +71,7 @@ holdingAll d o = (Held, (d, lent o))
 -- any device, but a key operation ends call 0
 abbrev endingBy : Operation → Device → Device
 endingBy (OfBook o) d = record { book = d .book; calls = λ n. pick (eqb n 0) noCall (d .calls n); packets = d .packets }
+endingBy (OfScreen o) d = d
 endingBy (OfCall n o) d = d
 endingBy (OfPacket n o) d = d
 
@@ -80,6 +82,7 @@ ending st d o = let r = st d o in (r .0, (endingBy o (r .1 .0), r .1 .1))
 
 abbrev byCalls : (List ℕ → Call → CallOperation → Answer × (Call × List ℕ)) → Step
 byCalls f d (OfBook o) = step d (OfBook o)
+byCalls f d (OfScreen o) = step d (OfScreen o)
 byCalls f d (OfCall n o) = withCall d n (f (d .book) (d .calls n) o)
 byCalls f d (OfPacket n o) = step d (OfPacket n o)
 
@@ -136,12 +139,17 @@ ends (NextVector out) = false
 
 abbrev endsOne : Operation → Bool
 endsOne (OfBook o) = false
+endsOne (OfScreen o) = false
 endsOne (OfCall n o) = ends o
 endsOne (OfPacket n o) = false
 
--- where end is done it hands out f of the counts
+-- ours, but where such an operation is done it hands out f of what ours does
+abbrev pub passing : (Operation → Bool) → (List ℕ → List ℕ) → Step
+passing such f d o = let r = step d o in (r .0, (r .1 .0, pick (isDone (r .0) && such o) (f (r .1 .1)) (r .1 .1)))
+
+-- of end, the counts
 abbrev pub handing : (List ℕ → List ℕ) → Step
-handing f d o = let r = step d o in (r .0, (r .1 .0, pick (isDone (r .0) && endsOne o) (f (r .1 .1)) (r .1 .1)))
+handing = passing endsOne
 
 -- it never counts
 abbrev pub uncounted : List ℕ → List ℕ
@@ -154,3 +162,28 @@ exchanged xs = getD xs 0 0 ∷ getD xs 2 0 ∷ getD xs 1 0 ∷ getD xs 3 0 ∷ [
 -- held words are passed off as opened
 abbrev pub passedOff : List ℕ → List ℕ
 passedOff xs = (getD xs 0 0 + getD xs 1 0) ∷ 0 ∷ getD xs 2 0 ∷ getD xs 3 0 ∷ []
+
+-- ---- devices that are ours but for what they show
+
+abbrev reads : ScreenOperation → Bool
+reads (Name c i) = true
+reads (Inventory k) = false
+
+abbrev pub readsName : Operation → Bool
+readsName (OfBook o) = false
+readsName (OfScreen o) = reads o
+readsName (OfCall n o) = false
+readsName (OfPacket n o) = false
+
+abbrev pub readsEntry : Operation → Bool
+readsEntry (OfBook o) = false
+readsEntry (OfScreen o) = not (reads o)
+readsEntry (OfCall n o) = false
+readsEntry (OfPacket n o) = false
+
+-- another name, or another entry
+abbrev pub misnaming : (List ℕ → List ℕ) → Step
+misnaming = passing readsName
+
+abbrev pub mislisting : (List ℕ → List ℕ) → Step
+mislisting = passing readsEntry

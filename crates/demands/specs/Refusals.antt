@@ -7,8 +7,9 @@ use Rattle.octets.specs.Tests.{pick}
 use Rattle.answers.specs.declared.Answer.{Answer}
 use Rattle.answers.specs.declared.Answer.the-variants.{Done, Held}
 use Rattle.answers.specs.Outcomes.{Refusals}
-use Rattle.answers.specs.Order.{ofGiven, ofCall, ofSlots, ofBook, withoutZeros, openingOrder}
-use Rattle.keybook.specs.Operations.{beginRefusals, addRefusals, finishRefusals, eraseRefusals}
+use Rattle.answers.specs.Order.{ofGiven, ofName, ofCall, ofSlots, ofBook, withoutZeros, openingOrder}
+use Rattle.keybook.specs.Operations.{beginRefusals, addRefusals, finishRefusals, entryRefusals}
+use Rattle.keybook.specs.Screen.{inventoryRefusals}
 use Rattle.keybook.specs.History as book
 use Rattle.voice.specs.declared.call.Call.{Call}
 use Rattle.voice.specs.Call.{sendingEnd, receivingEnd, byDefault, standing, knows, endRefusals}
@@ -19,13 +20,17 @@ use Rattle.data.specs.declared.packet.Packet.{Packet}
 use Rattle.data.specs.Packet as packet
 use Rattle.data.specs.Opening as opening
 use Rattle.data.specs.Message as message
-use Rattle.demands.specs.Device.{Device, CallOperation, Open, Start, Join, Voice, Lost, End, Announce, NextVector, PacketOperation, OpenPacket, Message, LostMessage, EndPacket, Operation, OfBook, OfCall, OfPacket}
+use Rattle.demands.specs.Device.{Device, ScreenOperation, Name, Inventory, CallOperation, Open, Start, Join, Voice, Lost, End, Announce, NextVector, PacketOperation, OpenPacket, Message, LostMessage, EndPacket, Operation, OfBook, OfScreen, OfCall, OfPacket}
 
 abbrev pub keyRefusals : List ℕ → book.Operation → Refusals
-keyRefusals b (book.Begin c i) = beginRefusals b c i
+keyRefusals b (book.Begin c i n) = beginRefusals b c i n
 keyRefusals b (book.Add c i xs) = addRefusals b c i xs
 keyRefusals b (book.Finish c i) = finishRefusals b c i
-keyRefusals b (book.Erase c i) = eraseRefusals b c i
+keyRefusals b (book.Erase c i) = entryRefusals b c i
+
+abbrev pub screenRefusals : List ℕ → ScreenOperation → Refusals
+screenRefusals b (Name c i) = entryRefusals b c i
+screenRefusals b (Inventory k) = inventoryRefusals b k
 
 abbrev pub callRefusals : List ℕ → Call → CallOperation → Refusals
 callRefusals b c (Open cipher i rate s w) = begunRefusals receivingEnd (standing c) cipher i rate s w b
@@ -45,6 +50,7 @@ packetRefusals b p EndPacket = packet.endRefusals p
 
 abbrev pub refusalsOf : Device → Operation → Refusals
 refusalsOf d (OfBook o) = keyRefusals (d .book) o
+refusalsOf d (OfScreen o) = screenRefusals (d .book) o
 refusalsOf d (OfCall n o) = callRefusals (d .book) (d .calls n) o
 refusalsOf d (OfPacket n o) = packetRefusals (d .book) (d .packets n) o
 
@@ -62,13 +68,17 @@ callUnrefused c (NextVector out) = Done
 
 abbrev pub unrefused : Device → Operation → Answer
 unrefused d (OfBook o) = Done
+unrefused d (OfScreen o) = Done
 unrefused d (OfCall n o) = callUnrefused (d .calls n) o
 unrefused d (OfPacket n o) = Done
 
--- the order of each, "where the operation can give it": a key operation has no call, only an opening has both call and book, only one that sends has 8, and
--- only a slot has 16
+-- the order of each, "where the operation can give it": an operation on the book has no call, only begin has 17, only an opening has both call and book, only
+-- one that sends has 8, and only a slot has 16
 abbrev pub withoutCall : List ℕ
 withoutCall = ofGiven ++ ofBook
+
+abbrev pub beginOrder : List ℕ
+beginOrder = ofGiven ++ (ofName ++ ofBook)
 
 abbrev pub withoutBook : List ℕ
 withoutBook = ofGiven ++ ofCall
@@ -83,6 +93,12 @@ voiceOrder = 10 ∷ 4 ∷ 9 ∷ 16 ∷ 2 ∷ []
 
 abbrev pub messageOrder : List ℕ
 messageOrder = 4 ∷ 9 ∷ 2 ∷ []
+
+abbrev keyOrder : book.Operation → List ℕ
+keyOrder (book.Begin c i n) = beginOrder
+keyOrder (book.Add c i xs) = withoutCall
+keyOrder (book.Finish c i) = withoutCall
+keyOrder (book.Erase c i) = withoutCall
 
 abbrev callOrder : CallOperation → List ℕ
 callOrder (Open cipher i rate s w) = withoutZeros
@@ -101,13 +117,25 @@ packetOrder LostMessage = withoutBook
 packetOrder EndPacket = withoutBook
 
 abbrev pub orderOf : Operation → List ℕ
-orderOf (OfBook o) = withoutCall
+orderOf (OfBook o) = keyOrder o
+orderOf (OfScreen o) = withoutCall
 orderOf (OfCall n o) = callOrder o
 orderOf (OfPacket n o) = packetOrder o
+
+-- a begin
+abbrev pub isBegin : Operation → Bool
+isBegin (OfBook (book.Begin c i n)) = true
+isBegin (OfBook (book.Add c i xs)) = false
+isBegin (OfBook (book.Finish c i)) = false
+isBegin (OfBook (book.Erase c i)) = false
+isBegin (OfScreen o) = false
+isBegin (OfCall n o) = false
+isBegin (OfPacket n o) = false
 
 -- a slot, arrived or lost
 abbrev pub isSlot : Operation → Bool
 isSlot (OfBook o) = false
+isSlot (OfScreen o) = false
 isSlot (OfCall n (Open c i r m w)) = false
 isSlot (OfCall n (Start c i r w)) = false
 isSlot (OfCall n (Join c i r m)) = false

@@ -17,7 +17,7 @@ use Rattle.octets.proofs.TestLaws.{all-fails, and-false-r, all-reached}
 use Rattle.answers.specs.declared.Answer.the-variants.{WrongLength, OutOfRange, Bad}
 use Rattle.keyentry.specs.Entry.{entryOctets, cipherIn, idIn, inRange, entryRight}
 use Rattle.keybook.specs.Book.{entries, bookOctets, entryOf, withEntry, apart, goodBook, findEntry, bookRefusals}
-use Rattle.keybook.specs.Lookup.{lookup}
+use Rattle.keybook.specs.Lookup.{lookup, seeking}
 use Rattle.keybook.specs.declared.book.Found.the-variants.{At, Missing, Refused}
 
 -- ---- the entries
@@ -99,16 +99,19 @@ module _ (b : List ℕ) (c i : ℕ) where
     unfolding lookup bookRefusals
     look-range n = rw (eq-eqb _ _ h, n)
 
-    module _ (n : inRange c i ≡ true) where
-      pub look-bad : goodBook b ≡ false → Refused Bad ≡ lookup b c i
-      unfolding lookup bookRefusals
-      look-bad g = rw (eq-eqb _ _ h, n, g)
+    pub look-seek : inRange c i ≡ true → seeking b c i ≡ lookup b c i
+    unfolding lookup bookRefusals seeking
+    look-seek n = rw (eq-eqb _ _ h, n)
 
-      module _ (g : goodBook b ≡ true) {k : ℕ} (e : k ≡ findEntry b c i) where
-        pub look-at : k < entries → At k ≡ lookup b c i
-        unfolding lookup bookRefusals
-        look-at l = rw (eq-eqb _ _ h, n, g, ← e, lt-ltb _ _ l)
+  pub seek-bad : goodBook b ≡ false → Refused Bad ≡ seeking b c i
+  unfolding seeking
+  seek-bad g = rw g
 
-        pub look-missing : entries ≤ k → Missing ≡ lookup b c i
-        unfolding lookup bookRefusals
-        look-missing l = rw (eq-eqb _ _ h, n, g, ← e, le-ltb _ _ l)
+  module _ (g : goodBook b ≡ true) {k : ℕ} (e : k ≡ findEntry b c i) where
+    pub seek-at : k < entries → At k ≡ seeking b c i
+    unfolding seeking
+    seek-at l = rw (g, ← e, lt-ltb _ _ l)
+
+    pub seek-missing : entries ≤ k → Missing ≡ seeking b c i
+    unfolding seeking
+    seek-missing l = rw (g, ← e, le-ltb _ _ l)

@@ -5,21 +5,22 @@ use mathlib.Core.Path.{_≡_, refl, sym, ap, _∙_}
 use mathlib.Core.Bool.{true, false, not}
 use mathlib.Core.List.{List, [], _∷_, _++_}
 use lib.ListN.{length}
-use borrow.Author.Tests.{ltb-true, ltb-false, not-false}
+use borrow.Author.Tests.{ltb-true, ltb-false, eqb-true, not-false}
 use Rattle.answers.specs.declared.Answer.{Answer}
 use Rattle.answers.specs.declared.Answer.the-variants.{Done, NoEntry}
 use Rattle.answers.specs.Numbers.{isDone}
 use Rattle.answers.specs.Outcomes.{Refusals}
 use Rattle.answers.proofs.OutcomeLaws.{NoneHolds, neverDone, none-left, none-right, done-none, none-settles}
 use Rattle.ciphers.specs.Keys.{keyAllowed}
-use Rattle.keyentry.specs.Entry.{entryOctets, cipherIn, idIn, keyIn, isReady, lacks, blank, newEntry, extendRefusals, extended, completeRefusals, completed}
+use Rattle.keyentry.specs.Name.{nameOctets}
+use Rattle.keyentry.specs.Entry.{entryOctets, cipherIn, idIn, inRange, keyIn, isReady, lacks, blank, newEntry, extendRefusals, extended, completeRefusals, completed}
 use Rattle.keyentry.proofs.RightLaws.{Used, used-of, of-used, for-parts, not-for}
 use Rattle.keyentry.proofs.WriteLaws.{in-range-used, blank-length, blank-cipher, blank-right, new-length, new-cipher, new-id, new-right, extend-length, extend-cipher, extend-id, extend-used, complete-length, complete-cipher, complete-id, complete-used}
 use Rattle.keybook.specs.Book.{entries, entryOf, withEntry, goodBook, findEntry, freeEntry, bookRefusals}
-use Rattle.keybook.specs.Operations.{hasEntry, placeRefusals, entryFor, withFor, beginRefusals, beginAfter, addRefusals, finishRefusals, eraseRefusals, noKey, notReady, readyRefusals, readyKeyOf}
+use Rattle.keybook.specs.Operations.{hasEntry, entryFor, withFor, beginRefusals, beginAfter, addRefusals, finishRefusals, entryRefusals, noKey, notReady, readyRefusals, readyKeyOf}
 use Rattle.keybook.proofs.BookLaws.{entry-length}
 use Rattle.keybook.proofs.GoodLaws.{none-for, found-for, good-sized, good-entry, good-apart, good-with}
-use Rattle.keybook.proofs.OperationLaws.{sized-by, in-range-by, good-by}
+use Rattle.keybook.proofs.OperationLaws.{in-range-by, good-by}
 
 -- entry k of the book is now e
 pub record Changed (b after : List ℕ) (k : ℕ) (e : List ℕ) : Type 0 where
@@ -77,9 +78,9 @@ same-parts b c i e t w u p q =
 
 module _ (b : List ℕ) (c i : ℕ) where
   -- no refusal answers done
-  pub begin-never-done : neverDone (beginRefusals b c i) ≡ true
-  unfolding beginRefusals bookRefusals
-  begin-never-done = refl
+  pub begin-never-done : (name : List ℕ) → neverDone (beginRefusals b c i name) ≡ true
+  unfolding beginRefusals
+  begin-never-done name = refl
 
   pub add-never-done : (xs : List ℕ) → neverDone (addRefusals b c i xs) ≡ true
   unfolding addRefusals bookRefusals extendRefusals
@@ -89,34 +90,44 @@ module _ (b : List ℕ) (c i : ℕ) where
   unfolding finishRefusals bookRefusals completeRefusals
   finish-never-done = refl
 
-  pub erase-never-done : neverDone (eraseRefusals b c i) ≡ true
-  unfolding eraseRefusals bookRefusals
-  erase-never-done = refl
+  pub entry-never-done : neverDone (entryRefusals b c i) ≡ true
+  unfolding entryRefusals bookRefusals
+  entry-never-done = refl
 
   pub ready-never-done : neverDone (readyRefusals b c i) ≡ true
   unfolding readyRefusals bookRefusals notReady
   ready-never-done = refl
 
-  pub begin-changed : NoneHolds (beginRefusals b c i) → Changed b (beginAfter b c i) (freeEntry b) (newEntry c i)
-  unfolding beginRefusals beginAfter
-  begin-changed n =
-      let m = none-left (bookRefusals b c i) _ n in
-      let r = none-right (bookRefusals b c i) (placeRefusals b c i) n in
-      let l : freeEntry b < entries = ltb-true _ _ (not-false _ (r .1 .0)) in
-      let none = none-for b c i (ltb-false _ _ (r .0)) in
-      record {
-        is = refl;
-        was-good = good-by b c i m;
-        below = l;
-        long = new-length c i;
-        good =
-            good-with b (freeEntry b) (newEntry c i) (sized-by b c i m) l (new-length c i) (good-by b c i m) (new-right c i (in-range-by b c i m))
-            (λ j lj d u. rw (new-cipher c i, new-id c i) (none j lj));
-      }
+  module _ (name : List ℕ) (n : NoneHolds (beginRefusals b c i name)) where
+    pub begin-named : length name ≡ nameOctets
+    unfolding beginRefusals
+    begin-named = eqb-true _ _ (not-false _ (n .0))
 
-  pub begin-used : NoneHolds (beginRefusals b c i) → c ≡ 0 → ⊥
-  unfolding beginRefusals
-  begin-used n = in-range-used c i (in-range-by b c i (none-left (bookRefusals b c i) _ n))
+    pub begin-in-range : inRange c i ≡ true
+    unfolding beginRefusals
+    begin-in-range = not-false _ (n .1 .1 .0)
+
+    pub begin-changed : Changed b (beginAfter b c i name) (freeEntry b) (newEntry c i name)
+    unfolding beginRefusals beginAfter
+    begin-changed =
+        let e = newEntry c i name in
+        let good = not-false _ (n .1 .1 .1 .1 .0) in
+        let place = n .1 .1 .1 .1 .1 in
+        let l : freeEntry b < entries = ltb-true _ _ (not-false _ (place .1 .0)) in
+        let none = none-for b c i (ltb-false _ _ (place .0)) in
+        let long = new-length c i name begin-named in
+        record {
+          is = refl;
+          was-good = good;
+          below = l;
+          long = long;
+          good =
+              good-with b (freeEntry b) e (good-sized b good) l long good (new-right c i name begin-named begin-in-range (not-false _ (n .1 .1 .1 .0)))
+              (λ j lj d u. rw (new-cipher c i name, new-id c i name) (none j lj));
+        }
+
+    pub begin-used : c ≡ 0 → ⊥
+    begin-used = in-range-used c i begin-in-range
 
   module _ (xs : List ℕ) (n : NoneHolds (addRefusals b c i xs)) where
     pub add-there : There b c i
@@ -171,14 +182,14 @@ module _ (b : List ℕ) (c i : ℕ) where
         same-parts b c i (completed e) t (complete-length e (t .long)) (complete-used e (t .long) (t .right) finish-whole finish-allowed)
         (complete-cipher e (t .long)) (complete-id e (t .long))
 
-  module _ (n : NoneHolds (eraseRefusals b c i)) where
-    pub erase-there : There b c i
-    unfolding eraseRefusals
-    erase-there = there b c i [] n
+  module _ (n : NoneHolds (entryRefusals b c i)) where
+    pub entry-there : There b c i
+    unfolding entryRefusals
+    entry-there = there b c i [] n
 
     pub erase-changed : Changed b (withFor b c i blank) (findEntry b c i) blank
     erase-changed =
-        let t = erase-there in
+        let t = entry-there in
         record {
           is = refl;
           was-good = t .was-good;

@@ -14,7 +14,7 @@ use Rattle.sizes.specs.Ciphers.{keyOctets, keyRoom}
 use Rattle.ciphers.specs.Keys.{keyAllowed}
 use Rattle.answers.specs.declared.Answer.the-variants.{Done}
 use Rattle.answers.proofs.OutcomeLaws.{NoneHolds, none-settles}
-use Rattle.keyentry.specs.Entry.{cipherIn, keyIn, inRange}
+use Rattle.keyentry.specs.Entry.{cipherIn, keyIn, nameIn, inRange}
 use Rattle.keyentry.proofs.RightLaws.{used-of, for-parts}
 use Rattle.keyentry.proofs.WriteLaws.{keyLoaded, loaded-count, ready-whole}
 use Rattle.keybook.specs.Book.{entries, bookOctets, findEntry, bookRefusals}
@@ -39,6 +39,7 @@ ready-only-if-told os c i k q =
     let w = ready-whole e u (d .ready) in
     let p = key-padded e (t .long) u in
     record {
+      name = nameIn e;
       octets = keyLoaded e;
       is-finished = sym (holds-what-was-told os c i) ∙ held-finished e (t .used) (d .ready);
       is-padded = d .is ∙ p;
@@ -47,12 +48,12 @@ ready-only-if-told os c i k q =
           sym (padded-allowed (keyLoaded e) (keyRoom - length (keyLoaded e)) c) ∙ ap₂ keyAllowed (sym (t .cipher)) (sym p) ∙ w .allowed;
     }
 
-module _ (os : List Operation) (c i : ℕ) (xs : List ℕ) (f : telling (history os) c i ≡ finished xs) where
+module _ (os : List Operation) (c i : ℕ) (n xs : List ℕ) (f : telling (history os) c i ≡ finished n xs) where
   abbrev b : List ℕ
   b = bookAfter os
 
-  has-finished : HoldsKey (entryFor b c i) xs
-  has-finished = finished-holds (entryFor b c i) xs (holds-what-was-told os c i ∙ f)
+  has-finished : HoldsKey (entryFor b c i) n xs
+  has-finished = finished-holds (entryFor b c i) n xs (holds-what-was-told os c i ∙ f)
 
   is-there : findEntry b c i < entries
   is-there = used-found b c i (good-sized b (always-good os)) (has-finished .used)

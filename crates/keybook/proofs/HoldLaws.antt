@@ -3,7 +3,7 @@
 use Prim.Native.Nat.{ℕ, _+_, _*_, _-_, _≤_, _<_}
 use native.Mathlib.Decide.{ℕ-discrete}
 use native.Mathlib.Omega.{arith}
-use mathlib.Core.Path.{_≡_, refl, sym, ap, _∙_}
+use mathlib.Core.Path.{_≡_, refl, sym, ap, ap₂, _∙_}
 use mathlib.Core.Bool.{Bool, true, false, _&&_}
 use mathlib.Core.List.{List, [], _∷_, _++_}
 use lib.ListN.{length, replicate, length-drop, take-append-drop}
@@ -19,15 +19,15 @@ use Rattle.answers.specs.declared.Answer.the-variants.{Done}
 use Rattle.answers.specs.Numbers.{isDone}
 use Rattle.answers.specs.Outcomes.{Refusals, outcome}
 use Rattle.answers.proofs.OutcomeLaws.{NoneHolds, neverDone, among-not-done, by-refusals}
-use Rattle.keyentry.specs.Entry.{entryOctets, cipherIn, idIn, countIn, isReady, keyIn, keyRest, entryRight, isFor, blank, newEntry, extended, completed}
+use Rattle.keyentry.specs.Entry.{entryOctets, cipherIn, idIn, countIn, isReady, keyIn, keyRest, nameIn, entryRight, isFor, blank, newEntry, extended, completed}
 use Rattle.sizes.specs.Ciphers.{keyRoom}
 use Rattle.keyentry.proofs.RightLaws.{Used, for-parts, parts-for, not-for}
-use Rattle.keyentry.proofs.WriteLaws.{keyLoaded, key-length, loaded-count, blank-cipher, new-cipher, new-id, new-octets, new-not-ready, extend-cipher, extend-id, extend-octets, extend-not-ready, complete-cipher, complete-id, complete-octets, complete-ready}
+use Rattle.keyentry.proofs.WriteLaws.{keyLoaded, key-length, loaded-count, blank-cipher, new-cipher, new-id, new-octets, new-not-ready, new-name, extend-cipher, extend-id, extend-name, extend-octets, extend-not-ready, complete-cipher, complete-id, complete-name, complete-octets, complete-ready}
 use Rattle.keybook.specs.Book.{entries, bookOctets, entryOf, withEntry, apart, goodBook, findEntry, freeEntry}
-use Rattle.keybook.specs.Operations.{entryFor, withFor, beginRefusals, beginAfter, beginOf, addRefusals, addOf, finishRefusals, finishOf, eraseRefusals, eraseOf}
+use Rattle.keybook.specs.Operations.{entryFor, withFor, beginRefusals, beginAfter, beginOf, addRefusals, addOf, finishRefusals, finishOf, entryRefusals, eraseOf}
 use Rattle.keybook.specs.History.{Operation, Begin, Add, Finish, Erase, Progress, nothing, loading, finished, tells, concerns, telling, step, bookAfter, history, padded}
 use Rattle.keybook.proofs.GoodLaws.{good-sized, found-for, entry-octet}
-use Rattle.keybook.proofs.DoneLaws.{Changed, There, begin-never-done, add-never-done, finish-never-done, erase-never-done, begin-changed, begin-used, add-there, add-not-ready, add-fits, add-changed, finish-there, finish-not-ready, finish-changed, erase-there, erase-changed}
+use Rattle.keybook.proofs.DoneLaws.{Changed, There, begin-never-done, add-never-done, finish-never-done, entry-never-done, begin-named, begin-changed, begin-used, add-there, add-not-ready, add-fits, add-changed, finish-there, finish-not-ready, finish-changed, entry-there, erase-changed}
 use Rattle.keybook.proofs.FindLaws.{none-there, used-found, its, not-its, gone}
 use Rattle.keybook.proofs.Laws.{begin-stays-good, add-stays-good, finish-stays-good, erase-stays-good}
 
@@ -39,7 +39,7 @@ zeros-good = refl
 
 step-good : (o : Operation) (b : List ℕ) → goodBook b ≡ true → goodBook (step o b .1) ≡ true
 unfolding step
-step-good (Begin c i) b g = begin-stays-good b g c i
+step-good (Begin c i n) b g = begin-stays-good b g c i n
 step-good (Add c i xs) b g = add-stays-good b g c i xs
 step-good (Finish c i) b g = finish-stays-good b g c i
 step-good (Erase c i) b g = erase-stays-good b g c i
@@ -53,30 +53,37 @@ always-good (o ∷ os) = step-good o (bookAfter os) (always-good os)
 
 -- what an entry holds; a free one holds nothing, nor does one that is not there
 unfoldable pub held : List ℕ → Progress
-held e = pick (eqb (cipherIn e) 0) nothing (pick (isReady e) (finished (keyLoaded e)) (loading (keyLoaded e)))
+held e = pick (eqb (cipherIn e) 0) nothing (pick (isReady e) (finished (nameIn e) (keyLoaded e)) (loading (nameIn e) (keyLoaded e)))
 
 module _ (e : List ℕ) where
-  held-nothing : cipherIn e ≡ 0 → held e ≡ nothing
+  pub held-nothing : cipherIn e ≡ 0 → held e ≡ nothing
   unfolding held
   held-nothing z = rw (eq-eqb _ _ z)
 
   module _ (n : cipherIn e ≡ 0 → ⊥) where
-    held-loading : isReady e ≡ false → held e ≡ loading (keyLoaded e)
+    pub held-loading : isReady e ≡ false → held e ≡ loading (nameIn e) (keyLoaded e)
     unfolding held
     held-loading r = rw (ne-eqb _ _ n, r)
 
-    pub held-finished : isReady e ≡ true → held e ≡ finished (keyLoaded e)
+    pub held-finished : isReady e ≡ true → held e ≡ finished (nameIn e) (keyLoaded e)
     unfolding held
     held-finished r = rw (ne-eqb _ _ n, r)
 
--- what holds a finished key is used, ready, and has its octets loaded
-pub record HoldsKey (e xs : List ℕ) : Type 0 where
+-- what holds a finished key is used, ready, and has its name and its octets loaded
+pub record HoldsKey (e n xs : List ℕ) : Type 0 where
   pub used : cipherIn e ≡ 0 → ⊥
   pub ready : isReady e ≡ true
+  pub name : nameIn e ≡ n
   pub octets : keyLoaded e ≡ xs
 
-pub finished-holds : (e xs : List ℕ) → held e ≡ finished xs → HoldsKey e xs
-finished-holds e xs h = record { used = used; ready = ready (isReady e) refl; octets = (cc (held-finished e used (ready (isReady e) refl))) }
+pub finished-holds : (e n xs : List ℕ) → held e ≡ finished n xs → HoldsKey e n xs
+finished-holds e n xs h =
+    record {
+      used = used;
+      ready = ready (isReady e) refl;
+      name = (cc (held-finished e used (ready (isReady e) refl)));
+      octets = (cc (held-finished e used (ready (isReady e) refl)));
+    }
   where
     used : cipherIn e ≡ 0 → ⊥
     used z = let n : _≡_ {A = ℕ} 0 1 = cc (held-nothing e z) in omega arith
@@ -91,7 +98,7 @@ unfolding isFor
 parts-test e c i p q = rw (p, q)
 
 -- no key is held for cipher type 0
-none-held : (b : List ℕ) (i : ℕ) → length b ≡ bookOctets → held (entryFor b 0 i) ≡ nothing
+pub none-held : (b : List ℕ) (i : ℕ) → length b ≡ bookOctets → held (entryFor b 0 i) ≡ nothing
 none-held b i w = go (ℕ-discrete (cipherIn (entryFor b 0 i)) 0)
   where
     go : Dec (cipherIn (entryFor b 0 i) ≡ 0) → held (entryFor b 0 i) ≡ nothing
@@ -136,15 +143,18 @@ module _ (b : List ℕ) (c i : ℕ) where
 
   step-tells : (o : Operation) → Then o (step o b)
   unfolding step beginOf addOf finishOf eraseOf
-  step-tells (Begin d j) =
-      by-outcome (Begin d j) (beginRefusals b d j) (beginAfter b d j) (begin-never-done b d j) (λ m.
-      let ch = begin-changed b d j m in
-      let n = begin-used b d j m in
-      let e = newEntry d j in
-      renewed (Begin d j) d j (freeEntry b) e refl ch
-      (ap held (its b (freeEntry b) e ch d j n (parts-for e d j (new-cipher d j) (new-id d j)))
-      ∙ held-loading e (λ z. n (sym (new-cipher d j) ∙ z)) (new-not-ready d j) ∙ ap loading (new-octets d j))
-      (λ u h. (parts-test e c i (new-cipher d j) (new-id d j) ∙ h, free-not-for u (ch .below))))
+  step-tells (Begin d j name) =
+      by-outcome (Begin d j name) (beginRefusals b d j name) (beginAfter b d j name) (begin-never-done b d j name) (λ m.
+      let ch = begin-changed b d j name m in
+      let n = begin-used b d j name m in
+      let e = newEntry d j name in
+      let p = new-cipher d j name in
+      let q = new-id d j name in
+      renewed (Begin d j name) d j (freeEntry b) e refl ch
+      (ap held (its b (freeEntry b) e ch d j n (parts-for e d j p q))
+      ∙ held-loading e (λ z. n (sym p ∙ z)) (new-not-ready d j name)
+      ∙ ap₂ loading (new-name d j name (begin-named b d j name m)) (new-octets d j name))
+      (λ u h. (parts-test e c i p q ∙ h, free-not-for u (ch .below))))
   step-tells (Add d j ys) =
       by-outcome (Add d j ys) (addRefusals b d j ys) (withFor b d j (extended (entryFor b d j) ys)) (add-never-done b d j ys) (λ m.
       let s = add-there b d j ys m in
@@ -154,7 +164,7 @@ module _ (b : List ℕ) (c i : ℕ) where
       let p = extend-cipher e ys (s .long) (s .right) l in
       went-on (Add d j ys) d j (extended e ys) refl s (add-changed b d j ys m) p (extend-id e ys (s .long) (s .right) l)
       (held-loading (extended e ys) (λ z. s .used (sym p ∙ z)) (extend-not-ready e ys (s .long) (s .right) l r)
-      ∙ ap loading (extend-octets e ys (s .long) (s .right) l) ∙ ap (tells (Add d j ys)) (sym (held-loading e (s .used) r))))
+      ∙ ap₂ loading (extend-name e ys (s .long) (s .right) l) (extend-octets e ys (s .long) (s .right) l) ∙ ap (tells (Add d j ys)) (sym (held-loading e (s .used) r))))
   step-tells (Finish d j) =
       by-outcome (Finish d j) (finishRefusals b d j) (withFor b d j (completed (entryFor b d j))) (finish-never-done b d j) (λ m.
       let s = finish-there b d j m in
@@ -162,10 +172,10 @@ module _ (b : List ℕ) (c i : ℕ) where
       let p = complete-cipher e (s .long) in
       went-on (Finish d j) d j (completed e) refl s (finish-changed b d j m) p (complete-id e (s .long))
       (held-finished (completed e) (λ z. s .used (sym p ∙ z)) (complete-ready e (s .long))
-      ∙ ap finished (complete-octets e (s .long)) ∙ ap (tells (Finish d j)) (sym (held-loading e (s .used) (finish-not-ready b d j m)))))
+      ∙ ap₂ finished (complete-name e (s .long)) (complete-octets e (s .long)) ∙ ap (tells (Finish d j)) (sym (held-loading e (s .used) (finish-not-ready b d j m)))))
   step-tells (Erase d j) =
-      by-outcome (Erase d j) (eraseRefusals b d j) (withFor b d j blank) (erase-never-done b d j) (λ m.
-      let s = erase-there b d j m in
+      by-outcome (Erase d j) (entryRefusals b d j) (withFor b d j blank) (entry-never-done b d j) (λ m.
+      let s = entry-there b d j m in
       let ch = erase-changed b d j m in
       let k = findEntry b d j in
       let after = withFor b d j blank in

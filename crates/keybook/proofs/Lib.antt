@@ -1,6 +1,7 @@
 pub mod BookLaws
 pub mod GoodLaws
 pub mod OperationLaws
+pub mod ScreenLaws
 pub mod DoneLaws
 pub mod FindLaws
 pub mod Laws
@@ -8,3 +9,5 @@ pub mod HoldLaws
 pub mod HistoryLaws
 pub mod UndoLaws
 pub mod LoadLaws
+pub mod ToldLaws
+pub mod NamingLaws

@@ -11,15 +11,16 @@ use borrow.Author.Tests.{lt-ltb, le-ltb, ltb-true, ltb-false, eq-eqb, ne-eqb, eq
 use Rattle.octets.specs.Lists.{replaced}
 use Rattle.octets.specs.Tests.{pick}
 use Rattle.answers.specs.declared.Answer.{Answer}
-use Rattle.answers.specs.declared.Answer.the-variants.{Done, WrongLength, NoEntry, NotReady, Already, Full}
+use Rattle.answers.specs.declared.Answer.the-variants.{Done, WrongLength, OutOfRange, NoEntry, NotReady, Already, Full, BadName}
 use Rattle.answers.specs.Numbers.{isDone}
 use Rattle.answers.specs.Outcomes.{Refusals, settled, outcome}
 use Rattle.answers.proofs.OutcomeLaws.{NoneHolds, neverDone, done-none, none-settles, none-first, first-refuses, around}
+use Rattle.keyentry.specs.Name.{nameOctets, nameRight}
 use Rattle.keyentry.specs.Entry.{countIn, readyIn, keyIn, inRange, blank, newEntry, extendRefusals, extended, completeRefusals, completed}
 use Rattle.sizes.specs.Ciphers.{keyRoom}
-use Rattle.keybook.specs.Book.{entries, bookOctets, entryOf, withEntry, goodBook, findEntry, freeEntry, bookRefusals}
-use Rattle.keybook.specs.Lookup.{found, lookup}
-use Rattle.keybook.specs.Operations.{hasEntry, placeRefusals, beginRefusals, beginAfter, beginOf, addRefusals, addOf, finishRefusals, finishOf, eraseRefusals, eraseOf, noKey, notReady, readyRefusals, readyKeyOf}
+use Rattle.keybook.specs.Book.{entries, bookOctets, entryOf, withEntry, goodBook, findEntry, freeEntry, badBook, bookRefusals}
+use Rattle.keybook.specs.Lookup.{found, foundBy, lookup, seeking}
+use Rattle.keybook.specs.Operations.{hasEntry, placeRefusals, beginRefusals, beginAfter, beginOf, addRefusals, addOf, finishRefusals, finishOf, entryRefusals, eraseOf, noKey, notReady, readyRefusals, readyKeyOf}
 use Rattle.keybook.specs.declared.book.Found.the-variants.{At, Missing, Refused}
 use Rattle.keyentry.proofs.RightLaws.{count-fits}
 use Rattle.keybook.proofs.GoodLaws.{good-entry}
@@ -65,17 +66,42 @@ pub record Located (b : List ℕ) (c i k : ℕ) : Type 0 where
   pub here : k ≡ findEntry b c i
   pub below : k < entries
 
--- the book's refusals, asked of the entry's number
-abbrev asked : List ℕ → ℕ → ℕ → Answer × ℕ
-asked b c i = outcome entries (bookRefusals b c i) (findEntry b c i)
+-- where these refuse the search, and none answers done
+module _ (rs : Refusals) (d : neverDone rs ≡ true) (b : List ℕ) (c i : ℕ) where
+  abbrev asked : Answer × ℕ
+  asked = outcome entries rs (findEntry b c i)
+
+  passed : isDone (asked .0) ≡ true → NoneHolds rs
+  passed = done-none rs entries (findEntry b c i) d
+
+  -- nothing refuses it, and the entry is not there
+  module _ (q : foundBy rs b c i ≡ Missing) where
+    missing-none : NoneHolds rs
+    missing-none = passed (found-missing asked q .0)
+
+    missing-has : hasEntry b c i ≡ false
+    missing-has =
+        le-ltb (findEntry b c i) entries
+        (subst (λ (o : Answer × ℕ). entries ≤ o .1) (none-settles rs entries (Done, findEntry b c i) missing-none) (found-missing asked q .1))
+
+  -- or it is
+  module _ (k : ℕ) (q : foundBy rs b c i ≡ At k) where
+    at-none : NoneHolds rs
+    at-none = passed (found-at asked k q .0)
+
+    at-below : k < entries
+    at-below = found-at asked k q .2
+
+    at-here : k ≡ findEntry b c i
+    at-here = found-at asked k q .1 ∙ ap (λ (o : Answer × ℕ). o .1) (none-settles rs entries (Done, findEntry b c i) at-none)
+
+    at-has : hasEntry b c i ≡ true
+    at-has = lt-ltb (findEntry b c i) entries (rw at-here at at-below)
 
 module _ (b : List ℕ) (c i : ℕ) where
   never-done : neverDone (bookRefusals b c i) ≡ true
   unfolding bookRefusals
   never-done = refl
-
-  passed : isDone (asked b c i .0) ≡ true → NoneHolds (bookRefusals b c i)
-  passed = done-none (bookRefusals b c i) entries (findEntry b c i) never-done
 
   pub sized-by : NoneHolds (bookRefusals b c i) → length b ≡ bookOctets
   unfolding bookRefusals
@@ -89,101 +115,112 @@ module _ (b : List ℕ) (c i : ℕ) where
   unfolding bookRefusals
   good-by n = not-false _ (n .1 .1 .0)
 
-  -- nothing refuses to look into the book, and the entry is not there
-  module _ (q : lookup b c i ≡ Missing) where
-    missing-none : NoneHolds (bookRefusals b c i)
-    unfolding lookup
-    missing-none = passed (found-missing (asked b c i) q .0)
-
-    pub missing-sized : length b ≡ bookOctets
-    missing-sized = sized-by missing-none
-
-    missing-has : hasEntry b c i ≡ false
-    unfolding lookup
-    missing-has =
-        le-ltb (findEntry b c i) entries
-        (subst (λ (o : Answer × ℕ). entries ≤ o .1) (none-settles (bookRefusals b c i) entries (Done, findEntry b c i) missing-none) (found-missing (asked b c i) q .1))
-
-  -- or it is
   module _ (k : ℕ) (q : lookup b c i ≡ At k) where
-    at-none : NoneHolds (bookRefusals b c i)
-    unfolding lookup
-    at-none = passed (found-at (asked b c i) k q .0)
-
-    pub at-here : k ≡ findEntry b c i
-    unfolding lookup
-    at-here = found-at (asked b c i) k q .1 ∙ ap (λ (o : Answer × ℕ). o .1) (none-settles (bookRefusals b c i) entries (Done, findEntry b c i) at-none)
-
     pub located : Located b c i k
     unfolding lookup
-    located = record { sized = sized-by at-none; in-range = in-range-by at-none; good = good-by at-none; here = at-here; below = found-at (asked b c i) k q .2 }
+    located =
+        let rs = bookRefusals b c i in
+        let n = at-none rs never-done b c i k q in
+        record {
+          sized = sized-by n;
+          in-range = in-range-by n;
+          good = good-by n;
+          here = at-here rs never-done b c i k q;
+          below = at-below rs never-done b c i k q;
+        }
 
     -- so the entry has room for what may be loaded
     pub lent-count : countIn (lent b k) ≤ keyRoom
     lent-count = rw (entry-lent b k) (count-fits (entryOf b k) (good-entry b (located .good) k (located .below)))
 
-    at-has : hasEntry b c i ≡ true
-    at-has = lt-ltb (findEntry b c i) entries (rw at-here at (located .below))
-
 -- ---- the ways through an operation on the entry that was found
 
 module _ {S : Type 0} (b : List ℕ) (c i : ℕ) (before : S) where
-  when-refused : (rest : Refusals) (last : Answer × S) (a : Answer) → lookup b c i ≡ Refused a → (a, before) ≡ settled before (bookRefusals b c i ++ rest) last
-  unfolding lookup
-  when-refused rest last a q =
-      let f = found-refused (asked b c i) a q in
-      sym (first-refuses (bookRefusals b c i) rest entries (findEntry b c i) before last (f .1) ∙ ap (λ (x : Answer). (x, before)) (f .0))
+  when-refused : (rs rest : Refusals) (last : Answer × S) (a : Answer) → foundBy rs b c i ≡ Refused a → (a, before) ≡ settled before (rs ++ rest) last
+  when-refused rs rest last a q =
+      let f = found-refused (outcome entries rs (findEntry b c i)) a q in
+      sym (first-refuses rs rest entries (findEntry b c i) before last (f .1) ∙ ap (λ (x : Answer). (x, before)) (f .0))
 
   pub record Ways (at : ℕ → Answer × S) (o : Answer × S) : Type 0 where
     pub refused : (a : Answer) → lookup b c i ≡ Refused a → (a, before) ≡ o
     pub missing : lookup b c i ≡ Missing → (NoEntry, before) ≡ o
     pub found : (k : ℕ) → lookup b c i ≡ At k → at k ≡ o
 
-  module _ (rs : ℕ → Refusals) (last : ℕ → Answer × S) where
+  module _ (more : ℕ → Refusals) (last : ℕ → Answer × S) where
     abbrev rest : Refusals
-    rest = (not (hasEntry b c i), NoEntry) ∷ rs (findEntry b c i)
+    rest = (not (hasEntry b c i), NoEntry) ∷ more (findEntry b c i)
 
-    ways : Ways (λ k. settled before (rs k) (last k)) (settled before (bookRefusals b c i ++ rest) (last (findEntry b c i)))
+    pub ways : Ways (λ k. settled before (more k) (last k)) (settled before (bookRefusals b c i ++ rest) (last (findEntry b c i)))
+    unfolding lookup
     ways =
+        let rs = bookRefusals b c i in
+        let d = never-done b c i in
         record {
-          refused = when-refused rest (last (findEntry b c i));
-          missing = λ q. sym (none-first (bookRefusals b c i) rest before (last (findEntry b c i)) (missing-none b c i q) ∙ rw (missing-has b c i q));
+          refused = when-refused rs rest (last (findEntry b c i));
+          missing = λ q. sym (none-first rs rest before (last (findEntry b c i)) (missing-none rs d b c i q) ∙ rw (missing-has rs d b c i q));
           found = λ k q.
-              rw (at-here b c i k q)
-              (sym (none-first (bookRefusals b c i) rest before (last (findEntry b c i)) (at-none b c i k q) ∙ rw (at-has b c i k q)));
+              rw (at-here rs d b c i k q)
+              (sym (none-first rs rest before (last (findEntry b c i)) (at-none rs d b c i k q) ∙ rw (at-has rs d b c i k q)));
         }
 
 -- ---- begin
 
-module _ (b : List ℕ) (c i : ℕ) where
-  abbrev begins : Refusals
-  begins = placeRefusals b c i
-
-  pub begin-refused : (a : Answer) → lookup b c i ≡ Refused a → (a, b) ≡ beginOf b c i
+module _ (b : List ℕ) (c i : ℕ) (n : List ℕ) where
+  pub begin-name-length : (length n ≡ nameOctets → ⊥) → (WrongLength, b) ≡ beginOf b c i n
   unfolding beginOf beginRefusals
-  begin-refused a q = when-refused b c i b begins (Done, beginAfter b c i) a q
+  begin-name-length m = rw (ne-eqb _ _ m)
 
-  pub begin-already : (k : ℕ) → lookup b c i ≡ At k → (Already, b) ≡ beginOf b c i
-  unfolding beginOf beginRefusals
-  begin-already k q = sym (none-first (bookRefusals b c i) begins b (Done, beginAfter b c i) (at-none b c i k q) ∙ rw (at-has b c i k q))
-
-  module _ (q : lookup b c i ≡ Missing) {k : ℕ} (e : k ≡ freeEntry b) where
-    missing-begins : beginOf b c i ≡ settled b begins (Done, beginAfter b c i)
+  module _ (w : length n ≡ nameOctets) where
+    pub begin-length : (length b ≡ bookOctets → ⊥) → (WrongLength, b) ≡ beginOf b c i n
     unfolding beginOf beginRefusals
-    missing-begins = none-first (bookRefusals b c i) begins b (Done, beginAfter b c i) (missing-none b c i q)
+    begin-length m = rw (eq-eqb _ _ w, ne-eqb _ _ m)
 
-    pub begin-full : entries ≤ k → (Full, b) ≡ beginOf b c i
-    begin-full l = sym (missing-begins ∙ rw (missing-has b c i q, ← e, le-ltb _ _ l))
+    module _ (h : length b ≡ bookOctets) where
+      pub begin-range : inRange c i ≡ false → (OutOfRange, b) ≡ beginOf b c i n
+      unfolding beginOf beginRefusals
+      begin-range r = rw (eq-eqb _ _ w, eq-eqb _ _ h, r)
 
-    pub begin-done : k < entries → (Done, withEntry b k (newEntry c i)) ≡ beginOf b c i
-    unfolding beginAfter
-    begin-done l = sym (missing-begins ∙ rw (missing-has b c i q, ← e, lt-ltb _ _ l))
+      module _ (r : inRange c i ≡ true) where
+        pub begin-bad-name : nameRight n ≡ false → (BadName, b) ≡ beginOf b c i n
+        unfolding beginOf beginRefusals
+        begin-bad-name t = rw (eq-eqb _ _ w, eq-eqb _ _ h, r, t)
+
+        module _ (t : nameRight n ≡ true) where
+          abbrev begins : Refusals
+          begins = placeRefusals b c i
+
+          named-begins : beginOf b c i n ≡ settled b (badBook b ++ begins) (Done, beginAfter b c i n)
+          unfolding beginOf beginRefusals
+          named-begins = rw (eq-eqb _ _ w, eq-eqb _ _ h, r, t)
+
+          pub begin-refused : (a : Answer) → seeking b c i ≡ Refused a → (a, b) ≡ beginOf b c i n
+          unfolding seeking
+          begin-refused a q = when-refused b c i b (badBook b) begins (Done, beginAfter b c i n) a q ∙ sym named-begins
+
+          pub begin-already : (k : ℕ) → seeking b c i ≡ At k → (Already, b) ≡ beginOf b c i n
+          unfolding seeking
+          begin-already k q =
+              sym (named-begins ∙ none-first (badBook b) begins b (Done, beginAfter b c i n) (at-none (badBook b) refl b c i k q)
+              ∙ rw (at-has (badBook b) refl b c i k q))
+
+          module _ (q : seeking b c i ≡ Missing) {k : ℕ} (e : k ≡ freeEntry b) where
+            missing-begins : beginOf b c i n ≡ settled b begins (Done, beginAfter b c i n)
+            unfolding seeking
+            missing-begins = named-begins ∙ none-first (badBook b) begins b (Done, beginAfter b c i n) (missing-none (badBook b) refl b c i q)
+
+            pub begin-full : entries ≤ k → (Full, b) ≡ beginOf b c i n
+            unfolding seeking
+            begin-full l = sym (missing-begins ∙ rw (missing-has (badBook b) refl b c i q, ← e, le-ltb _ _ l))
+
+            pub begin-done : k < entries → (Done, withEntry b k (newEntry c i n)) ≡ beginOf b c i n
+            unfolding seeking beginAfter
+            begin-done l = sym (missing-begins ∙ rw (missing-has (badBook b) refl b c i q, ← e, lt-ltb _ _ l))
 
 -- ---- an operation on the entry that was found is one on the book
 
 module _ (b : List ℕ) (c i : ℕ) where
   pub erase-ways : Ways b c i b (λ k. (Done, withEntry b k blank)) (eraseOf b c i)
-  unfolding eraseOf eraseRefusals
+  unfolding eraseOf entryRefusals
   erase-ways = ways b c i b (λ k. []) (λ k. (Done, withEntry b k blank))
 
   pub finish-ways : Ways b c i b (λ k. outcome b (completeRefusals (entryOf b k)) (withEntry b k (completed (entryOf b k)))) (finishOf b c i)

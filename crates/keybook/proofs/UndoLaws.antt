@@ -11,16 +11,16 @@ use Rattle.octets.specs.Lists.{replaced}
 use Rattle.answers.specs.declared.Answer.{Answer}
 use Rattle.answers.specs.declared.Answer.the-variants.{Done}
 use Rattle.answers.specs.Numbers.{isDone}
-use Rattle.answers.proofs.OutcomeLaws.{NoneHolds, none-left, done-none, none-settles}
+use Rattle.answers.proofs.OutcomeLaws.{NoneHolds, done-none, none-settles}
 use Rattle.keyentry.specs.Entry.{entryOctets, cipherIn, isReady, inRange, isFor, blank, newEntry, extended, completed}
 use Rattle.keyentry.proofs.RightLaws.{free-zero, parts-for}
 use Rattle.keyentry.proofs.WriteLaws.{in-range-used, blank-length, blank-cipher, blank-right, new-cipher, new-id, extend-cipher, extend-id, complete-cipher, complete-id, complete-ready}
 use Rattle.keybook.specs.Book.{entries, bookOctets, entryOf, withEntry, goodBook, findEntry, freeEntry, bookRefusals}
-use Rattle.keybook.specs.Operations.{entryFor, withFor, placeRefusals, beginRefusals, beginAfter, beginOf, addRefusals, addOf, finishRefusals, finishOf, eraseRefusals, eraseOf}
+use Rattle.keybook.specs.Operations.{entryFor, withFor, beginRefusals, beginAfter, beginOf, addRefusals, addOf, finishRefusals, finishOf, entryRefusals, eraseOf}
 use Rattle.keybook.proofs.BookLaws.{entry-length}
 use Rattle.keybook.proofs.GoodLaws.{good-sized, good-entry, find-is, entry-same, entry-other}
-use Rattle.keybook.proofs.OperationLaws.{in-range-by, with-same}
-use Rattle.keybook.proofs.DoneLaws.{Changed, begin-never-done, add-never-done, finish-never-done, begin-changed, add-there, add-fits, add-changed, finish-there, finish-changed}
+use Rattle.keybook.proofs.OperationLaws.{with-same}
+use Rattle.keybook.proofs.DoneLaws.{Changed, begin-never-done, add-never-done, finish-never-done, begin-in-range, begin-changed, add-there, add-fits, add-changed, finish-there, finish-changed}
 use Rattle.keybook.proofs.Laws.{begin-takes-first-free}
 
 -- an entry replaced twice is replaced once
@@ -36,7 +36,7 @@ with-again b k e f h l w =
     rw (take-at (take a b) (e ++ rest) a front, past)
 
 -- a free entry of a good book is blank
-free-blank : (b : List ℕ) (k : ℕ) → goodBook b ≡ true → k < entries → cipherIn (entryOf b k) ≡ 0 → entryOf b k ≡ blank
+pub free-blank : (b : List ℕ) (k : ℕ) → goodBook b ≡ true → k < entries → cipherIn (entryOf b k) ≡ 0 → entryOf b k ≡ blank
 free-blank b k g l z =
     ext-getD 0 (entryOf b k) blank (entry-length b k (good-sized b g) l ∙ sym blank-length)
     (λ j m. free-zero (entryOf b k) z (good-entry b g k l) j ∙ sym (free-zero blank blank-cipher blank-right j))
@@ -71,7 +71,7 @@ module _ {b : List ℕ} {c i k : ℕ} {e after : List ℕ} (m : Begun b c i k e 
       ∙ ap (withEntry b k) (sym (free-blank b k (m .changed .was-good) (m .changed .below) (m .free))) ∙ with-same b k
 
   pub begun-erased : eraseOf after c i ≡ (Done, b)
-  unfolding eraseOf eraseRefusals bookRefusals
+  unfolding eraseOf entryRefusals bookRefusals
   begun-erased = rw (eq-eqb _ _ (good-sized after begun-good), m .in-range, begun-good, begun-found, lt-ltb _ _ (m .changed .below), undone)
 
   -- with another entry for the same in its place
@@ -121,16 +121,19 @@ module _ {b : List ℕ} {c i k : ℕ} {e after : List ℕ} (m : Begun b c i k e 
     pub finish-ready : isReady (completed (entryFor after c i)) ≡ true
     finish-ready = complete-ready (entryFor after c i) (finish-there after c i none-finishes .long)
 
-pub begun-begin : (b : List ℕ) (c i : ℕ) → isDone (beginOf b c i .0) ≡ true → Begun b c i (freeEntry b) (newEntry c i) (beginOf b c i .1)
-unfolding beginOf beginRefusals
-begun-begin b c i d =
-    let n = done-none (beginRefusals b c i) b (beginAfter b c i) (begin-never-done b c i) d in
-    let ch = begin-changed b c i n in
-    let at : beginOf b c i .0 ≡ Done = ap (λ (o : Answer × List ℕ). o .0) (none-settles (beginRefusals b c i) b (Done, beginAfter b c i) n) in
-    rw (none-settles (beginRefusals b c i) b (Done, beginAfter b c i) n)
+pub begun-begin : (b : List ℕ) (c i : ℕ) (name : List ℕ) → isDone (beginOf b c i name .0) ≡ true
+    → Begun b c i (freeEntry b) (newEntry c i name) (beginOf b c i name .1)
+unfolding beginOf
+begun-begin b c i name d =
+    let rs = beginRefusals b c i name in
+    let n = done-none rs b (beginAfter b c i name) (begin-never-done b c i name) d in
+    let ch = begin-changed b c i name n in
+    let settled = none-settles rs b (Done, beginAfter b c i name) n in
+    let at : beginOf b c i name .0 ≡ Done = ap (λ (o : Answer × List ℕ). o .0) settled in
+    rw settled
     (record {
       changed = ch;
-      free = begin-takes-first-free b c i at .0 .free;
-      its = parts-for (newEntry c i) c i (new-cipher c i) (new-id c i);
-      in-range = in-range-by b c i (none-left (bookRefusals b c i) (placeRefusals b c i) n);
+      free = begin-takes-first-free b c i name at .0 .free;
+      its = parts-for (newEntry c i name) c i (new-cipher c i name) (new-id c i name);
+      in-range = begin-in-range b c i name n;
     })

@@ -45,7 +45,10 @@ goodBook b = eqb (length b) bookOctets && allBelow (λ k. entryRight (entryOf b 
 
 -- ---- what every operation asks first
 
+-- 4
+abbrev pub badBook : List ℕ → Refusals
+badBook b = (not (goodBook b), Bad) ∷ []
+
 -- 2, 3, 4
 unfoldable pub bookRefusals : List ℕ → ℕ → ℕ → Refusals
-bookRefusals b c i =
-    (not (eqb (length b) bookOctets), WrongLength) ∷ (not (inRange c i), OutOfRange) ∷ (not (goodBook b), Bad) ∷ []
+bookRefusals b c i = (not (eqb (length b) bookOctets), WrongLength) ∷ (not (inRange c i), OutOfRange) ∷ badBook b

@@ -1,4 +1,5 @@
 pub mod Book
 pub mod Lookup
 pub mod Operations
+pub mod Screen
 pub mod History

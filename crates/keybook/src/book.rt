@@ -4,7 +4,7 @@ ghost use Prim.Native.Nat.{_<_};
 ghost use lib.ListN.{length};
 ghost use Rattle.keyentry.specs.Entry.{entryOctets};
 ghost use Rattle.keybook.specs.Book.{entries, bookOctets, entryOf, apart, goodBook, findEntry, freeEntry};
-ghost use Rattle.keybook.specs.Lookup.{lookup};
+ghost use Rattle.keybook.specs.Lookup.{lookup, seeking};
 use crate::BOOK_OCTETS;
 use answers::Answer;
 use keyentry::CIPHER;
@@ -71,7 +71,7 @@ fn is_apart(book: &[u8], k: usize) -> bool
     find(book, e[CIPHER], e[ID]) == k
 }
 
-fn good_book(book: &[u8]) -> bool
+pub fn good_book(book: &[u8]) -> bool
     ensures { λ r. ⌜ r ≡ goodBook (now (book .entry)) ⌝ }
 {
     if book.len() != BOOK_OCTETS {
@@ -99,6 +99,20 @@ pub enum Found {
     Refused(Answer),
 }
 
+// Of a book whose length was asked, and numbers whose range was.
+pub fn seek(book: &[u8], cipher: u8, id: u8) -> Found
+    ensures { λ r. ⌜ r ≡ seeking (now (book .entry)) cipher id ⌝ }
+{
+    if !good_book(book) {
+        return Found::Refused(Answer::Bad);
+    }
+    let k = find(book, cipher, id);
+    if k < ENTRIES {
+        return Found::At(k);
+    }
+    Found::Missing
+}
+
 pub fn look(book: &[u8], cipher: u8, id: u8) -> Found
     ensures { λ r. ⌜ r ≡ lookup (now (book .entry)) cipher id ⌝ }
 {
@@ -108,12 +122,5 @@ pub fn look(book: &[u8], cipher: u8, id: u8) -> Found
     if !in_range(cipher, id) {
         return Found::Refused(Answer::OutOfRange);
     }
-    if !good_book(book) {
-        return Found::Refused(Answer::Bad);
-    }
-    let k = find(book, cipher, id);
-    if k < ENTRIES {
-        return Found::At(k);
-    }
-    Found::Missing
+    seek(book, cipher, id)
 }

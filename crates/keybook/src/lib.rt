@@ -1,4 +1,4 @@
-// The key book: begin, add, finish and erase on a lent buffer of 16 entries, and the key of a ready entry.
+// The key book: begin, add, finish and erase on a lent buffer of 16 entries, and the key of a ready entry. What a screen shows of it is in screen.rt.
 // No operation requires anything of what it is lent: each refuses what it cannot use, by document 01's number.
 ghost use mathlib.Core.Path.{_≡_};
 ghost use lib.ListN.{length};
@@ -10,26 +10,43 @@ use crate::book::Found;
 use crate::book::entry;
 use crate::book::free;
 use crate::book::look;
+use crate::book::seek;
 use answers::Answer;
 use keyentry::ENTRY_OCTETS;
 use keyentry::READY;
 use keyentry::clear;
 use keyentry::complete;
 use keyentry::extend;
+use keyentry::in_range;
 use keyentry::key;
+use keyentry::names::NAME_OCTETS;
+use keyentry::names::name_right;
 use keyentry::write_new;
 use octets::copy;
 use sizes::cipher::KEY_ROOM;
 
 mod book;
+pub mod screen;
 
 pub const BOOK_OCTETS: usize = ENTRIES * ENTRY_OCTETS;
 
-// Takes the free entry nearest the start for a cipher and key ID.
-pub fn begin(book: &mut [u8], cipher: u8, id: u8) -> Answer
-    ensures { λ r. ⌜ (r, now (book .exit)) ≡ beginOf (now (book .entry)) cipher id ⌝ }
+// Takes the free entry nearest the start for a cipher and key ID, and names it.
+pub fn begin(book: &mut [u8], cipher: u8, id: u8, name: &[u8]) -> Answer
+    ensures { λ r. ⌜ (r, now (book .exit)) ≡ beginOf (now (book .entry)) cipher id (now (name .entry)) ⌝ }
 {
-    match look(book, cipher, id) {
+    if name.len() != NAME_OCTETS {
+        return Answer::WrongLength;
+    }
+    if book.len() != BOOK_OCTETS {
+        return Answer::WrongLength;
+    }
+    if !in_range(cipher, id) {
+        return Answer::OutOfRange;
+    }
+    if !name_right(name) {
+        return Answer::BadName;
+    }
+    match seek(book, cipher, id) {
         Found::Refused(a) => a,
         Found::At(_) => Answer::Already,
         Found::Missing => {
@@ -38,7 +55,7 @@ pub fn begin(book: &mut [u8], cipher: u8, id: u8) -> Answer
                 return Answer::Full;
             }
             let a = first * ENTRY_OCTETS;
-            write_new(&mut book[a..a + ENTRY_OCTETS], cipher, id);
+            write_new(&mut book[a..a + ENTRY_OCTETS], cipher, id, name);
             Answer::Done
         }
     }
@@ -91,10 +108,10 @@ pub fn erase(book: &mut [u8], cipher: u8, id: u8) -> Answer
 }
 
 // A key at once: begun, added and finished, or nothing of it left.
-pub fn load(book: &mut [u8], cipher: u8, id: u8, key: &[u8]) -> Answer
-    ensures { λ r. ⌜ (r, now (book .exit)) ≡ loadOf (now (book .entry)) cipher id (now (key .entry)) ⌝ }
+pub fn load(book: &mut [u8], cipher: u8, id: u8, name: &[u8], key: &[u8]) -> Answer
+    ensures { λ r. ⌜ (r, now (book .exit)) ≡ loadOf (now (book .entry)) cipher id (now (name .entry)) (now (key .entry)) ⌝ }
 {
-    let begun = begin(book, cipher, id);
+    let begun = begin(book, cipher, id, name);
     if begun.number() != 0 {
         return begun;
     }

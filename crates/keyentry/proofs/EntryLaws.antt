@@ -3,19 +3,20 @@ use Prim.Native.Nat.{ℕ, _+_, _-_, _≤_, _<_}
 use native.Mathlib.Nat.{le-refl}
 use mathlib.Core.Path.{_≡_, ap, _∙_}
 use mathlib.Core.Bool.{true, false}
-use mathlib.Core.List.{List}
+use mathlib.Core.List.{List, append-nil}
 use lib.ListN.{length, set, take, drop, length-drop}
 use lib.Seq.{take-all}
 use borrow.Author.Tests.{lt-ltb, le-ltb, le-leb, lt-leb, eq-eqb, ne-eqb}
 use borrow.Rule.Slice.PartMut.{putMid}
-use Rattle.octets.specs.Lists.{allZero}
+use Rattle.octets.specs.Lists.{allZero, replaced}
 use Rattle.octets.proofs.Parts.{put-replaced}
 use Rattle.sizes.specs.Ciphers.{keyOctets}
 use Rattle.ciphers.specs.Keys.{keyAllowed}
 use Rattle.answers.specs.declared.Answer.{Answer}
 use Rattle.answers.specs.declared.Answer.the-variants.{Done, NotReady, NotAllowed, Already, TooMany}
 use Rattle.answers.specs.Outcomes.{outcome}
-use Rattle.keyentry.specs.Entry.{cipherIn, idIn, countIn, countPlace, readyPlace, readyIn, keyPlace, keyIn, keyRest, inRange, lacks, readyRight, usedRight, blank, newEntry, extendRefusals, extended, completeRefusals, completed}
+use Rattle.keyentry.specs.Name.{nameOctets, nameRight}
+use Rattle.keyentry.specs.Entry.{entryOctets, cipherIn, idIn, countIn, countPlace, readyPlace, readyIn, keyPlace, keyIn, keyRest, nameIn, namePlace, inRange, lacks, readyRight, usedRight, blank, newEntry, extendRefusals, extended, completeRefusals, completed}
 
 module _ (e : List ℕ) where
   pub ready-none : readyIn e ≡ 0 → true ≡ readyRight e
@@ -51,13 +52,27 @@ module _ (e : List ℕ) where
     unfolding usedRight
     used-rest n z = rw (h, le-leb _ _ n, z)
 
-    pub used-ready : countIn e ≤ keyOctets (cipherIn e) → allZero (keyRest e) ≡ true → readyRight e ≡ usedRight e
-    unfolding usedRight
-    used-ready n z = rw (h, le-leb _ _ n, z)
+    module _ (n : countIn e ≤ keyOctets (cipherIn e)) (z : allZero (keyRest e) ≡ true) where
+      pub used-ready : readyRight e ≡ false → false ≡ usedRight e
+      unfolding usedRight
+      used-ready r = rw (h, le-leb _ _ n, z, r)
 
-pub new-written : {e : List ℕ} (c i : ℕ) → e ≡ blank → set (set e 0 c) 1 i ≡ newEntry c i
-unfolding blank newEntry
-new-written {e} c i q = rw q
+      pub used-name : {n : List ℕ} → readyRight e ≡ true → n ≡ nameIn e → nameRight n ≡ usedRight e
+      unfolding usedRight
+      used-name r q = rw (h, le-leb _ _ n, z, r, q)
+
+-- a blank entry has room for a name
+pub name-fits : {e : List ℕ} (c i : ℕ) → e ≡ blank → entryOctets ≤ length (set (set e 0 c) 1 i)
+unfolding blank
+name-fits c i q = rw q (le-refl entryOctets)
+
+-- what the borrow checker says of a blank entry whose name was lent and came back as n
+pub new-written : {e n m : List ℕ} (c i : ℕ) → e ≡ blank → n ≡ m
+    → putMid namePlace (entryOctets - namePlace) (set (set e 0 c) 1 i) n ≡ newEntry c i m
+unfolding blank newEntry replaced
+new-written {e} {n} {m} c i q p =
+    ap (λ (l : List ℕ). putMid namePlace (entryOctets - namePlace) (set (set l 0 c) 1 i) n) q
+    ∙ put-replaced (set (set blank 0 c) 1 i) n namePlace nameOctets ∙ rw (p, append-nil)
 
 pub appended : {p : List ℕ} (e xs : List ℕ) {n : ℕ} → n ≡ countIn e → p ≡ xs
     → set (putMid (keyPlace + n) (keyPlace + n + length xs - (keyPlace + n)) e p) countPlace (n + length xs) ≡ extended e xs

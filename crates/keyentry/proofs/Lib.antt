@@ -1,3 +1,4 @@
 pub mod EntryLaws
 pub mod RightLaws
+pub mod NameLaws
 pub mod WriteLaws

@@ -10,9 +10,10 @@ use lib.Dec.{leb, eqb}
 use borrow.Author.Tests.{le-leb, leb-true, eq-eqb, ne-eqb, eqb-true}
 use Rattle.octets.specs.Lists.{allZero}
 use Rattle.sizes.proofs.SizeLaws.{key-at-most}
-use Rattle.octets.proofs.TestLaws.{all-at, and-left, and-right}
+use Rattle.octets.proofs.TestLaws.{all-at, all-intro, and-left, and-right}
 use Rattle.sizes.specs.Ciphers.{keyOctets, keyRoom}
-use Rattle.keyentry.specs.Entry.{cipherIn, idIn, countIn, countPlace, keyRest, inRange, readyRight, usedRight, entryRight, isFor}
+use Rattle.keyentry.specs.Entry.{cipherIn, idIn, countIn, countPlace, keyRest, nameIn, inRange, readyRight, usedRight, entryRight, isFor}
+use Rattle.keyentry.specs.Name.{nameRight}
 
 pub zero-at : (xs : List ℕ) → allZero xs ≡ true → (j : ℕ) → getD xs j 0 ≡ 0
 unfolding allZero
@@ -22,11 +23,16 @@ zero-at xs z j = go (decLt j (length xs))
     go (yes l) = eqb-true _ _ (all-at (λ i. eqb (getD xs i 0) 0) (length xs) j l z)
     go (no n) = List·getD-eq-default xs 0 (omega arith)
 
+pub zeros : (xs : List ℕ) → ((j : ℕ) → getD xs j 0 ≡ 0) → allZero xs ≡ true
+unfolding allZero
+zeros xs h = all-intro (λ j. eqb (getD xs j 0) 0) (length xs) (λ j l. eq-eqb _ _ (h j))
+
 pub record Used (e : List ℕ) : Type 0 where
   pub range : inRange (cipherIn e) (idIn e) ≡ true
   pub count : countIn e ≤ keyOctets (cipherIn e)
   pub rest : allZero (keyRest e) ≡ true
   pub ready : readyRight e ≡ true
+  pub name : nameRight (nameIn e) ≡ true
 
 module _ (e : List ℕ) where
   pub used-of : (cipherIn e ≡ 0 → ⊥) → entryRight e ≡ true → Used e
@@ -35,16 +41,18 @@ module _ (e : List ℕ) where
       let u : usedRight e ≡ true = rw (ne-eqb (cipherIn e) 0 n) at r in
       let v = and-right (inRange (cipherIn e) (idIn e)) _ u in
       let w = and-right (leb (countIn e) (keyOctets (cipherIn e))) _ v in
+      let x = and-right (allZero (keyRest e)) _ w in
       record {
         range = and-left (inRange (cipherIn e) (idIn e)) _ u;
         count = leb-true _ _ (and-left (leb (countIn e) (keyOctets (cipherIn e))) _ v);
         rest = and-left (allZero (keyRest e)) _ w;
-        ready = and-right (allZero (keyRest e)) _ w;
+        ready = and-left (readyRight e) _ x;
+        name = and-right (readyRight e) _ x;
       }
 
   pub of-used : (cipherIn e ≡ 0 → ⊥) → Used e → entryRight e ≡ true
   unfolding entryRight usedRight
-  of-used n u = rw (ne-eqb (cipherIn e) 0 n, u .range, le-leb _ _ (u .count), u .rest, u .ready)
+  of-used n u = rw (ne-eqb (cipherIn e) 0 n, u .range, le-leb _ _ (u .count), u .rest, u .ready, u .name)
 
   pub free-zero : cipherIn e ≡ 0 → entryRight e ≡ true → (j : ℕ) → getD e j 0 ≡ 0
   unfolding entryRight

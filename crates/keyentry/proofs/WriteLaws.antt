@@ -6,18 +6,19 @@ use mathlib.Core.Path.{_≡_, refl, sym, ap, ap₂, _∙_}
 use mathlib.Core.Bool.{true, false, _&&_}
 use mathlib.Core.List.{List, [], _++_}
 use lib.ListN.{length, getD, take, drop, length-append, length-drop, length-set, List·getD-append, List·getD-eq-default}
-use lib.Seq.{length-take-le, getD-take, getD-drop, getD-append-add, getD-set-same, getD-set-other, drop-set-lt, ext-getD}
+use lib.Seq.{take-all, length-take-le, getD-take, getD-drop, getD-append-add, getD-set-same, getD-set-other, drop-set-lt, ext-getD}
 use lib.Dec.{leb, eqb, leb·zero}
 use borrow.Author.Tests.{leb-true, eq-eqb, ne-eqb, eqb-true, eqb-false}
 use Rattle.octets.specs.Lists.{allZero, replaced}
-use Rattle.octets.proofs.Parts.{replaced-length, replaced-before, replaced-in, replaced-after}
+use Rattle.octets.proofs.Parts.{replaced-length, replaced-before, replaced-in, replaced-after, replaced-apart}
 use Rattle.sizes.proofs.SizeLaws.{key-at-most}
 use Rattle.octets.specs.Tests.{allBelow}
-use Rattle.octets.proofs.TestLaws.{all-intro, and-left, and-right}
+use Rattle.octets.proofs.TestLaws.{and-left, and-right}
 use Rattle.sizes.specs.Ciphers.{keyOctets, keyRoom}
 use Rattle.ciphers.specs.Keys.{keyAllowed}
-use Rattle.keyentry.specs.Entry.{entryOctets, cipherIn, idIn, countPlace, countIn, readyPlace, readyIn, isReady, keyPlace, keyIn, keyRest, inRange, lacks, readyRight, usedRight, entryRight, blank, newEntry, extended, completed}
-use Rattle.keyentry.proofs.RightLaws.{zero-at, Used}
+use Rattle.keyentry.specs.Name.{nameOctets, noName, nameRight}
+use Rattle.keyentry.specs.Entry.{entryOctets, cipherIn, idIn, countPlace, countIn, readyPlace, readyIn, isReady, keyPlace, keyIn, keyRest, namePlace, nameIn, inRange, lacks, readyRight, usedRight, entryRight, blank, newEntry, extended, completed}
+use Rattle.keyentry.proofs.RightLaws.{zero-at, zeros, Used}
 
 -- the octets of the key that are loaded
 abbrev pub keyLoaded : List ℕ → List ℕ
@@ -33,6 +34,10 @@ pub blank-cipher : cipherIn blank ≡ 0
 unfolding blank
 blank-cipher = refl
 
+pub blank-name : nameIn blank ≡ noName
+unfolding blank noName
+blank-name = refl
+
 pub blank-right : entryRight blank ≡ true
 unfolding blank entryRight allZero allBelow
 blank-right = refl
@@ -41,30 +46,35 @@ pub in-range-used : (c i : ℕ) → inRange c i ≡ true → c ≡ 0 → ⊥
 unfolding inRange
 in-range-used c i n z = let l : 1 ≤ c = leb-true _ _ (and-left (leb 1 c) _ n) in omega arith
 
-module _ (c i : ℕ) where
-  pub new-length : length (newEntry c i) ≡ entryOctets
-  unfolding newEntry
-  new-length = refl
-
-  pub new-cipher : cipherIn (newEntry c i) ≡ c
+module _ (c i : ℕ) (n : List ℕ) where
+  pub new-cipher : cipherIn (newEntry c i n) ≡ c
   unfolding newEntry
   new-cipher = refl
 
-  pub new-id : idIn (newEntry c i) ≡ i
+  pub new-id : idIn (newEntry c i n) ≡ i
   unfolding newEntry
   new-id = refl
 
-  pub new-octets : keyLoaded (newEntry c i) ≡ []
+  pub new-octets : keyLoaded (newEntry c i n) ≡ []
   unfolding newEntry
   new-octets = refl
 
-  pub new-not-ready : isReady (newEntry c i) ≡ false
+  pub new-not-ready : isReady (newEntry c i n) ≡ false
   unfolding newEntry
   new-not-ready = refl
 
-  pub new-right : inRange c i ≡ true → entryRight (newEntry c i) ≡ true
-  unfolding newEntry entryRight usedRight readyRight allZero allBelow
-  new-right n = rw (ne-eqb c 0 (in-range-used c i n), n, leb·zero)
+  module _ (w : length n ≡ nameOctets) where
+    pub new-length : length (newEntry c i n) ≡ entryOctets
+    unfolding newEntry
+    new-length = rw w
+
+    pub new-name : nameIn (newEntry c i n) ≡ n
+    unfolding newEntry
+    new-name = take-all nameOctets n (omega arith)
+
+    pub new-right : inRange c i ≡ true → nameRight n ≡ true → entryRight (newEntry c i n) ≡ true
+    unfolding newEntry entryRight usedRight readyRight allZero allBelow
+    new-right r t = rw (ne-eqb c 0 (in-range-used c i r), r, leb·zero, new-name, t)
 
 -- ---- octets of the key
 
@@ -75,12 +85,11 @@ module _ (e : List ℕ) (w : length e ≡ entryOctets) where
   pub key-length : length (keyIn e) ≡ keyRoom
   key-length = length-take-le keyRoom (drop keyPlace e) (simp (length-drop, w) (omega arith))
 
+  pub name-length : length (nameIn e) ≡ nameOctets
+  name-length = length-take-le nameOctets (drop namePlace e) (simp (length-drop, w) (omega arith))
+
   pub loaded-count : countIn e ≤ keyRoom → length (keyLoaded e) ≡ countIn e
   loaded-count l = length-take-le (countIn e) (keyIn e) (rw key-length l)
-
-zeros : (xs : List ℕ) → ((j : ℕ) → getD xs j 0 ≡ 0) → allZero xs ≡ true
-unfolding allZero
-zeros xs h = all-intro (λ j. eqb (getD xs j 0) 0) (length xs) (λ j l. eq-eqb _ _ (h j))
 
 -- ---- ready or not
 
@@ -170,6 +179,12 @@ module _ (e xs : List ℕ) (w : length e ≡ entryOctets) (u : Used e) (m : leng
           ∙ zero-at (keyRest e) (u .rest) (length xs + j)
       go (no a) = List·getD-eq-default (keyIn (extended e xs)) 0 (rw (key-length (extended e xs) extend-length) (omega arith))
 
+  pub extend-name : nameIn (extended e xs) ≡ nameIn e
+  unfolding extended
+  extend-name =
+      ap (take nameOctets) (drop-set-lt namePlace (replaced e at (length xs) xs) countPlace (countIn e + length xs) (omega arith))
+      ∙ replaced-apart e xs at (length xs) refl fits namePlace nameOctets (λ i l a b. omega (arith, in-room))
+
   -- the octets that are there, and then these
   pub extend-octets : keyLoaded (extended e xs) ≡ keyLoaded e ++ xs
   extend-octets =
@@ -217,6 +232,7 @@ module _ (e xs : List ℕ) (w : length e ≡ entryOctets) (u : Used e) (m : leng
           count = rw (extend-count, extend-cipher) extend-fits;
           rest = zeros (keyRest (extended e xs)) extend-rest;
           ready = still;
+          name = rw extend-name (u .name);
         }
 
 -- ---- the entry is marked ready
@@ -243,6 +259,10 @@ module _ (e : List ℕ) (w : length e ≡ entryOctets) where
   unfolding completed
   complete-key = ap (λ (l : List ℕ). take keyRoom l) (drop-set-lt keyPlace e readyPlace 1 (omega arith))
 
+  pub complete-name : nameIn (completed e) ≡ nameIn e
+  unfolding completed
+  complete-name = ap (take nameOctets) (drop-set-lt namePlace e readyPlace 1 (omega arith))
+
   pub complete-octets : keyLoaded (completed e) ≡ keyLoaded e
   complete-octets = ap₂ (λ (n : ℕ) (l : List ℕ). take n l) complete-count complete-key
 
@@ -259,4 +279,5 @@ module _ (e : List ℕ) (w : length e ≡ entryOctets) where
         count = rw (complete-count, complete-cipher) (u .count);
         rest = rw (complete-count, complete-key) (u .rest);
         ready = rw (one, complete-cipher, complete-count, z, complete-key, a);
+        name = rw complete-name (u .name);
       }

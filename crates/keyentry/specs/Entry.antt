@@ -1,7 +1,7 @@
--- One entry of the key book (document 01, "The key book"): its octets, its rules, and what is written into it.
+-- One entry of the key book (document 01, "The key book"; document 02, W-201): its octets, its rules, and what is written into it.
 use Prim.Native.Nat.{ℕ, _+_, _-_}
 use mathlib.Core.Bool.{Bool, _&&_, _||_, not}
-use mathlib.Core.List.{List, [], _∷_}
+use mathlib.Core.List.{List, [], _∷_, _++_}
 use lib.ListN.{length, getD, set, take, drop, replicate}
 use lib.Dec.{ltb, leb, eqb}
 use Rattle.octets.specs.Lists.{replaced, allZero}
@@ -10,11 +10,12 @@ use Rattle.sizes.specs.Ciphers.{keyOctets, keyRoom}
 use Rattle.ciphers.specs.Keys.{keyAllowed}
 use Rattle.answers.specs.declared.Answer.the-variants.{NotReady, NotAllowed, Already, TooMany}
 use Rattle.answers.specs.Outcomes.{Refusals}
+use Rattle.keyentry.specs.Name.{nameOctets, nameRight}
 
 -- ---- its octets
 
 abbrev pub entryOctets : ℕ
-entryOctets = 36
+entryOctets = 52
 
 -- octet 0: cipher type (0 marks a free entry)
 abbrev pub cipherIn : List ℕ → ℕ
@@ -52,6 +53,13 @@ keyIn e = take keyRoom (drop keyPlace e)
 abbrev pub keyRest : List ℕ → List ℕ
 keyRest e = drop (countIn e) (keyIn e)
 
+-- 36 to 51: the name
+abbrev pub namePlace : ℕ
+namePlace = 36
+
+abbrev pub nameIn : List ℕ → List ℕ
+nameIn e = take nameOctets (drop namePlace e)
+
 -- ---- its rules
 
 abbrev pub mostId : ℕ
@@ -78,8 +86,10 @@ usedRight e =
     && (leb (countIn e) (keyOctets (cipherIn e))
     -- key octets past the count are zero,
     && (allZero (keyRest e)
-    -- and a ready entry has its full, allowed key
-    && readyRight e))
+    -- a ready entry has its full, allowed key,
+    && (readyRight e
+    -- and the name is right
+    && nameRight (nameIn e))))
 
 -- a free entry is all zero
 unfoldable pub entryRight : List ℕ → Bool
@@ -95,9 +105,9 @@ isFor c i e = eqb (cipherIn e) c && eqb (idIn e) i
 unfoldable pub blank : List ℕ
 blank = replicate entryOctets 0
 
--- an entry for which no key octet is loaded
-unfoldable pub newEntry : ℕ → ℕ → List ℕ
-newEntry c i = c ∷ i ∷ replicate (entryOctets - 2) 0
+-- an entry for which no key octet is loaded, with its name
+unfoldable pub newEntry : ℕ → ℕ → List ℕ → List ℕ
+newEntry c i n = c ∷ i ∷ 0 ∷ 0 ∷ (replicate keyRoom 0 ++ n)
 
 -- add puts key octets after those that are there, and counts them; refused by 11, 13
 unfoldable pub extendRefusals : List ℕ → List ℕ → Refusals

@@ -1,1 +1,2 @@
+pub mod Name
 pub mod Entry

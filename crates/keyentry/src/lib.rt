@@ -4,8 +4,11 @@ ghost use Prim.Native.Nat.{_≤_};
 ghost use lib.ListN.{length};
 ghost use Rattle.answers.specs.Outcomes.{outcome};
 ghost use Rattle.octets.specs.Lists.{allZero};
-ghost use Rattle.keyentry.specs.Entry.{entryOctets, countIn, keyIn, keyRest, inRange, lacks, readyRight, usedRight, entryRight, isFor, blank, newEntry, extendRefusals, extended, completeRefusals, completed};
+ghost use Rattle.keyentry.specs.Entry.{entryOctets, countIn, keyIn, keyRest, inRange, lacks, readyRight, usedRight, entryRight, isFor, nameIn, blank, newEntry, extendRefusals, extended, completeRefusals, completed};
+ghost use Rattle.keyentry.specs.Name.{nameOctets};
 ghost use Rattle.sizes.specs.Ciphers.{keyRoom};
+use crate::names::NAME_OCTETS;
+use crate::names::name_right;
 use answers::Answer;
 use ciphers::key::key_allowed;
 use octets::all_zero;
@@ -16,8 +19,7 @@ use sizes::cipher::KEY_ROOM;
 use sizes::cipher::Scramble;
 use sizes::cipher::key_octets;
 
-// Only clear, and the rule that a free entry is all zero, look past KEY_END: an entry may be longer than its key.
-pub const ENTRY_OCTETS: usize = 36;
+pub mod names;
 
 pub const CIPHER: usize = 0;
 
@@ -29,7 +31,9 @@ pub const READY: usize = 3;
 
 pub const KEY: usize = 4;
 
-pub const KEY_END: usize = KEY + KEY_ROOM;
+pub const NAME: usize = KEY + KEY_ROOM;
+
+pub const ENTRY_OCTETS: usize = NAME + NAME_OCTETS;
 
 pub const MOST_ID: u8 = 63;
 
@@ -38,7 +42,14 @@ pub fn key(e: &[u8]) -> &[u8]
     requires { ⌜ length (now e) ≡ entryOctets ⌝ }
     ensures { λ r. ⌜ (now r ≡ keyIn (now (e .entry))) × (length (now r) ≡ keyRoom) ⌝ }
 {
-    &e[KEY..KEY_END]
+    &e[KEY..NAME]
+}
+
+pub fn name_in(e: &[u8]) -> &[u8]
+    requires { ⌜ length (now e) ≡ entryOctets ⌝ }
+    ensures { λ r. ⌜ (now r ≡ nameIn (now (e .entry))) × (length (now r) ≡ nameOctets) ⌝ }
+{
+    &e[NAME..ENTRY_OCTETS]
 }
 
 // ---- the rules
@@ -108,7 +119,10 @@ fn used_right(e: &[u8]) -> bool
     if !rest_zero(e) {
         return false;
     }
-    ready_right(e)
+    if !ready_right(e) {
+        return false;
+    }
+    name_right(name_in(e))
 }
 
 pub fn entry_right(e: &[u8]) -> bool
@@ -144,13 +158,14 @@ pub fn clear(e: &mut [u8])
     }
 }
 
-pub fn write_new(e: &mut [u8], cipher: u8, id: u8)
-    requires { ⌜ length (now e) ≡ entryOctets ⌝ }
-    ensures { λ _. ⌜ now (e .exit) ≡ newEntry cipher id ⌝ }
+pub fn write_new(e: &mut [u8], cipher: u8, id: u8, name: &[u8])
+    requires { ⌜ (length (now e) ≡ entryOctets) × (length (now name) ≡ nameOctets) ⌝ }
+    ensures { λ _. ⌜ now (e .exit) ≡ newEntry cipher id (now (name .entry)) ⌝ }
 {
     clear(e);
     e[CIPHER] = cipher;
     e[ID] = id;
+    copy(name, &mut e[NAME..ENTRY_OCTETS]);
 }
 
 // Puts key octets after those that are there, and counts them.

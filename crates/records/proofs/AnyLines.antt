@@ -1,4 +1,4 @@
--- Through any lines from an all-zero book and no call, each gets an answer of its record: 2, 4 and 8 are never printed, nor 6 for an O or a J.
+-- Through any lines from an all-zero book and no call, each gets an answer of its record: 2, 4, 8 and 17 are never printed, nor 6 for an O or a J.
 use mathlib.Core.Path.{_≡_, refl, sym, ap, _∙_}
 use mathlib.Core.Bool.{Bool, true, false, true≢false, false≢true}
 use mathlib.Core.List.{List, [], _∷_, _++_}
@@ -34,15 +34,15 @@ isOpening End = false
 isOpening Malformed = false
 
 none-has : (r : Record) → (isOneOf 2 (answersTo r) ≡ false) × (isOneOf 4 (answersTo r) ≡ false) × (isOneOf 8 (answersTo r) ≡ false)
-    × (isOpening r ≡ true → isOneOf 6 (answersTo r) ≡ false)
-none-has (Load c i key) = (refl, refl, refl, λ e. absurd (false≢true e))
-none-has (Open c i w) = (refl, refl, refl, λ e. refl)
-none-has (Join c i) = (refl, refl, refl, λ e. refl)
-none-has (Voice mask frame) = (refl, refl, refl, λ e. refl)
-none-has (Announce w) = (refl, refl, refl, λ e. refl)
-none-has Lost = (refl, refl, refl, λ e. refl)
-none-has End = (refl, refl, refl, λ e. refl)
-none-has Malformed = (refl, refl, refl, λ e. refl)
+    × (isOneOf 17 (answersTo r) ≡ false) × (isOpening r ≡ true → isOneOf 6 (answersTo r) ≡ false)
+none-has (Load c i key) = (refl, refl, refl, refl, λ e. absurd (false≢true e))
+none-has (Open c i w) = (refl, refl, refl, refl, λ e. refl)
+none-has (Join c i) = (refl, refl, refl, refl, λ e. refl)
+none-has (Voice mask frame) = (refl, refl, refl, refl, λ e. refl)
+none-has (Announce w) = (refl, refl, refl, refl, λ e. refl)
+none-has Lost = (refl, refl, refl, refl, λ e. refl)
+none-has End = (refl, refl, refl, refl, λ e. refl)
+none-has Malformed = (refl, refl, refl, refl, λ e. refl)
 
 other : (ns : List ℕ) {n m : ℕ} → isOneOf n ns ≡ true → isOneOf m ns ≡ false → n ≡ m → ⊥
 other ns t f e = true≢false (sym t ∙ ap (λ (x : ℕ). isOneOf x ns) e ∙ f)
@@ -63,12 +63,13 @@ module _ (ls : List (List ℕ)) (l : List ℕ) where
   pub answers-its : isOneOf numberThen (answersTo (lineOf l)) ≡ true
   answers-its = step-can (then .book) (then .call) (lines-sound ls first first-sound) l (lineOf l) refl
 
-  -- so never 2, 4 or 8, nor 6 where it is an O or a J
-  pub never-answers : (numberThen ≡ 2 → ⊥) × (numberThen ≡ 4 → ⊥) × (numberThen ≡ 8 → ⊥) × (isOpening (lineOf l) ≡ true → numberThen ≡ 6 → ⊥)
+  -- so never 2, 4, 8 or 17, nor 6 where it is an O or a J
+  pub never-answers : (numberThen ≡ 2 → ⊥) × (numberThen ≡ 4 → ⊥) × (numberThen ≡ 8 → ⊥) × (numberThen ≡ 17 → ⊥)
+      × (isOpening (lineOf l) ≡ true → numberThen ≡ 6 → ⊥)
   never-answers =
       let ns = answersTo (lineOf l) in
       let has-none = none-has (lineOf l) in
-      (other ns answers-its (has-none .0), other ns answers-its (has-none .1), other ns answers-its (has-none .2), λ o. other ns answers-its (has-none .3 o))
+      (other ns answers-its (has-none .0), other ns answers-its (has-none .1), other ns answers-its (has-none .2), other ns answers-its (has-none .3), λ o. other ns answers-its (has-none .4 o))
 
 -- ---- and what is printed
 

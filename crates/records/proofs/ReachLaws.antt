@@ -11,8 +11,10 @@ use Rattle.answers.specs.declared.Answer.{Answer}
 use Rattle.answers.specs.declared.Answer.the-variants.{Done}
 use Rattle.answers.specs.Numbers.{numberOf, isOneOf}
 use Rattle.answers.proofs.OutcomeLaws.{Gives, gives-more, gives}
+use Rattle.keyentry.specs.Name.{nameOctets, noName}
 use Rattle.keyentry.specs.Entry.{cipherIn, isReady, inRange, extendRefusals, completeRefusals}
 use Rattle.sizes.specs.Ciphers.{keyRoom, vectorOctets}
+use Rattle.keyentry.proofs.NameLaws.{name-is-long, name-is-right, no-name}
 use Rattle.keyentry.proofs.RightLaws.{for-parts}
 use Rattle.keyentry.proofs.WriteLaws.{in-range-used}
 use Rattle.keybook.specs.Book.{entries, bookOctets, goodBook, findEntry, bookRefusals}
@@ -58,11 +60,11 @@ module _ (b : List ℕ) (g : goodBook b ≡ true) where
   book-sized = never-not (eq-eqb (length b) bookOctets (good-sized b g))
 
   module _ (c i : ℕ) (key : List ℕ) where
-    begin-can : Can (Load c i key) (beginOf b c i .0)
-    unfolding beginOf beginRefusals bookRefusals
+    begin-can : Can (Load c i key) (beginOf b c i noName .0)
+    unfolding beginOf beginRefusals
     begin-can =
-        gives (Can (Load c i key)) b (beginRefusals b c i) (Done, beginAfter b c i)
-        (book-sized, λ _. (λ h. refl, λ _. (never-not g, λ _. (λ h. refl, λ _. (λ h. refl, λ _. tt))))) refl
+        gives (Can (Load c i key)) b (beginRefusals b c i noName) (Done, beginAfter b c i noName)
+        (never-not (eq-eqb (length noName) nameOctets (name-is-long noName no-name)), λ _. (book-sized, λ _. (λ h. refl, λ _. (never-not (name-is-right noName no-name), λ _. (never-not g, λ _. (λ h. refl, λ _. (λ h. refl, λ _. tt))))))) refl
 
     module _ (there : hasEntry b c i ≡ true) where
       add-can : length key ≤ keyRoom → Can (Load c i key) (addOf b c i key .0)
@@ -80,9 +82,9 @@ module _ (b : List ℕ) (g : goodBook b ≡ true) where
 begun-has : {b : List ℕ} {c i k : ℕ} {e after : List ℕ} → Begun b c i k e after → hasEntry after c i ≡ true
 begun-has {c = c} {i = i} {after = after} m = lt-ltb (findEntry after c i) entries (rw (begun-found m) (m .changed .below))
 
-load-can : (b : List ℕ) (c i : ℕ) (key : List ℕ) → goodBook b ≡ true → length key ≤ keyRoom → Can (Load c i key) (loadOf b c i key .0)
+load-can : (b : List ℕ) (c i : ℕ) (key : List ℕ) → goodBook b ≡ true → length key ≤ keyRoom → Can (Load c i key) (loadOf b c i noName key .0)
 load-can b c i key g l =
-    load-ways b c i key (λ o. Can (Load c i key) (o .0)) (λ y. begin-can b g c i key)
+    load-ways b c i noName key (λ o. Can (Load c i key) (o .0)) (λ y. begin-can b g c i key)
     (λ k e begun m z. add-can begun (begun-good m) c i key (begun-has m) l) (λ k e added m w. finish-can added (begun-good m) c i key (begun-has m))
     (λ k e after m r. refl)
 

@@ -14,6 +14,7 @@ use Rattle.voice.specs.Slot.{voiceOf}
 use Rattle.voice.proofs.Settled.{end-keeps, lost-keeps, announce-keeps, voice-keeps, join-keeps, open-keeps}
 use Rattle.lines.specs.Record.{Record, Load, Open, Join, Voice, Announce, Lost, End, Malformed}
 use Rattle.records.specs.declared.reader.Carry.{Carry}
+use Rattle.keyentry.specs.Name.{noName}
 use Rattle.keybook.specs.Operations.{loadOf}
 use Rattle.records.specs.Step.{stepOf, asEffect}
 use Rattle.records.specs.Reader.{started, Left, takeOf, closeOf}
@@ -38,7 +39,7 @@ module _ (book out : List ℕ) where
 pub step-keeps : (r : Record) (book : List ℕ) (call : Call) → Refusal (stepOf r book call .answer) → stepOf r book call ≡ asEffect (stepOf r book call .answer) book call []
 unfolding stepOf
 step-keeps (Load c i key) book call h =
-    ap (λ (x : List ℕ). asEffect (loadOf book c i key .0) x call []) (load-keeps book c i key (λ e. omega (arith, ap numberOf e)))
+    ap (λ (x : List ℕ). asEffect (loadOf book c i noName key .0) x call []) (load-keeps book c i noName key (λ e. omega (arith, ap numberOf e)))
 step-keeps (Open c i w) book call h = rw (open-keeps call c i halfRate book strict w h)
 step-keeps (Join c i) book call h = rw (join-keeps call c i halfRate book strict h)
 step-keeps (Voice mask frame) book call h =

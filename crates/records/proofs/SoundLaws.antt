@@ -34,6 +34,7 @@ use Rattle.voice.proofs.CallLaws.{by-stands, carries}
 use Rattle.voice.proofs.GoodLaws.{closed-good, end-good, lost-good, voice-good, announce-good}
 use Rattle.voice.proofs.OpeningGood.{open-good, join-good}
 use Rattle.lines.specs.Record.{Record, Load, Open, Join, Voice, Announce, Lost, End, Malformed, lineOf}
+use Rattle.keyentry.specs.Name.{noName}
 use Rattle.keybook.specs.Operations.{loadOf}
 use Rattle.records.specs.Step.{stepOf}
 use Rattle.text.specs.Reader.{allAnswered}
@@ -84,8 +85,8 @@ begun-ready {b} {c} {i} {k} {e} {after} all m r j l = go (ℕ-discrete j k)
     go (no q) u = let o = begun-other m j l q in rw o (all j l (rw o at u))
 
 module _ (b : List ℕ) (c i : ℕ) (key : List ℕ) where
-  load-ready : AllReady b → AllReady (loadOf b c i key .1)
-  load-ready all = load-ways b c i key (λ o. AllReady (o .1)) (λ y. all) (λ k e begun m z. all) (λ k e added m w. all) (λ k e after m r. begun-ready all m r)
+  load-ready : AllReady b → AllReady (loadOf b c i noName key .1)
+  load-ready all = load-ways b c i noName key (λ o. AllReady (o .1)) (λ y. all) (λ k e begun m z. all) (λ k e added m w. all) (λ k e after m r. begun-ready all m r)
 
 -- ---- no operation of a record makes a sender, or a call at full rate or by default
 
@@ -166,7 +167,7 @@ pub step-sound : (r : Record) {book : List ℕ} {call : Call} → Sound book cal
 unfolding stepOf
 step-sound (Load c i key) {book} {call} s =
     record {
-      book-good = load-stays-good book c i key (s .book-good);
+      book-good = load-stays-good book c i noName key (s .book-good);
       all-ready = load-ready book c i key (s .all-ready);
       call-good = s .call-good;
       no-sender = s .no-sender;

@@ -30,6 +30,7 @@ use Rattle.lines.specs.declared.record.Parsed.{Parsed}
 use Rattle.lines.specs.declared.record.Parsed.the-variants as code
 use Rattle.lines.specs.Record.{recordFrame, recordRoom, recordIn, keyCount}
 use Rattle.records.specs.declared.step.Outcome.{Outcome}
+use Rattle.keyentry.specs.Name.{noName}
 use Rattle.keybook.specs.Operations.{loadOf}
 use Rattle.records.specs.Step.{Effect, bookStep, callStep, withoutCounts, slotStep, stepOf, asEffect}
 use Rattle.records.specs.Lent.{heldOctets, Cached}
@@ -128,7 +129,7 @@ lost-cached c session {made} {goes} {a} {after} h q g =
 -- ---- what each record is
 
 module _ (p : Parsed) (octets book : List ℕ) (call : Call) where
-  pub load-is : {c i n : ℕ} → p ≡ code.Load c i n → stepOf (recordIn p octets) book call ≡ bookStep call (loadOf book c i (take n octets))
+  pub load-is : {c i n : ℕ} → p ≡ code.Load c i n → stepOf (recordIn p octets) book call ≡ bookStep call (loadOf book c i noName (take n octets))
   unfolding stepOf
   load-is e = rw e
 

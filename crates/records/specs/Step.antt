@@ -13,6 +13,7 @@ use Rattle.voice.specs.Opening.{openOf, joinOf}
 use Rattle.voice.specs.Slot.{lostOf, voiceOf}
 use Rattle.voice.specs.Vector.{announceOf}
 use Rattle.lines.specs.Record.{Record, Load, Open, Join, Voice, Announce, Lost, End, Malformed}
+use Rattle.keyentry.specs.Name.{noName}
 use Rattle.keybook.specs.Operations.{loadOf}
 
 -- an answer, the book and the call after it, and the frame afterwards where a voice slot was done, else none
@@ -37,9 +38,9 @@ withoutCounts o = (o .0, o .1 .0)
 abbrev pub slotStep : List ℕ → Answer × (Call × List ℕ) → Effect
 slotStep book o = record { answer = o .0; book = book; call = o .1 .0; frame = pick (isDone (o .0)) (o .1 .1) [] }
 
--- a call of the receiver program is at half rate, and strict: a recorder files nothing that wasn't announced (document 02, W-206)
+-- a key of the receiver program has no name (document 02, W-201); its call is at half rate, and strict: a recorder files nothing that wasn't announced (W-206)
 unfoldable pub stepOf : Record → List ℕ → Call → Effect
-stepOf (Load c i key) book call = bookStep call (loadOf book c i key)
+stepOf (Load c i key) book call = bookStep call (loadOf book c i noName key)
 stepOf (Open c i vector) book call = callStep book (openOf call c i halfRate strict vector book)
 stepOf (Join c i) book call = callStep book (joinOf call c i halfRate strict book)
 stepOf (Voice mask frame) book call = slotStep book (voiceOf call mask frame)

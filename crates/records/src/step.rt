@@ -6,6 +6,8 @@ ghost use lib.ListN.{length, take};
 ghost use Rattle.octets.specs.Tests.{pick};
 ghost use Rattle.answers.specs.Numbers.{numberOf, isDone};
 ghost use Rattle.sizes.specs.Ciphers.{scrambles};
+ghost use Rattle.keyentry.specs.Name.{noName};
+ghost use Rattle.keybook.specs.Operations.{loadOf};
 ghost use Rattle.voice.specs.Call.{standing, knows, endOf};
 ghost use Rattle.sizes.specs.Frame.{halfRate};
 ghost use Rattle.voice.specs.Slot.{lostOf, voiceOf};
@@ -14,6 +16,7 @@ ghost use Rattle.records.specs.Step.{withoutCounts, asEffect, stepOf};
 ghost use Rattle.records.specs.Lent.{Cached};
 use answers::Answer;
 use keybook::load;
+use keyentry::names::NAME_OCTETS;
 use lines::record::Parsed;
 use sizes::cipher::Scramble;
 use sizes::cipher::VECTOR_OCTETS;
@@ -82,6 +85,14 @@ fn no_frame(answer: Answer, call: Call, made: bool) -> Outcome
         shown: 0,
         made,
     }
+}
+
+// A key without a name.
+fn load_unnamed(book: &mut [u8], cipher: u8, id: u8, key: &[u8]) -> Answer
+    ensures { λ r. ⌜ (r, now (book .exit)) ≡ loadOf (now (book .entry)) cipher id noName (now (key .entry)) ⌝ }
+{
+    let name = [0; NAME_OCTETS];
+    load(book, cipher, id, &name, key)
 }
 
 // A record after which the session's keystream is to be made anew. A refusal leaves the call, and its session as it was.
@@ -167,7 +178,7 @@ pub fn step(
 {
     match parsed {
         Parsed::Load { cipher, id, count } => no_frame(
-            load(book, cipher, id, &octets[..count]),
+            load_unnamed(book, cipher, id, &octets[..count]),
             call,
             made,
         ),

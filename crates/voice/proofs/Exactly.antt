@@ -166,7 +166,7 @@ module _ (session : List ℕ) (c : Call) (mask : ℕ) (frame : List ℕ) where
       go (no t) = rw (le-ltb (numberOf (lent .0)) 2 (omega arith)) (by-refused session c mask frame (omega arith))
 
 -- whatever else is asked, where book and vector have their lengths: any rate but 0 and 1 is 3, and so is any strictness that a receiver is given
-module _ (c : Call) (n i r m : ℕ) (b : List ℕ) (k : length b ≡ 576) where
+module _ (c : Call) (n i r m : ℕ) (b : List ℕ) (k : length b ≡ 832) where
   no-terms : (end : ℕ) → (2 ≤ r) ⊎ (2 ≤ m) → termsRight end r m ≡ false
   unfolding termsRight isRate
   no-terms end (inl h) = rw (ne-eqb r 0 (λ e. omega (arith, e)), ne-eqb r 1 (λ e. omega (arith, e)))
@@ -185,7 +185,7 @@ module _ (c : Call) (n i r m : ℕ) (b : List ℕ) (k : length b ≡ 576) where
     unfolding openOf
     open-out-of-range = begin-out-of-range receivingEnd
 
-pub start-out-of-range : (c : Call) (n i r : ℕ) (b : List ℕ) → length b ≡ 576 → (w : List ℕ) → length w ≡ 8 → 2 ≤ r → startOf c n i r w b ≡ (OutOfRange, c)
+pub start-out-of-range : (c : Call) (n i r : ℕ) (b : List ℕ) → length b ≡ 832 → (w : List ℕ) → length w ≡ 8 → 2 ≤ r → startOf c n i r w b ≡ (OutOfRange, c)
 unfolding startOf
 start-out-of-range c n i r b k w l h = begin-out-of-range c n i r byDefault b k w l sendingEnd (inl h)
 

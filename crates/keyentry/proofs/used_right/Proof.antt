@@ -6,7 +6,7 @@ use denote.Ref.{now}
 use Rattle.sizes.proofs.SizeLaws.{key-at-most}
 use Rattle.octets.proofs.TestLaws.{fails, holds}
 use Rattle.keyentry.specs.Entry.{cipherIn}
-use Rattle.keyentry.proofs.EntryLaws.{used-range, used-count, used-rest, used-ready}
+use Rattle.keyentry.proofs.EntryLaws.{used-range, used-count, used-rest, used-ready, used-name}
 use Rattle.keyentry.proofs.used_right.Statement.{statement}
 use Rattle.keyentry.proofs.used_right.Tie as tie
 
@@ -20,7 +20,10 @@ returns-3 : tie.Need-returns-3
 returns-3 c = used-rest _ (holds (c .before .before .before .before .before .before .before .before .in-range .ensures) (c .before .before .before .before .before .before .before .if1 .left)) (omega arith) (fails (c .before .rest-zero .ensures) (c .if3 .taken))
 
 returns-4 : tie.Need-returns-4
-returns-4 c = c .ready-right .ensures ∙ used-ready _ (holds (c .before .before .before .before .before .before .before .before .before .in-range .ensures) (c .before .before .before .before .before .before .before .before .if1 .left)) (omega arith) (holds (c .before .before .rest-zero .ensures) (c .before .if3 .left))
+returns-4 c = used-ready _ (holds (c .before .before .before .before .before .before .before .before .before .before .in-range .ensures) (c .before .before .before .before .before .before .before .before .before .if1 .left)) (omega arith) (holds (c .before .before .before .rest-zero .ensures) (c .before .before .if3 .left)) (fails (c .before .ready-right .ensures) (c .if4 .taken))
+
+returns-5 : tie.Need-returns-5
+returns-5 c = c .name-right .ensures ∙ used-name _ (holds (c .before .before .before .before .before .before .before .before .before .before .before .before .in-range .ensures) (c .before .before .before .before .before .before .before .before .before .before .before .if1 .left)) (omega arith) (holds (c .before .before .before .before .before .rest-zero .ensures) (c .before .before .before .before .if3 .left)) (holds (c .before .before .before .ready-right .ensures) (c .before .before .if4 .left)) (c .before .name-in .ensures .0)
 
 pub used-right-spec : {M : Type 1} → statement M
 used-right-spec =
@@ -38,4 +41,7 @@ used-right-spec =
     rest-zero-requires
     returns-3
     (λ c κs. search needs)
-    returns-4)
+    returns-4
+    (λ c κs. search needs)
+    (λ c κs. search needs)
+    returns-5)

@@ -13,11 +13,11 @@ use borrow.Author.Needs.{needs}
 use Rattle.records.proofs.step.step.Statement.{statement}
 use Rattle.records.proofs.step.step.Tie as tie
 
-slice-reshare-prefix-load : tie.Need-slice-reshare-prefix-load
-slice-reshare-prefix-load c = rw (c .before .before .before .before .before .before .before .pre .0) (count-fits _ (c .before .before .parsed .given .1) (c .before .before .before .before .before .before .before .pre .1))
+slice-reshare-prefix-load-unnamed : tie.Need-slice-reshare-prefix-load-unnamed
+slice-reshare-prefix-load-unnamed c = rw (c .before .before .before .before .before .before .before .pre .0) (count-fits _ (c .before .before .parsed .given .1) (c .before .before .before .before .before .before .before .pre .1))
 
-slice-aggregate-load : tie.Need-slice-aggregate-load
-slice-aggregate-load c = sym (length-take-le _ (now (c .before .before .before .before .before .before .before .before .args .octets)) (rw (c .before .before .before .before .before .before .before .before .pre .0) (count-fits _ (c .before .before .before .parsed .given .1) (c .before .before .before .before .before .before .before .before .pre .1))))
+slice-aggregate-load-unnamed : tie.Need-slice-aggregate-load-unnamed
+slice-aggregate-load-unnamed c = sym (length-take-le _ (now (c .before .before .before .before .before .before .before .before .args .octets)) (rw (c .before .before .before .before .before .before .before .before .pre .0) (count-fits _ (c .before .before .before .parsed .given .1) (c .before .before .before .before .before .before .before .before .pre .1))))
 
 slice-aggregate-open : tie.Need-slice-aggregate-open
 slice-aggregate-open c = sym (length-take-le 8 (now (c .before .before .before .before .before .before .before .args .octets)) (omega (arith, c .before .before .before .before .before .before .before .pre .0)))
@@ -32,7 +32,7 @@ slice-aggregate-announce : tie.Need-slice-aggregate-announce
 slice-aggregate-announce c = sym (length-take-le 8 (now (c .before .before .before .before .before .before .args .octets)) (omega (arith, c .before .before .before .before .before .before .pre .0)))
 
 returns : tie.Need-returns
-returns c = (comes (c .no-frame .result) _ _ (c .no-frame .ensures .0) (c .no-frame .ensures .1) (c .no-frame .ensures .2) (load-is _ _ _ _ (c .before .before .before .before .before .before .before .parsed .given .1) ∙ ap (bookStep (c .before .before .before .before .before .before .before .before .before .before .before .before .args .call)) (sym (c .before .before .before .load .ensures))), (rw (c .no-frame .ensures .2) (omega arith), rw (c .no-frame .ensures .3, c .no-frame .ensures .1) (c .before .before .before .before .before .before .before .before .before .before .before .before .pre .2)))
+returns c = (comes (c .no-frame .result) _ _ (c .no-frame .ensures .0) (c .no-frame .ensures .1) (c .no-frame .ensures .2) (load-is _ _ _ _ (c .before .before .before .before .before .before .before .parsed .given .1) ∙ ap (bookStep (c .before .before .before .before .before .before .before .before .before .before .before .before .args .call)) (sym (c .before .before .before .load-unnamed .ensures))), (rw (c .no-frame .ensures .2) (omega arith), rw (c .no-frame .ensures .3, c .no-frame .ensures .1) (c .before .before .before .before .before .before .before .before .before .before .before .before .pre .2)))
 
 returns-2 : tie.Need-returns-2
 returns-2 c = (comes (c .anew .result) _ _ (c .anew .ensures .0 .0) (c .anew .ensures .0 .1) (c .anew .ensures .0 .2) (open-is _ _ _ _ (c .before .before .before .before .before .parsed2 .given .1) ∙ ap (callStep (now (c .before .before .before .before .before .before .before .before .before .before .args .book))) (sym (c .before .«open» .ensures))), (rw (c .anew .ensures .0 .2) (omega arith), refused-cached _ _ (c .before .before .before .before .before .before .before .before .before .before .pre .2) (c .before .«open» .ensures) (open-keeps _ _ _ _ _ _ _) (c .anew .ensures .0 .1) (c .anew .ensures .1)))
@@ -60,8 +60,8 @@ step-spec =
     tie.close
     (tie.spec
     (λ c. search needs)
-    slice-reshare-prefix-load
-    slice-aggregate-load
+    slice-reshare-prefix-load-unnamed
+    slice-aggregate-load-unnamed
     (λ c κs. search needs)
     (λ c κs. search needs)
     (λ c. search needs)

@@ -1,9 +1,9 @@
--- `bookwalk::octets` meets its contract.
+-- `asked::octets` meets its contract.
 use Prim.Native.Nat.{_-_, _≤_}
 use lib.ListN.{length}
 use borrow.Author.Needs.{needs}
-use Rattle.bookwalk.proofs.octets.Statement.{statement}
-use Rattle.bookwalk.proofs.octets.Tie as tie
+use Rattle.bookwalk.proofs.asked.octets.Statement.{statement}
+use Rattle.bookwalk.proofs.asked.octets.Tie as tie
 
 abbrev Inv-loop : tie.InvT-loop
 Inv-loop xs i₀ i = i ≤ length xs

@@ -1,11 +1,11 @@
--- `bookwalk::copied` meets its contract.
+-- `asked::copied` meets its contract.
 use mathlib.Core.Path.{_≡_}
 use Prim.Native.Nat.{_+_, _-_, _≤_}
 use lib.ListN.{length}
 use borrow.Author.Needs.{needs}
 use Rattle.keybook.specs.Book.{bookOctets}
-use Rattle.bookwalk.proofs.copied.Statement.{statement}
-use Rattle.bookwalk.proofs.copied.Tie as tie
+use Rattle.bookwalk.proofs.asked.copied.Statement.{statement}
+use Rattle.bookwalk.proofs.asked.copied.Tie as tie
 
 abbrev Inv-loop : tie.InvT-loop
 Inv-loop book before₀ i₀ before i = (i ≤ bookOctets + 1) × (length before ≡ bookOctets + 1)

@@ -1,9 +1,9 @@
--- `bookwalk::is_as` meets its contract.
+-- `asked::is_as` meets its contract.
 use Prim.Native.Nat.{_+_, _-_, _≤_}
 use borrow.Author.Needs.{needs}
 use Rattle.keybook.specs.Book.{bookOctets}
-use Rattle.bookwalk.proofs.is_as.Statement.{statement}
-use Rattle.bookwalk.proofs.is_as.Tie as tie
+use Rattle.bookwalk.proofs.asked.is_as.Statement.{statement}
+use Rattle.bookwalk.proofs.asked.is_as.Tie as tie
 
 abbrev Inv-loop : tie.InvT-loop
 Inv-loop book before i₀ i = i ≤ bookOctets + 1

@@ -1,0 +1,13 @@
+-- `screen::unlisted` meets its contract.
+use mathlib.Core.Path.{refl}
+use Rattle.keyentry.specs.Entry.{blank}
+use Rattle.keybook.specs.Screen.{shown}
+use Rattle.keybook.proofs.screen.unlisted.Statement.{statement}
+use Rattle.keybook.proofs.screen.unlisted.Tie as tie
+
+pub unlisted-spec : {M : Type 1} → statement M
+unfolding blank shown
+unlisted-spec =
+    tie.close
+    (tie.spec
+    (λ c. (refl, refl)))
