@@ -7,6 +7,7 @@ model.py slots               prints crates/vectors/data/voice-slots.tsv
 model.py zeros               prints crates/vectors/data/voice-slots-zeros.tsv
 model.py calls               prints crates/vectors/data/call-counts.tsv
 model.py slotcheck < FILE    prints what slotcheck should print
+model.py book < FILE         prints what bookwalk should have printed, by the operations in what it printed
 Each first checks the model against section 7.2.2 of NXDN TS 1-D ("001").
 A voice call has a rate: a word has 49 speech bits at half rate and 72 at full rate, and each other size follows from that. A row of slots gives the rate, and where it
 gave a position it gives how many slots of the call come before, so that it may stand in a later session. slotcheck's calls are at half rate and strict:
@@ -124,6 +125,147 @@ def turned_frame(rate, cipher, key, vector, position, mask, frame):
     return out
 
 
+# ---- the key book
+
+ENTRIES, ENTRY, KEY, NAME = 16, 52, 4, 36  # entries of so many octets; in each, where key and name begin
+NO_NAME = bytes(ENTRY - NAME)
+
+
+def allowed(cipher, key):
+    if cipher == 1:
+        return 1 <= int.from_bytes(key, "big") <= 32767
+    return cipher == 3 or all(bin(x).count("1") % 2 for x in key)
+
+
+def name_right(name):
+    return re.fullmatch(rb"[ -~]*\0*", name) is not None
+
+
+def entry_right(entry):
+    cipher, key_id, count, ready = entry[:KEY]
+    if cipher == 0:
+        return not any(entry)
+    if cipher not in KEY_OCTETS or key_id > 63 or count > KEY_OCTETS[cipher] or any(entry[KEY + count:NAME]) or not name_right(entry[NAME:]):
+        return False
+    return ready == 0 or ready == 1 and count == KEY_OCTETS[cipher] and allowed(cipher, entry[KEY:KEY + count])
+
+
+class Book:
+    def __init__(self, octets=ENTRIES * ENTRY):
+        self.octets = bytearray(octets)
+
+    def entries(self):
+        return [self.octets[ENTRY * k:ENTRY * (k + 1)] for k in range(ENTRIES)]
+
+    def put(self, k, entry):
+        self.octets[ENTRY * k:ENTRY * (k + 1)] = entry
+
+    def good(self):
+        used = [bytes(entry[:2]) for entry in self.entries() if entry[0]]
+        return all(map(entry_right, self.entries())) and len(set(used)) == len(used)
+
+    def sized(self):
+        return len(self.octets) == ENTRIES * ENTRY
+
+    def find(self, cipher, key_id):
+        """The place and the entry for a cipher and key ID, or 2, 3, 4 or 5."""
+        if not self.sized():
+            return 2, None, None
+        if cipher not in KEY_OCTETS or key_id > 63:
+            return 3, None, None
+        if not self.good():
+            return 4, None, None
+        found = [(0, k, entry) for k, entry in enumerate(self.entries()) if (entry[0], entry[1]) == (cipher, key_id)]
+        return found[0] if found else (5, None, None)
+
+    def begin(self, cipher, key_id, name=NO_NAME):
+        answer, _, _ = self.find(cipher, key_id)
+        if len(name) != len(NO_NAME) or answer in (2, 3):
+            return 2 if len(name) != len(NO_NAME) else answer
+        if not name_right(name):
+            return 17
+        if answer != 5:
+            return answer or 11
+        free = [k for k, entry in enumerate(self.entries()) if entry[0] == 0]
+        if not free:
+            return 12
+        self.put(free[0], bytes([cipher, key_id]) + bytes(NAME - 2) + name)
+        return 0
+
+    def add(self, cipher, key_id, octets):
+        answer, k, entry = (2, None, None) if len(octets) > 32 else self.find(cipher, key_id)
+        if answer or entry[3]:
+            return answer or 11
+        if entry[2] + len(octets) > KEY_OCTETS[cipher]:
+            return 13
+        entry[KEY + entry[2]:KEY + entry[2] + len(octets)] = octets
+        entry[2] += len(octets)
+        self.put(k, entry)
+        return 0
+
+    def finish(self, cipher, key_id):
+        answer, k, entry = self.find(cipher, key_id)
+        if answer or entry[3]:
+            return answer or 11
+        if entry[2] < KEY_OCTETS[cipher]:
+            return 6
+        if not allowed(cipher, entry[KEY:KEY + entry[2]]):
+            return 7
+        entry[3] = 1
+        self.put(k, entry)
+        return 0
+
+    def erase(self, cipher, key_id):
+        answer, k, _ = self.find(cipher, key_id)
+        if not answer:
+            self.put(k, bytes(ENTRY))
+        return answer
+
+    def load(self, cipher, key_id, key):
+        answer = self.begin(cipher, key_id)
+        if not answer:
+            answer = self.add(cipher, key_id, key) or self.finish(cipher, key_id)
+            if answer:
+                self.erase(cipher, key_id)
+        return answer
+
+    def ready(self, cipher, key_id):
+        answer, _, entry = self.find(cipher, key_id)
+        if answer or not entry[3]:
+            return answer or 6, bytes(NAME - KEY)
+        return 0, bytes(entry[KEY:NAME])
+
+    def name(self, cipher, key_id):
+        answer, _, entry = self.find(cipher, key_id)
+        return answer, NO_NAME if answer else bytes(entry[NAME:])
+
+    def inventory(self, k):
+        answer = 2 if not self.sized() else 3 if k >= ENTRIES else 0 if self.good() else 4
+        entry = bytes(ENTRY) if answer else self.entries()[k]
+        return answer, list(entry[:KEY]), bytes(entry[NAME:])
+
+
+def walked():
+    """The lines of bookwalk, answered by the model."""
+    for line in sys.stdin.read().splitlines():
+        words = line.split(": ")[0].split(" ")
+        if words[0] == "#":
+            print(line)
+        elif words[0] == "book":
+            book = Book(int(words[2]))
+            print(line)
+        elif words[0] == "octet":
+            book.octets[int(words[1])] = int(words[2], 16)
+            print(line)
+        elif words[0] == "inventory":
+            answer, numbers, name = book.inventory(int(words[1]))
+            print(" ".join(words) + ":", answer, *numbers, name.hex())
+        else:
+            given = [int(words[1]), int(words[2])] + [bytes.fromhex(x) for x in words[3:]]
+            answer = getattr(book, words[0])(*given)
+            print(" ".join(words) + ":", *([answer[0], answer[1].hex()] if isinstance(answer, tuple) else [answer]))
+
+
 # ---- the receiver
 
 NUMBER, HEX = "(0|[1-9][0-9]{0,2})", "((?:[0-9A-F]{2})%s)"
@@ -144,12 +286,6 @@ def read(line):
     return None if any(n > 255 for n in numbers) else (text[0], numbers, octets)
 
 
-def allowed(cipher, key):
-    if cipher == 1:
-        return 1 <= int.from_bytes(key, "big") <= 32767
-    return cipher == 3 or all(bin(x).count("1") % 2 for x in key)
-
-
 COUNTS = "opened", "held", "replaced", "lost"
 MOST_SLOTS = 1_000_000
 
@@ -157,33 +293,20 @@ MOST_SLOTS = 1_000_000
 class Receiver:
     def __init__(self, strict=True):
         self.strict = strict
-        self.book, self.call = {}, None  # (cipher, key ID) to key; cipher, key, position, vector or None, whether it was told
+        self.book, self.call = Book(), None  # a call: cipher, key, position, vector or None, whether it was told
         self.counts = dict.fromkeys(COUNTS, 0)
-
-    def load(self, cipher, key_id, key):
-        if cipher not in KEY_OCTETS or key_id > 63:
-            return 3
-        if (cipher, key_id) in self.book:
-            return 11
-        if len(self.book) == 16:
-            return 12
-        if len(key) != KEY_OCTETS[cipher]:
-            return 13 if len(key) > KEY_OCTETS[cipher] else 6
-        if not allowed(cipher, key):
-            return 7
-        self.book[cipher, key_id] = key
-        return 0
 
     def begin(self, cipher, key_id, vector=None):
         if cipher not in KEY_OCTETS or key_id > 63:
             return 3
         if self.call:
             return 9
-        if (cipher, key_id) not in self.book:
-            return 5
+        answer, key = self.book.ready(cipher, key_id)
+        if answer:
+            return answer
         joined = vector is None and cipher != 1
         known = bytes(8) if cipher == 1 else vector
-        self.call = [cipher, self.book[cipher, key_id], 4 if joined else 0, known, not joined]
+        self.call = [cipher, key[:KEY_OCTETS[cipher]], 4 if joined else 0, known, not joined]
         self.counts = dict.fromkeys(COUNTS, 0)
         return 0
 
@@ -230,7 +353,7 @@ class Receiver:
         else:
             letter, numbers, octets = record
             if letter == "K":
-                answer = self.load(*numbers, octets)
+                answer = self.book.load(*numbers, octets)
             elif letter in "OJ":
                 answer = self.begin(*numbers, octets if letter == "O" else None)
             elif letter == "V":
@@ -325,7 +448,7 @@ def calls():
     print("# Printed by bench/model.py calls.")
     for cipher, rate, strict, joins, told in CALLS:
         receiver = Receiver(strict=strict)
-        receiver.book[cipher, 0] = bytes.fromhex(KEYS[cipher])
+        receiver.book.load(cipher, 0, bytes.fromhex(KEYS[cipher]))
         receiver.begin(cipher, 0, None if joins else bytes(8))
         for what in bytes.fromhex(told):
             if what == 0xFE:
@@ -352,7 +475,7 @@ for cipher, enciphered in PUBLISHED.items():
     assert turned(cipher, 0, TEXT).hex().upper() == enciphered
 
 if __name__ == "__main__":
-    printed = {"first": first, "messages": messages, "slots": slots, "zeros": zeros, "calls": calls}
+    printed = {"first": first, "messages": messages, "slots": slots, "zeros": zeros, "calls": calls, "book": walked}
     if len(sys.argv) == 2 and sys.argv[1] in printed:
         printed[sys.argv[1]]()
     elif sys.argv[1:] == ["slotcheck"]:
