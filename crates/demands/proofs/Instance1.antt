@@ -1,11 +1,11 @@
--- The premises of demand 1 can be met: a DES key that is begun, added in two parts and finished opens a call and a packet, and then a word and a
--- message are turned, under it and no other.
+-- The premises of demand 1 can be met: a DES key that is begun, as WARD FOUR, added in two parts and finished is shown by that name, opens a call and a packet,
+-- and then a word and a message are turned, under it and no other.
 use mathlib.Core.Path.{_≡_, refl, sym, ap, _∙_}
 use mathlib.Core.List.{List, [], _∷_, _++_}
-use Prim.Native.Nat.{ℕ, _≤_}
+use Prim.Native.Nat.{ℕ, _-_, _≤_}
 use native.Mathlib.Omega.{arith}
 use lib.Dec.{eqb}
-use lib.ListN.{replicate}
+use lib.ListN.{length, replicate}
 use Rattle.octets.specs.Tests.{allBelow, firstBelow}
 use Rattle.octets.specs.Lists.{replaced, allZero}
 use Rattle.ciphers.specs.Keys.{oddOctet, desKey, keyAllowed, keyRight}
@@ -15,10 +15,11 @@ use Rattle.answers.specs.declared.Answer.the-variants.{Done}
 use Rattle.answers.specs.Numbers.{numberOf}
 use Rattle.answers.proofs.OutcomeLaws.{NoneHolds}
 use Rattle.keyentry.specs.Name as name
-use Rattle.keyentry.specs.Name.{noName}
+use Rattle.keyentry.proofs.NameLaws.{wardFour}
 use Rattle.keyentry.specs.Entry as entry
 use Rattle.keybook.specs.Book as rules
 use Rattle.keybook.specs.Operations as operations
+use Rattle.keybook.specs.Screen as screen
 use Rattle.keybook.specs.History as book
 use Rattle.openings.specs.Ladder.{keyRefusals, zeroFor, zeroRefusals, vectorRefusals}
 use Rattle.voice.specs.Counts.{noCounts}
@@ -34,8 +35,8 @@ use Rattle.data.specs.Opening as opening
 use Rattle.data.specs.Message.{lostRefusals, messageOf}
 use Rattle.data.proofs.MessageLaws.{message-done}
 use Rattle.openings.specs.Samples.{seed, desABCD}
-use Rattle.demands.specs.Marked.{holding}
-use Rattle.demands.specs.Device.{Device, Open, Voice, callStep, OpenPacket, Message, packetStep, Operation, OfBook, OfCall, OfPacket, step, deviceAfter, history}
+use Rattle.demands.specs.Device.{Device, Name, Open, Voice, callStep, OpenPacket, Message, packetStep, Operation, OfBook, OfScreen, OfCall, OfPacket, screenStep, step, deviceAfter, history}
+use Rattle.demands.specs.Names.{shownAt}
 use Rattle.demands.specs.Demand1.{WordsTurned, MessageTurned}
 use Rattle.demands.proofs.Meets1.{ours-meets-1}
 use Rattle.demands.proofs.Layouts.{ways-right}
@@ -44,23 +45,29 @@ use Rattle.demands.proofs.SampleKeys.{keyABCD}
 
 -- ---- the key is loaded
 
--- its first four octets, its last four, and a book that has it ready
+-- its first four octets, its last four, a book that has octets of it loaded, under its name, and one that has it ready
 abbrev first : List ℕ
 first = 0xAB ∷ 0xCD ∷ 0xEF ∷ 0x01 ∷ []
 
 abbrev last : List ℕ
 last = 0x23 ∷ 0x45 ∷ 0x67 ∷ 0x89 ∷ []
 
-abbrev pub ready : List ℕ
-ready = 2 ∷ 0 ∷ 8 ∷ 1 ∷ (keyABCD ++ replicate 820 0)
+abbrev nameAndRest : List ℕ
+nameAndRest = wardFour ++ replicate 780 0
 
-books : (book.step (book.Begin 2 0 noName) (replicate 832 0) ≡ (Done, holding 2 []))
-    × (book.step (book.Add 2 0 first) (holding 2 []) ≡ (Done, holding 2 first))
-    × (book.step (book.Add 2 0 last) (holding 2 first) ≡ (Done, holding 2 keyABCD))
-    × (book.step (book.Finish 2 0) (holding 2 keyABCD) ≡ (Done, ready))
+abbrev loaded : List ℕ → List ℕ
+loaded xs = 2 ∷ 0 ∷ length xs ∷ 0 ∷ (xs ++ (replicate (32 - length xs) 0 ++ nameAndRest))
+
+abbrev pub ready : List ℕ
+ready = 2 ∷ 0 ∷ 8 ∷ 1 ∷ (desABCD ++ nameAndRest)
+
+books : (book.step (book.Begin 2 0 wardFour) (replicate 832 0) ≡ (Done, loaded []))
+    × (book.step (book.Add 2 0 first) (loaded []) ≡ (Done, loaded first))
+    × (book.step (book.Add 2 0 last) (loaded first) ≡ (Done, loaded keyABCD))
+    × (book.step (book.Finish 2 0) (loaded keyABCD) ≡ (Done, ready))
 unfolding book.step operations.beginOf operations.addOf operations.finishOf operations.beginRefusals operations.beginAfter operations.addRefusals
     operations.finishRefusals rules.bookRefusals rules.entryOf rules.withEntry rules.apart rules.goodBook rules.findEntry rules.freeEntry entry.inRange
-    entry.isFor entry.entryRight entry.usedRight entry.readyRight entry.lacks noName name.nameRight name.textOctets name.isPrintable entry.newEntry entry.extendRefusals entry.extended entry.completeRefusals
+    entry.isFor entry.entryRight entry.usedRight entry.readyRight entry.lacks name.nameRight name.textOctets name.isPrintable entry.newEntry entry.extendRefusals entry.extended entry.completeRefusals
     entry.completed allZero allBelow firstBelow replaced keyAllowed desKey oddOctet
 books = (refl, refl, refl, refl)
 
@@ -75,7 +82,7 @@ loads os o d e =
     ap (λ (x : Device). step x (OfBook o) .1 .0) d ∙ ap (λ (r : Answer × List ℕ). withBook (r .1)) e
 
 abbrev pub loading : List Operation
-loading = OfBook (book.Finish 2 0) ∷ OfBook (book.Add 2 0 last) ∷ OfBook (book.Add 2 0 first) ∷ OfBook (book.Begin 2 0 noName) ∷ []
+loading = OfBook (book.Finish 2 0) ∷ OfBook (book.Add 2 0 last) ∷ OfBook (book.Add 2 0 first) ∷ OfBook (book.Begin 2 0 wardFour) ∷ []
 
 none-yet : deviceAfter step [] ≡ withBook (replicate 832 0)
 unfolding deviceAfter
@@ -83,10 +90,21 @@ none-yet = refl
 
 pub is-loaded : deviceAfter step loading ≡ withBook ready
 is-loaded =
-    loads (OfBook (book.Add 2 0 last) ∷ OfBook (book.Add 2 0 first) ∷ OfBook (book.Begin 2 0 noName) ∷ []) (book.Finish 2 0)
-    (loads (OfBook (book.Add 2 0 first) ∷ OfBook (book.Begin 2 0 noName) ∷ []) (book.Add 2 0 last)
-    (loads (OfBook (book.Begin 2 0 noName) ∷ []) (book.Add 2 0 first) (loads [] (book.Begin 2 0 noName) none-yet (books .0)) (books .1)) (books .2))
+    loads (OfBook (book.Add 2 0 last) ∷ OfBook (book.Add 2 0 first) ∷ OfBook (book.Begin 2 0 wardFour) ∷ []) (book.Finish 2 0)
+    (loads (OfBook (book.Add 2 0 first) ∷ OfBook (book.Begin 2 0 wardFour) ∷ []) (book.Add 2 0 last)
+    (loads (OfBook (book.Begin 2 0 wardFour) ∷ []) (book.Add 2 0 first) (loads [] (book.Begin 2 0 wardFour) none-yet (books .0)) (books .1)) (books .2))
     (books .3)
+
+-- ---- a screen shows it
+
+abbrev nameShown : Answer × (Device × List ℕ)
+nameShown = step (deviceAfter step loading) (OfScreen (Name 2 0))
+
+pub is-shown : (nameShown .0 ≡ Done) × (nameShown .1 .1 ≡ wardFour) × (shownAt step loading 0 ≡ 2 ∷ 0 ∷ 8 ∷ 1 ∷ wardFour)
+unfolding step screenStep screen.nameOf screen.inventoryOf screen.inventoryRefusals screen.shown operations.entryRefusals rules.bookRefusals rules.entryOf
+    rules.apart rules.goodBook rules.findEntry entry.inRange entry.isFor entry.entryRight entry.usedRight entry.readyRight entry.lacks name.nameRight
+    name.textOctets name.isPrintable allZero allBelow firstBelow keyAllowed desKey oddOctet
+is-shown = rw is-loaded (refl, refl, refl)
 
 -- ---- it opens a call, at either rate and of either strictness
 

@@ -34,8 +34,8 @@ slotOf (NextVector out) a = []
 
 abbrev pub slotFor : ℕ → Operation → Answer → List Slot
 slotFor n (OfBook o) a = []
-slotFor n (OfCall m o) a = pick (eqb m n) (slotOf o a) []
 slotFor n (OfScreen o) a = []
+slotFor n (OfCall m o) a = pick (eqb m n) (slotOf o a) []
 slotFor n (OfPacket m o) a = []
 
 -- it opens a call to receive
@@ -51,8 +51,8 @@ toReceive (NextVector out) = false
 
 abbrev pub opensToReceive : Operation → Bool
 opensToReceive (OfBook o) = false
-opensToReceive (OfCall m o) = toReceive o
 opensToReceive (OfScreen o) = false
+opensToReceive (OfCall m o) = toReceive o
 opensToReceive (OfPacket m o) = false
 
 -- call n was opened to receive, and not ended since
@@ -73,8 +73,8 @@ rateNamed (NextVector out) = 0
 
 abbrev pub opensAt : Operation → ℕ
 opensAt (OfBook o) = 0
-opensAt (OfCall m o) = rateNamed o
 opensAt (OfScreen o) = 0
+opensAt (OfCall m o) = rateNamed o
 opensAt (OfPacket m o) = 0
 
 -- at which call n was opened

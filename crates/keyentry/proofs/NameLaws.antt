@@ -74,7 +74,10 @@ unfolding noName
 no-name = record { text = []; printable = λ k l. absurd (omega arith); fits = omega arith; padded = refl }
 
 -- and so is WARD FOUR
-pub ward-four : IsName (0x57 ∷ 0x41 ∷ 0x52 ∷ 0x44 ∷ 0x20 ∷ 0x46 ∷ 0x4F ∷ 0x55 ∷ 0x52 ∷ replicate 7 0)
+abbrev pub wardFour : List ℕ
+wardFour = 0x57 ∷ 0x41 ∷ 0x52 ∷ 0x44 ∷ 0x20 ∷ 0x46 ∷ 0x4F ∷ 0x55 ∷ 0x52 ∷ replicate 7 0
+
+pub ward-four : IsName wardFour
 unfolding nameRight textOctets isPrintable allZero allBelow firstBelow
 ward-four = right-is-name _ refl refl
 
