@@ -36,9 +36,9 @@ use Rattle.voice.proofs.CallLaws.{not-bad}
 use Rattle.voice.proofs.SlotSteps.{voice-at}
 use Rattle.data.specs.Packet as packet
 use Rattle.demands.specs.Marked.{holding}
-use Rattle.demands.specs.Device.{Device, CallOperation, Open, Start, Join, Voice, Lost, Announce, callStep, Operation, OfBook, OfScreen, OfCall, OfPacket, Step, step, deviceAfter, history}
-use Rattle.demands.specs.Demand1.{NotTold, TimeOfCall, Unknown, slot, NoneDone, Demand1}
-use Rattle.demands.specs.OtherDevices.{noise, noisy, filing, wiped, wiping, careless, holdingAll, ending, hastyCall, hasty, eager}
+use Rattle.demands.specs.Device.{Device, Name, Inventory, CallOperation, Open, Start, Join, Voice, Lost, End, Announce, NextVector, callStep, OpenPacket, Message, LostMessage, EndPacket, Operation, OfBook, OfScreen, OfCall, OfPacket, Step, step, deviceAfter, history}
+use Rattle.demands.specs.Demand1.{RightInput, NotTold, TimeOfCall, Unknown, slot, NoneDone, Demand1}
+use Rattle.demands.specs.OtherDevices.{noise, noisy, filing, wiped, wiping, careless, holdingAll, ending, telltale, hastyCall, hasty, eager}
 use Rattle.demands.proofs.Layouts.{ways-right, sender-right}
 use Rattle.demands.proofs.Samples.{silence, silent-long}
 use Rattle.demands.proofs.ThrownOut1.{finishing, no-word}
@@ -83,12 +83,49 @@ filing-thrown-out meets =
 
 -- ---- a bad book taken, by whatever device else
 
+-- the key operations, what a screen shows, and the openings read the book
+abbrev pub readsBook : Operation → Bool
+readsBook (OfBook o) = true
+readsBook (OfScreen o) = true
+readsBook (OfCall n (Open c i r m w)) = true
+readsBook (OfCall n (Start c i r w)) = true
+readsBook (OfCall n (Join c i r m)) = true
+readsBook (OfCall n (Voice mask frame)) = false
+readsBook (OfCall n Lost) = false
+readsBook (OfCall n End) = false
+readsBook (OfCall n (Announce w)) = false
+readsBook (OfCall n (NextVector out)) = false
+readsBook (OfPacket n (OpenPacket end kind c i w)) = true
+readsBook (OfPacket n (Message octets)) = false
+readsBook (OfPacket n LostMessage) = false
+readsBook (OfPacket n EndPacket) = false
+
+right-good : (d : Device) (o : Operation) → readsBook o ≡ true → RightInput d o → rules.goodBook (d .book) ≡ true
+right-good d (OfBook (book.Begin c i n)) t k = k .0 .good
+right-good d (OfBook (book.Add c i xs)) t k = k .0 .good
+right-good d (OfBook (book.Finish c i)) t k = k .good
+right-good d (OfBook (book.Erase c i)) t k = k .good
+right-good d (OfScreen (Name c i)) t k = k .good
+right-good d (OfScreen (Inventory n)) t k = k .2
+right-good d (OfCall n (Open c i r m w)) t k = k .0 .good
+right-good d (OfCall n (Start c i r w)) t k = k .0 .good
+right-good d (OfCall n (Join c i r m)) t k = k .0 .good
+right-good d (OfCall n (Voice mask frame)) t k = absurd (true≢false (sym t))
+right-good d (OfCall n Lost) t k = absurd (true≢false (sym t))
+right-good d (OfCall n End) t k = absurd (true≢false (sym t))
+right-good d (OfCall n (Announce w)) t k = absurd (true≢false (sym t))
+right-good d (OfCall n (NextVector out)) t k = absurd (true≢false (sym t))
+right-good d (OfPacket n (OpenPacket end kind c i w)) t k = k .0 .good
+right-good d (OfPacket n (Message octets)) t k = absurd (true≢false (sym t))
+right-good d (OfPacket n LostMessage) t k = absurd (true≢false (sym t))
+right-good d (OfPacket n EndPacket) t k = absurd (true≢false (sym t))
+
+pub bad-book-thrown-out : (st : Step) (d : Device) (o : Operation) → readsBook o ≡ true → rules.goodBook (d .book) ≡ false → numberOf (st d o .0) ≡ 0 → Demand1 st → ⊥
+bad-book-thrown-out st d o t bad done meets = let r = meets .refused d o (λ k. true≢false (sym (right-good d o t k) ∙ bad)) in omega arith
+
 pub wiping-thrown-out : (st : Step) → Demand1 (wiping st) → ⊥
 unfolding rules.goodBook
-wiping-thrown-out st meets =
-    let d = having [] (λ n. noCall) in
-    let r : 2 ≤ 0 = meets .refused d (OfBook (book.Erase 1 0)) (λ k. true≢false (sym (k .good))) in
-    omega arith
+wiping-thrown-out st = bad-book-thrown-out (wiping st) (having [] (λ n. noCall)) (OfBook (book.Erase 1 0)) refl refl refl
 
 -- so is the two of them in one, which answers by the table, changes nothing where it refuses, and turns words and messages as ours
 pub wiping-noise-thrown-out : Demand1 (wiping noisy) → ⊥
@@ -124,13 +161,27 @@ holding-all-thrown-out meets =
     let o = OfBook (book.Begin 1 0 noName) in
     true≢false (sym (on-call d o (meets .held d o refl)))
 
--- ---- a key operation that reaches a call
+-- ---- an operation on keys, a packet or a screen that reaches a call
 
-pub ending-thrown-out : (st : Step) → Demand1 (ending st) → ⊥
-ending-thrown-out st meets =
-    let d = having [] (λ n. listening) in
-    let e : noCall ≡ listening = meets .apart d (OfBook (book.Erase 2 0)) .0 0 in
-    let z = ap (λ (c : Call). c .end) e in
+pub ending-thrown-out : (st : Step) (such : Operation → Bool) (o : Operation) → such o ≡ true → isOnCall o ≡ false → Demand1 (ending such st) → ⊥
+ending-thrown-out st such o e f meets = let z = ap (λ (c : Call). c .end) (stays o e f) in omega arith
+  where
+    stays : (o : Operation) → such o ≡ true → isOnCall o ≡ false → noCall ≡ listening
+    stays (OfBook o) e f = rw e at (meets .apart (having [] (λ n. listening)) (OfBook o) .0 0)
+    stays (OfScreen o) e f = rw e at (meets .apart (having [] (λ n. listening)) (OfScreen o) .calls 0)
+    stays (OfCall n o) e f = absurd (true≢false f)
+    stays (OfPacket n o) e f = rw e at (meets .apart (having [] (λ n. listening)) (OfPacket n o) .1 0)
+
+-- ---- a screen that is refused and handed something all the same
+
+pub telltale-thrown-out : Demand1 telltale → ⊥
+telltale-thrown-out meets =
+    let d = having [] (λ n. noCall) in
+    let o = OfScreen (Inventory 0) in
+    let r : 2 ≤ numberOf (step d o .0) = meets .refused d o (λ k. omega (arith, k .0)) in
+    let u : pick (leb 2 (numberOf (step d o .0))) noise (step d o .1 .1) ≡ replicate 20 0 = meets .untouched d o (λ z. omega arith) in
+    let q : noise ≡ replicate 20 0 = rw (le-leb 2 (numberOf (step d o .0)) r) at u in
+    let z = ap (λ (xs : List ℕ). length xs) q in
     omega arith
 
 -- ---- version three: a vector that is announced in the middle of a session; and one where the session's vector was told already

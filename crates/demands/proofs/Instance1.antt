@@ -106,6 +106,17 @@ unfolding step screenStep screen.nameOf screen.inventoryOf screen.inventoryRefus
     name.textOctets name.isPrintable allZero allBelow firstBelow keyAllowed desKey oddOctet
 is-shown = rw is-loaded (refl, refl, refl)
 
+-- another key may have its name
+shares : book.step (book.Begin 3 0 wardFour) ready .0 ≡ Done
+unfolding book.step operations.beginOf operations.beginRefusals rules.entryOf rules.apart rules.goodBook rules.findEntry rules.freeEntry entry.inRange
+    entry.isFor entry.entryRight entry.usedRight entry.readyRight entry.lacks name.nameRight name.textOctets name.isPrintable allZero allBelow firstBelow
+    keyAllowed desKey oddOctet
+shares = refl
+
+pub is-shared : step (deviceAfter step loading) (OfBook (book.Begin 3 0 wardFour)) .0 ≡ Done
+unfolding step
+is-shared = rw is-loaded shares
+
 -- ---- it opens a call, at either rate and of either strictness
 
 module _ (r m : ℕ) (low : r ≤ 1) (lows : m ≤ 1) where

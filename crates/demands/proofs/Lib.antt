@@ -27,12 +27,12 @@ pub mod RefusalOrder
 pub mod TimeLaws
 pub mod RefusedLaws
 pub mod LoadedLaws
-pub mod NamesAreKept
 pub mod CallsLoaded
 pub mod Counting
 pub mod PacketOpens
 pub mod PacketsLoaded
 pub mod Meets1
+pub mod NamesAreKept
 pub mod ThrownOut1
 pub mod DevicesThrownOut
 pub mod NamesThrownOut

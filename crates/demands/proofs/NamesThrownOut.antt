@@ -1,34 +1,111 @@
--- What names on keys throw out: a device that takes a bad name; one that hands out another name than its begin gave, of whatever key; and one whose inventory
--- shows a key otherwise than it was told.
-use mathlib.Core.Path.{_≡_, refl, sym, ap, _∙_}
+-- What names on keys throw out: a device that takes a bad name, or shows an entry that isn't there; one that hands out another name of a key than its begin gave, or shows an entry otherwise than it
+-- is; one that begins a key again, or finishes half of one; and one whose begin or erase is answered and not done.
+use mathlib.Core.Path.{_≡_, refl, sym, ap, ap₂, _∙_}
 use mathlib.Core.Bool.{Bool, true, false, _&&_}
 use mathlib.Core.List.{List, [], _∷_}
 use Prim.Native.Nat.{ℕ, _≤_, _<_}
 use native.Mathlib.Omega.{arith}
 use lib.ListN.{length, getD, replicate}
+use borrow.Author.Tests.{eq-eqb, lt-ltb}
 use Rattle.octets.specs.Tests.{pick, firstBelow}
+use Rattle.sizes.specs.Ciphers.{keyOctets}
 use Rattle.answers.specs.declared.Answer.{Answer}
 use Rattle.answers.specs.declared.Answer.the-variants.{Done}
 use Rattle.answers.specs.Numbers.{numberOf, isDone}
 use Rattle.keyentry.specs.Name.{IsName}
-use Rattle.keyentry.specs.Entry.{isFor, inRange}
-use Rattle.keybook.specs.Book.{entryOf, goodBook, findEntry}
-use Rattle.keybook.specs.Operations.{hasEntry, beginOf}
+use Rattle.keyentry.specs.Entry.{isFor, inRange, blank}
+use Rattle.keybook.specs.Book.{entryOf, findEntry, bookRefusals}
+use Rattle.keybook.specs.Operations.{eraseOf, entryRefusals}
+use Rattle.keybook.specs.Screen.{shown}
 use Rattle.keybook.specs.History as book
 use Rattle.keybook.proofs.Laws.{FirstFree, begin-done-at-first-free}
+use Rattle.keybook.proofs.GoodLaws.{good-sized}
 use Rattle.keybook.proofs.HoldLaws.{always-good}
-use Rattle.demands.specs.Device.{Device, atFirst, Operation, Name, Inventory, OfBook, OfScreen, listed, screenStep, Step, step, History, deviceAfter, history, keyOperations}
+use Rattle.demands.specs.Device.{Device, atFirst, Operation, Name, Inventory, OfBook, OfScreen, OfCall, OfPacket, listed, Step, step, History, deviceAfter, history, keyOperations}
 use Rattle.demands.specs.Demand1.{Demand1}
-use Rattle.demands.specs.Names.{toldOf, listedOf, shownAt, NamesKept}
-use Rattle.demands.specs.OtherDevices.{passing, readsName, readsEntry, misnaming, mislisting}
-use Rattle.demands.proofs.NamesAreKept.{ours-keeps-names}
+use Rattle.demands.specs.Refusals.{isBegin}
+use Rattle.demands.specs.Names.{toldOf, listedOf, screened, shownAt, cipherAt, NamesKept}
+use Rattle.demands.specs.OtherDevices.{passing, misshowing, forgetting}
+use Rattle.demands.proofs.LoadedLaws.{keysIn, book-is}
+use Rattle.demands.proofs.NamesAreKept.{good-after, there, ours-keeps-names}
 
--- a bad name taken, by whatever device, for whatever cipher type and key ID, in whatever book
+-- ---- by whatever device
+
+-- a bad name taken, for whatever cipher type and key ID, in whatever book
 pub bad-name-thrown-out : (st : Step) (d : Device) (c i : ℕ) (n : List ℕ) → (IsName n → ⊥) → numberOf (st d (OfBook (book.Begin c i n)) .0) ≡ 0 → Demand1 st → ⊥
 bad-name-thrown-out st d c i n bad done meets = let r = meets .refused d (OfBook (book.Begin c i n)) (λ k. bad (k .1)) in omega arith
 
--- ---- a DES key that was begun with a name
+-- an entry past the sixteenth shown
+pub no-other-entry : (st : Step) (d : Device) (k : ℕ) → 16 ≤ k → numberOf (st d (OfScreen (Inventory k)) .0) ≡ 0 → Demand1 st → ⊥
+no-other-entry st d k l done meets = let r = meets .refused d (OfScreen (Inventory k)) (λ right. omega (arith, right .1)) in omega arith
 
+-- a key begun again that was not erased
+pub begun-again-thrown-out : (st : Step) (os : List Operation) (c i : ℕ) (n : List ℕ) → (toldOf (history st os) c i ≡ book.nothing → ⊥)
+    → numberOf (st (deviceAfter st os) (OfBook (book.Begin c i n)) .0) ≡ 0 → NamesKept st → ⊥
+begun-again-thrown-out st os c i n t done kept = let r = kept .begun-once os c i n t in omega arith
+
+-- a key finished that is not whole
+module _ (st : Step) (c i : ℕ) (n xs : List ℕ) where
+  abbrev halfFinished : List Operation
+  halfFinished = OfBook (book.Finish c i) ∷ OfBook (book.Add c i xs) ∷ OfBook (book.Begin c i n) ∷ []
+
+  pub half-finished-thrown-out : history st halfFinished
+      ≡ (OfBook (book.Finish c i), Done) ∷ (OfBook (book.Add c i xs), Done) ∷ (OfBook (book.Begin c i n), Done) ∷ []
+      → (length xs ≡ keyOctets c → ⊥) → NamesKept st → ⊥
+  unfolding keyOperations book.telling
+  half-finished-thrown-out h short kept = short (kept .whole halfFinished c i n xs (rw (h, eq-eqb c c refl, eq-eqb i i refl)))
+
+-- ---- ours, but for what it hands out: another name of any key at any time, or anything else of an entry
+
+module _ (f : List ℕ → List ℕ) where
+  same-after : (os : List Operation) → deviceAfter (misshowing f) os ≡ deviceAfter step os
+  unfolding deviceAfter
+  same-after [] = refl
+  same-after (o ∷ os) = ap (λ (d : Device). step d o .1 .0) (same-after os)
+
+  same-history : (os : List Operation) → history (misshowing f) os ≡ history step os
+  unfolding history
+  same-history [] = refl
+  same-history (o ∷ os) = ap₂ (λ (d : Device) (h : History). (o, step d o .0) ∷ h) (same-after os) (same-history os)
+
+  module _ (os : List Operation) (kept : NamesKept (misshowing f)) where
+    pub misnaming-thrown-out : (c i : ℕ) → (1 ≤ c) × (c ≤ 3) → i ≤ 63 → (n : List ℕ) → book.nameTold (toldOf (history step os) c i) ≡ (Done, n)
+        → (f n ≡ n → ⊥) → ⊥
+    misnaming-thrown-out c i r l n told other =
+        let o = step (deviceAfter step os) (OfScreen (Name c i)) in
+        let ours = ours-keeps-names .name os c i r l ∙ told in
+        let done : o .0 ≡ Done = ap (λ (x : Answer × List ℕ). x .0) ours in
+        let name : o .1 .1 ≡ n = ap (λ (x : Answer × List ℕ). x .1) ours in
+        let theirs = ap (λ (x : Answer × List ℕ). x .1) (rw (same-after os, same-history os) at (kept .name os c i r l) ∙ told) in
+        let t : pick (isDone (o .0) && true) (f (o .1 .1)) (o .1 .1) ≡ n = theirs in
+        other (rw (done, name) at t)
+
+    pub mislisting-thrown-out : (k : ℕ) → k ≤ 15 → (f (shownAt step os k) ≡ shownAt step os k → ⊥) → ⊥
+    mislisting-thrown-out k l other =
+        let d = deviceAfter step os in
+        let o = step d (OfScreen (Inventory k)) in
+        let done : o .0 ≡ Done = ap (λ (x : Answer × List ℕ). x .0) (ours-keeps-names .shown os k l) in
+        let t : pick (isDone (o .0) && true) (f (o .1 .1)) (o .1 .1) ≡ o .1 .1 =
+        kept .in-place d k l (good-after os) ∙ sym (ours-keeps-names .in-place d k l (good-after os)) in
+        other (rw done at t)
+
+-- ---- ours, but a begin, or an erase, is answered and not done
+
+abbrev pub isErase : Operation → Bool
+isErase (OfBook (book.Begin c i n)) = false
+isErase (OfBook (book.Add c i xs)) = false
+isErase (OfBook (book.Finish c i)) = false
+isErase (OfBook (book.Erase c i)) = true
+isErase (OfScreen o) = false
+isErase (OfCall n o) = false
+isErase (OfPacket n o) = false
+
+-- what is shown where nothing is told of
+none-listed : listed (shown blank) ≡ replicate 20 0
+unfolding shown blank
+none-listed = refl
+
+-- a DES key that is begun with a name
 module _ (n : List ℕ) (named : IsName n) where
   abbrev begun : List Operation
   begun = OfBook (book.Begin 2 0 n) ∷ []
@@ -39,43 +116,36 @@ module _ (n : List ℕ) (named : IsName n) where
       ap (λ (o : Answer × List ℕ). o .0)
       (begin-done-at-first-free (replicate 832 0) 2 0 n named (always-good []) refl refl 0 (record { below = omega arith; free = refl; first = λ j l. absurd (omega arith) }))
 
-  -- ours but for what it hands out: the history is ours
-  module _ (such : Operation → Bool) (f : List ℕ → List ℕ) where
-    same-history : history (passing such f) begun ≡ history step begun
-    unfolding history deviceAfter
-    same-history = refl
+  is-told : toldOf (history step begun) 2 0 ≡ book.loading n []
+  unfolding history deviceAfter keyOperations book.telling
+  is-told = rw begin-done
 
-    is-told : toldOf (history (passing such f) begun) 2 0 ≡ book.loading n []
-    unfolding history deviceAfter keyOperations book.telling
-    is-told = rw begin-done
+  told-of : toldOf (history step begun) 2 0 ≡ book.nothing → ⊥
+  told-of e = let z : _≡_ {A = ℕ} 0 1 = cc (e, is-told) in omega arith
 
-  pub misnaming-thrown-out : (f : List ℕ → List ℕ) → (f n ≡ n → ⊥) → NamesKept (misnaming f) → ⊥
-  unfolding deviceAfter history
-  misnaming-thrown-out f other kept =
-      let r = step (deviceAfter step begun) (OfScreen (Name 2 0)) in
-      let theirs = kept .name begun 2 0 (omega arith, omega arith) (omega arith) ∙ ap book.nameTold (is-told readsName f) in
-      let ours = ours-keeps-names .name begun 2 0 (omega arith, omega arith) (omega arith) ∙ ap book.nameTold (is-told readsName f) in
-      let done : r .0 ≡ Done = ap (λ (o : Answer × List ℕ). o .0) ours in
-      let name : r .1 .1 ≡ n = ap (λ (o : Answer × List ℕ). o .1) ours in
-      let t : pick (isDone (r .0) && true) (f (r .1 .1)) (r .1 .1) ≡ n = ap (λ (o : Answer × List ℕ). o .1) theirs in
-      other (rw (done, name) at t)
+  -- it is shown by no entry
+  pub unwritten-thrown-out : NamesKept (forgetting isBegin) → ⊥
+  unfolding deviceAfter history keyOperations book.telling
+  unwritten-thrown-out kept =
+      let s = kept .complete begun 2 0 told-of in
+      let free = ap (λ (x : Answer × List ℕ). x .1) (ours-keeps-names .shown [] (s .place) (s .below)) ∙ none-listed in
+      let used = s .shows ∙ ap (λ (t : book.Progress). listed (book.shownTold 2 0 t)) is-told in
+      let z : _≡_ {A = ℕ} 2 0 = ap (λ (xs : List ℕ). getD xs 0 0) (sym used ∙ free) in
+      omega arith
 
-  -- what the inventory shows of it: DES, key ID 0, no octets loaded, not ready, and the name
-  abbrev pub asBegun : List ℕ
-  asBegun = 2 ∷ 0 ∷ 0 ∷ 0 ∷ n
+  erase-done : step (deviceAfter step begun) (OfBook (book.Erase 2 0)) .0 ≡ Done
+  unfolding step book.step eraseOf entryRefusals bookRefusals inRange
+  erase-done =
+      let b = book.bookAfter (keysIn begun) in
+      rw (book-is begun, eq-eqb _ _ (good-sized b (always-good (keysIn begun))), always-good (keysIn begun), lt-ltb _ _ (there begun 2 0 told-of .0))
 
-  -- one that shows anything else of that cipher type and key ID: another name, another number of octets, or that it is ready
-  pub mislisting-thrown-out : (f : List ℕ → List ℕ) → (f asBegun ≡ asBegun → ⊥) → getD (f asBegun) 0 0 ≡ 2 → getD (f asBegun) 1 0 ≡ 0
-      → NamesKept (mislisting f) → ⊥
-  unfolding deviceAfter history
-  mislisting-thrown-out f other c i kept =
-      let told = is-told readsEntry f in
-      let at = ours-keeps-names .complete begun 2 0 (λ e. let z : _≡_ {A = ℕ} 0 1 = cc (e, told) in omega arith) in
-      let r = step (deviceAfter step begun) (OfScreen (Inventory (at .place))) in
-      let done = ours-keeps-names .answered begun (at .place) (at .below) in
-      let shows : r .1 .1 ≡ asBegun = at .shows ∙ ap (λ (t : book.Progress). listed (book.shownTold 2 0 t)) told in
-      let x : List ℕ = pick (isDone (r .0) && true) (f (r .1 .1)) (r .1 .1) in
-      let is : x ≡ f asBegun = rw (done, shows) in
-      let t : x ≡ listedOf (history (mislisting f) begun) (getD x 0 0) (getD x 1 0) = kept .shown begun (at .place) (at .below) in
-      let u : f asBegun ≡ listedOf (history (mislisting f) begun) 2 0 = rw (is, c, i) at t in
-      other (u ∙ ap (λ (p : book.Progress). listed (book.shownTold 2 0 p)) told)
+  -- it is shown after it was erased
+  pub clinging-thrown-out : NamesKept (forgetting isErase) → ⊥
+  unfolding deviceAfter history keyOperations book.telling
+  clinging-thrown-out kept =
+      let s = ours-keeps-names .complete begun 2 0 told-of in
+      let used : shownAt step begun (s .place) ≡ 2 ∷ 0 ∷ 0 ∷ 0 ∷ n = s .shows ∙ ap (λ (t : book.Progress). listed (book.shownTold 2 0 t)) is-told in
+      let t = ap (λ (x : Answer × List ℕ). x .1) (kept .shown (OfBook (book.Erase 2 0) ∷ begun) (s .place) (s .below)) in
+      let free = (rw (used, erase-done) at t) ∙ none-listed in
+      let z : _≡_ {A = ℕ} 2 0 = ap (λ (xs : List ℕ). getD xs 0 0) free in
+      omega arith

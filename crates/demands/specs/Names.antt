@@ -1,12 +1,20 @@
--- Names on keys (document 02, W-201), asked of any device by what was asked and answered alone: a key's name is the one that its begin gave, and the
--- inventory shows every key that the history tells of, once, and no other.
+-- Names on keys (document 02, W-201), asked of any device: a key's name is the one that its begin gave, until it is erased; and the inventory shows the book
+-- without its key octets, and so every key that the history tells of.
 use mathlib.Core.Path.{_≡_}
-use mathlib.Core.List.{List}
-use Prim.Native.Nat.{ℕ, _≤_}
-use lib.ListN.{getD}
+use mathlib.Core.Bool.{true}
+use mathlib.Core.List.{List, _++_}
+use Prim.Native.Nat.{ℕ, _*_, _≤_}
+use lib.ListN.{length, getD, take, drop}
+use Rattle.sizes.specs.Ciphers.{keyOctets}
+use Rattle.answers.specs.declared.Answer.{Answer}
 use Rattle.answers.specs.declared.Answer.the-variants.{Done}
-use Rattle.keybook.specs.History.{Progress, nothing, telling, nameTold, shownTold}
-use Rattle.demands.specs.Device.{Operation, Name, Inventory, OfScreen, listed, Step, History, deviceAfter, history, keyOperations}
+use Rattle.answers.specs.Numbers.{numberOf}
+use Rattle.keybook.specs.Book.{goodBook}
+use Rattle.keybook.specs.History as book
+use Rattle.keybook.specs.History.{Progress, nothing, finished, telling, nameTold, shownTold}
+use Rattle.demands.specs.Device.{Device, Operation, Name, Inventory, OfBook, OfScreen, listed, Step, History, deviceAfter, history, keyOperations}
+
+-- ---- by what was asked and answered alone
 
 -- what a history tells of a cipher type and key ID, and how the inventory shows that
 abbrev pub toldOf : History → ℕ → ℕ → Progress
@@ -14,6 +22,10 @@ toldOf h c i = telling (keyOperations h) c i
 
 abbrev pub listedOf : History → ℕ → ℕ → List ℕ
 listedOf h c i = listed (shownTold c i (toldOf h c i))
+
+-- what a screen operation answers and hands out
+abbrev pub screened : Answer × (Device × List ℕ) → Answer × List ℕ
+screened r = (r .0, r .1 .1)
 
 module _ (st : Step) (os : List Operation) where
   -- what the inventory hands out of entry k, and the cipher type (0 of a free entry) and key ID in it
@@ -32,16 +44,27 @@ module _ (st : Step) (os : List Operation) where
     pub below : place ≤ 15
     pub shows : shownAt place ≡ listedOf (history st os) c i
 
--- over every list of operations from an all-zero book with no call and no packet
+-- ---- by the book
+
+-- entry k of 16 without its key: its octets 0 to 3, and 36 to 51
+abbrev pub withoutKey : List ℕ → ℕ → List ℕ
+withoutKey b k = let e = take 52 (drop (k * 52) b) in take 4 e ++ take 16 (drop 36 e)
+
+-- ---- what is asked; a list of operations is any, from an all-zero book with no call and no packet
+
 pub record NamesKept (st : Step) : Type 0 where
   -- the name is the one that the begin gave, ready or not; where there is no key it is 5, and zeros
   pub name : (os : List Operation) (c i : ℕ) → (1 ≤ c) × (c ≤ 3) → i ≤ 63
-      → (st (deviceAfter st os) (OfScreen (Name c i)) .0, st (deviceAfter st os) (OfScreen (Name c i)) .1 .1) ≡ nameTold (toldOf (history st os) c i)
-  -- each of 16 entries shows what is told of the cipher type and key ID that it shows: name, octets loaded, ready; or that it is free
-  pub answered : (os : List Operation) (k : ℕ) → k ≤ 15 → st (deviceAfter st os) (OfScreen (Inventory k)) .0 ≡ Done
-  pub shown : (os : List Operation) (k : ℕ) → k ≤ 15 → shownAt st os k ≡ listedOf (history st os) (cipherAt st os k) (idAt st os k)
-  -- what is told of is shown
+      → screened (st (deviceAfter st os) (OfScreen (Name c i))) ≡ nameTold (toldOf (history st os) c i)
+  -- no key is begun again before it is erased
+  pub begun-once : (os : List Operation) (c i : ℕ) (n : List ℕ) → (toldOf (history st os) c i ≡ nothing → ⊥)
+      → 2 ≤ numberOf (st (deviceAfter st os) (OfBook (book.Begin c i n)) .0)
+  -- what was finished is whole
+  pub whole : (os : List Operation) (c i : ℕ) (n xs : List ℕ) → toldOf (history st os) c i ≡ finished n xs → length xs ≡ keyOctets c
+  -- on every device whose book is good, entry k is shown as the book has it, but for its key
+  pub in-place : (d : Device) (k : ℕ) → k ≤ 15 → goodBook (d .book) ≡ true → st d (OfScreen (Inventory k)) .1 .1 ≡ withoutKey (d .book) k
+  -- each of 16 entries shows what is told of the cipher type and key ID that it shows: octets loaded, ready, name; or that it is free
+  pub shown : (os : List Operation) (k : ℕ) → k ≤ 15
+      → screened (st (deviceAfter st os) (OfScreen (Inventory k))) ≡ (Done, listedOf (history st os) (cipherAt st os k) (idAt st os k))
+  -- and what is told of is shown
   pub complete : (os : List Operation) (c i : ℕ) → (toldOf (history st os) c i ≡ nothing → ⊥) → Shows st os c i
-  -- and once
-  pub once : (os : List Operation) (j k : ℕ) → j ≤ 15 → k ≤ 15 → (cipherAt st os k ≡ 0 → ⊥)
-      → cipherAt st os j ≡ cipherAt st os k → idAt st os j ≡ idAt st os k → j ≡ k

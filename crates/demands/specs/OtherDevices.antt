@@ -1,5 +1,5 @@
--- Devices that demand 1 throws out: each does what the user fears. And devices that count wrong (document 02, W-207), or lose names (W-201).
-use mathlib.Core.Bool.{Bool, true, false, _&&_, not}
+-- Devices that demand 1 throws out: each does what the user fears. And devices that count wrong (document 02, W-207), or show keys wrong (W-201).
+use mathlib.Core.Bool.{Bool, true, false, _&&_}
 use mathlib.Core.List.{List, [], _∷_}
 use Prim.Native.Nat.{ℕ, _+_}
 use lib.Dec.{leb, eqb}
@@ -17,7 +17,7 @@ use Rattle.voice.specs.Counts.{noCounts}
 use Rattle.voice.specs.Opening.{begun, joined}
 use Rattle.voice.specs.Slot.{streamOf, inSlot}
 use Rattle.voice.specs.Vector.{withVector}
-use Rattle.demands.specs.Device.{withNone, Device, ScreenOperation, Name, Inventory, CallOperation, Open, Start, Join, Voice, Lost, End, Announce, NextVector, callStep, Operation, OfBook, OfScreen, OfCall, OfPacket, withCall, Step, step, lent}
+use Rattle.demands.specs.Device.{withNone, Device, CallOperation, Open, Start, Join, Voice, Lost, End, Announce, NextVector, callStep, Operation, OfBook, OfScreen, OfCall, OfPacket, withCall, Step, step, lent}
 use Rattle.demands.specs.Refusals.{callRefusals}
 
 -- octets that nobody said
@@ -68,15 +68,12 @@ careless st d o = let r = st d o in (r .0, (pick (leb 2 (numberOf (r .0))) (wipe
 abbrev pub holdingAll : Step
 holdingAll d o = (Held, (d, lent o))
 
--- any device, but a key operation ends call 0
-abbrev endingBy : Operation → Device → Device
-endingBy (OfBook o) d = record { book = d .book; calls = λ n. pick (eqb n 0) noCall (d .calls n); packets = d .packets }
-endingBy (OfScreen o) d = d
-endingBy (OfCall n o) d = d
-endingBy (OfPacket n o) d = d
+-- any device, but such an operation ends call 0
+abbrev ended : Device → Device
+ended d = record { book = d .book; calls = λ n. pick (eqb n 0) noCall (d .calls n); packets = d .packets }
 
-abbrev pub ending : Step → Step
-ending st d o = let r = st d o in (r .0, (endingBy o (r .1 .0), r .1 .1))
+abbrev pub ending : (Operation → Bool) → Step → Step
+ending such st d o = let r = st d o in (r .0, (pick (such o) (ended (r .1 .0)) (r .1 .0), r .1 .1))
 
 -- ---- devices that are ours but for an operation on a call
 
@@ -165,25 +162,21 @@ passedOff xs = (getD xs 0 0 + getD xs 1 0) ∷ 0 ∷ getD xs 2 0 ∷ getD xs 3 0
 
 -- ---- devices that are ours but for what they show
 
-abbrev reads : ScreenOperation → Bool
-reads (Name c i) = true
-reads (Inventory k) = false
+abbrev isScreen : Operation → Bool
+isScreen (OfBook o) = false
+isScreen (OfScreen o) = true
+isScreen (OfCall n o) = false
+isScreen (OfPacket n o) = false
 
-abbrev pub readsName : Operation → Bool
-readsName (OfBook o) = false
-readsName (OfScreen o) = reads o
-readsName (OfCall n o) = false
-readsName (OfPacket n o) = false
+-- a name or an entry otherwise
+abbrev pub misshowing : (List ℕ → List ℕ) → Step
+misshowing = passing isScreen
 
-abbrev pub readsEntry : Operation → Bool
-readsEntry (OfBook o) = false
-readsEntry (OfScreen o) = not (reads o)
-readsEntry (OfCall n o) = false
-readsEntry (OfPacket n o) = false
+-- noise, where it is refused
+abbrev pub telltale : Step
+telltale d o = let r = step d o in (r .0, (r .1 .0, pick (isScreen o && leb 2 (numberOf (r .0))) noise (r .1 .1)))
 
--- another name, or another entry
-abbrev pub misnaming : (List ℕ → List ℕ) → Step
-misnaming = passing readsName
+-- ---- ours, but such an operation is answered and not done
 
-abbrev pub mislisting : (List ℕ → List ℕ) → Step
-mislisting = passing readsEntry
+abbrev pub forgetting : (Operation → Bool) → Step
+forgetting such d o = let r = step d o in (r .0, (pick (such o) d (r .1 .0), r .1 .1))

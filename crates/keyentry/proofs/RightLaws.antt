@@ -3,16 +3,17 @@ use Prim.Native.Nat.{ℕ, _≤_, _<_}
 use native.Mathlib.Decide.{ℕ-discrete, decLt}
 use native.Mathlib.Omega.{arith}
 use mathlib.Core.Path.{_≡_, refl}
-use mathlib.Core.Bool.{Bool, true, false}
+use mathlib.Core.Bool.{Bool, true, false, _&&_}
 use mathlib.Core.List.{List}
 use lib.ListN.{length, getD, List·getD-eq-default}
 use lib.Dec.{leb, eqb}
 use borrow.Author.Tests.{le-leb, leb-true, eq-eqb, ne-eqb, eqb-true}
 use Rattle.octets.specs.Lists.{allZero}
+use Rattle.octets.specs.Tests.{pick}
 use Rattle.sizes.proofs.SizeLaws.{key-at-most}
 use Rattle.octets.proofs.TestLaws.{all-at, all-intro, and-left, and-right}
 use Rattle.sizes.specs.Ciphers.{keyOctets, keyRoom}
-use Rattle.keyentry.specs.Entry.{cipherIn, idIn, countIn, countPlace, keyRest, nameIn, inRange, readyRight, usedRight, entryRight, isFor}
+use Rattle.keyentry.specs.Entry.{cipherIn, idIn, countIn, countPlace, readyIn, readyPlace, isReady, keyRest, nameIn, inRange, readyRight, usedRight, entryRight, isFor}
 use Rattle.keyentry.specs.Name.{nameRight}
 
 pub zero-at : (xs : List ℕ) → allZero xs ≡ true → (j : ℕ) → getD xs j 0 ≡ 0
@@ -64,6 +65,20 @@ module _ (e : List ℕ) where
       go : Dec (cipherIn e ≡ 0) → countIn e ≤ keyRoom
       go (yes z) = omega (arith, free-zero z r countPlace)
       go (no n) = omega (arith, used-of n r .count, key-at-most (cipherIn e))
+
+  -- octet 3 is 1 where the entry is ready, and else 0
+  pub ready-octet : entryRight e ≡ true → pick (isReady e) 1 0 ≡ readyIn e
+  unfolding readyRight
+  ready-octet r = go (ℕ-discrete (readyIn e) 0) (ℕ-discrete (cipherIn e) 0)
+    where
+      go : Dec (readyIn e ≡ 0) → Dec (cipherIn e ≡ 0) → pick (isReady e) 1 0 ≡ readyIn e
+      go (yes z) c = rw z
+      go (no n) (yes z) = absurd (n (free-zero z r readyPlace))
+      go (no n) (no m) =
+          let q : leb (readyIn e) 1 && _ ≡ true = rw (ne-eqb (readyIn e) 0 n) at (used-of m r .ready) in
+          let l : readyIn e ≤ 1 = leb-true _ _ (and-left (leb (readyIn e) 1) _ q) in
+          let one : readyIn e ≡ 1 = omega arith in
+          rw one
 
   module _ (c i : ℕ) where
     pub for-parts : isFor c i e ≡ true → (cipherIn e ≡ c) × (idIn e ≡ i)
