@@ -249,7 +249,7 @@ def walked():
     """The lines of bookwalk, answered by the model."""
     for line in sys.stdin.read().splitlines():
         words = line.split(": ")[0].split(" ")
-        if words[0] == "#":
+        if words[0] in ("#", "seen"):
             print(line)
         elif words[0] == "book":
             book = Book(int(words[2]))

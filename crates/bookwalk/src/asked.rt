@@ -108,6 +108,14 @@ fn answered(answer: Answer, book: &[u8], before: [u8; ROOM]) {
     text(b"\n");
 }
 
+// A refusal that changes the book is seen: one octet is set behind its back.
+pub fn seen(book: &mut [u8]) {
+    let before = copied(book);
+    spoil(book, 0, 1);
+    text(b"seen");
+    answered(Answer::Bad, book, before);
+}
+
 // ---- the operations
 
 fn begun(book: &mut [u8], cipher: u8, id: u8, name: &[u8]) {

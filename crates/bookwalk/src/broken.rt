@@ -67,6 +67,8 @@ pub fn broken_names() {
     );
     broken(b"1F hex in a name", b"\x7f\xff", NAME + 2, 0x1F);
     broken(b"7F hex in a name", b"\x7f\xff", NAME + 2, 0x7F);
+    broken(b"C4 hex in a name", b"\x7f\xff", NAME + 2, 0xC4);
+    broken(b"a zero and then a name", b"\x7f\xff", NAME, 0);
     broken(b"a zero in the middle of a name", b"\x7f\xff", NAME + 2, 0);
     broken(
         b"a name that is not padded at its end",

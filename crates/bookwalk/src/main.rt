@@ -9,6 +9,7 @@ use crate::asked::fresh;
 use crate::asked::heading;
 use crate::asked::inventory;
 use crate::asked::ready;
+use crate::asked::seen;
 use crate::asked::spoil;
 use crate::broken::broken_entries;
 use crate::broken::broken_names;
@@ -134,4 +135,6 @@ fn main() {
     broken_names();
     orders();
     orders_of_names();
+    heading(b"a refusal that changes the book");
+    seen(&mut book);
 }

@@ -8,13 +8,15 @@ use crate::asked::fresh;
 use crate::asked::heading;
 use crate::asked::inventory;
 use crate::asked::name;
+use crate::asked::ready;
 use crate::asked::spoil;
 use keybook::BOOK_OCTETS;
-use keyentry::CIPHER;
+use keyentry::READY;
 
 // Two entries have one name.
 fn shared(book: &mut [u8]) {
     heading(b"two entries with one name");
+    fresh(book);
     begin_named(book, 1, 5, b"WARD FOUR\0\0\0\0\0\0\0");
     begin_named(book, 2, 5, b"WARD FOUR\0\0\0\0\0\0\0");
     name(book, 1, 5);
@@ -40,18 +42,29 @@ fn kept(book: &mut [u8]) {
     name(book, 2, 5);
 }
 
+// A name and a key that both fill their octets.
+fn beside(book: &mut [u8]) {
+    heading(b"a whole AES key beside a name of 16 octets");
+    begin_named(book, 3, 5, b"~ 16 octets long");
+    add(book, 3, 5, b"0123456789abcdefghijklmnopqrstuv");
+    finish(book, 3, 5);
+    ready(book, 3, 5);
+    name(book, 3, 5);
+    inventory(book, 2);
+}
+
 pub fn names() {
     let mut book = [0u8; BOOK_OCTETS];
-    fresh(&book);
     shared(&mut book);
     kept(&mut book);
+    beside(&mut book);
     heading(b"spaces, and no name");
     begin_named(&mut book, 3, 0, b"                ");
     begin(&mut book, 3, 1);
     name(&book, 3, 0);
     name(&book, 3, 1);
-    inventory(&book, 2);
     inventory(&book, 3);
+    inventory(&book, 4);
 }
 
 pub fn bad_names() {
@@ -79,7 +92,10 @@ pub fn orders_of_names() {
     begin_named(&mut book, 0, 64, b"WARD\x7f");
     begin_named(&mut book, 0, 64, b"WARD\x7fFOUR\0\0\0\0\0\0\0");
     begin_named(&mut book, 1, 5, b"WARD\x7fFOUR\0\0\0\0\0\0\0");
-    spoil(&mut book, CIPHER, 4);
+    spoil(&mut book, READY, 2);
+    begin_named(&mut book, 1, 5, b"WARD\x7f");
     begin_named(&mut book, 1, 5, b"WARD\x7fFOUR\0\0\0\0\0\0\0");
     begin_named(&mut book, 1, 5, b"WARD FOUR\0\0\0\0\0\0\0");
+    inventory(&book, 16);
+    inventory(&book, 15);
 }

@@ -1,4 +1,5 @@
 // Books of other lengths, and numbers out of range.
+use crate::asked::begin_named;
 use crate::asked::every;
 use crate::asked::fresh;
 use crate::asked::heading;
@@ -9,6 +10,7 @@ fn wrong_length(book: &mut [u8]) {
     fresh(book);
     every(book, 1, 5);
     every(book, 0, 64);
+    begin_named(book, 1, 5, b"WARD\x7fFOUR\0\0\0\0\0\0\0");
     inventory(book, 16);
 }
 

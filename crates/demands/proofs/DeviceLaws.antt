@@ -55,7 +55,7 @@ pub screen-settles : (b : List ℕ) (o : ScreenOperation) → Settles (lentScree
 unfolding screenStep screen.nameOf screen.inventoryOf screen.inventoryRefusals screen.shown operations.entryRefusals bookRefusals noName blank
 screen-settles b (Name c i) = settles noName (operations.entryRefusals b c i) (Done, nameIn (operations.entryFor b c i)) refl (omega arith)
 screen-settles b (Inventory k) =
-    let s = settles (screen.shown blank) (screen.inventoryRefusals b k) (Done, screen.shown (entryOf b k)) refl (omega arith) in
+    let s = settles screen.nothingShown (screen.inventoryRefusals b k) (Done, screen.shown (entryOf b k)) refl (omega arith) in
     record { number = s .number; answer = s .answer; none-holds = s .none-holds; keeps = λ h. ap listed (s .keeps h) }
 
 -- an operation that writes no lent octets

@@ -1,7 +1,7 @@
 -- Our device keeps names; and of any device that does, and meets demand 1, each key is shown once.
 use mathlib.Core.Path.{_≡_, refl, sym, ap, _∙_}
-use mathlib.Core.Bool.{Bool, true, false, _&&_, true≢false}
-use mathlib.Core.List.{List, [], _∷_, _++_}
+use mathlib.Core.Bool.{Bool, true, false, true≢false}
+use mathlib.Core.List.{List, [], _∷_}
 use Prim.Native.Nat.{ℕ, _≤_, _<_}
 use native.Mathlib.Decide.{decLt}
 use native.Mathlib.Omega.{arith}
@@ -25,9 +25,9 @@ use Rattle.keybook.proofs.HoldLaws.{always-good}
 use Rattle.keybook.proofs.HistoryLaws.{ready-only-if-told, ready-if-finished}
 use Rattle.keybook.proofs.ScreenLaws.{list-done}
 use Rattle.keybook.proofs.ToldLaws.{name-is-told, inventory-is-told, told-is-listed}
-use Rattle.demands.specs.Device.{Device, Operation, Name, Inventory, OfBook, OfScreen, listed, screenStep, Step, step, deviceAfter, history, keyOperations}
+use Rattle.demands.specs.Device.{Device, Operation, Inventory, OfBook, OfScreen, listed, screenStep, Step, step, deviceAfter, history}
 use Rattle.demands.specs.Demand1.{Demand1}
-use Rattle.demands.specs.Names.{toldOf, listedOf, screened, shownAt, cipherAt, idAt, Shows, withoutKey, NamesKept}
+use Rattle.demands.specs.Names.{toldOf, listedOf, screened, cipherAt, idAt, Shows, withoutKey, NamesKept}
 use Rattle.demands.proofs.DeviceLaws.{unrefused-only}
 use Rattle.demands.proofs.LoadedLaws.{keysIn, book-is, keys-are}
 

@@ -3,7 +3,7 @@
 use mathlib.Core.Path.{_≡_, refl, sym, ap, ap₂, _∙_}
 use mathlib.Core.Bool.{Bool, true, false, _&&_}
 use mathlib.Core.List.{List, [], _∷_}
-use Prim.Native.Nat.{ℕ, _≤_, _<_}
+use Prim.Native.Nat.{ℕ, _≤_}
 use native.Mathlib.Omega.{arith}
 use lib.ListN.{length, getD, replicate}
 use borrow.Author.Tests.{eq-eqb, lt-ltb}
@@ -12,20 +12,20 @@ use Rattle.sizes.specs.Ciphers.{keyOctets}
 use Rattle.answers.specs.declared.Answer.{Answer}
 use Rattle.answers.specs.declared.Answer.the-variants.{Done}
 use Rattle.answers.specs.Numbers.{numberOf, isDone}
-use Rattle.keyentry.specs.Name.{IsName}
-use Rattle.keyentry.specs.Entry.{isFor, inRange, blank}
+use Rattle.keyentry.specs.Name.{noName, IsName}
+use Rattle.keyentry.specs.Entry.{isFor, inRange}
 use Rattle.keybook.specs.Book.{entryOf, findEntry, bookRefusals}
 use Rattle.keybook.specs.Operations.{eraseOf, entryRefusals}
-use Rattle.keybook.specs.Screen.{shown}
+use Rattle.keybook.specs.Screen.{nothingShown}
 use Rattle.keybook.specs.History as book
-use Rattle.keybook.proofs.Laws.{FirstFree, begin-done-at-first-free}
+use Rattle.keybook.proofs.Laws.{begin-done-at-first-free}
 use Rattle.keybook.proofs.GoodLaws.{good-sized}
 use Rattle.keybook.proofs.HoldLaws.{always-good}
 use Rattle.demands.specs.Device.{Device, atFirst, Operation, Name, Inventory, OfBook, OfScreen, OfCall, OfPacket, listed, Step, step, History, deviceAfter, history, keyOperations}
 use Rattle.demands.specs.Demand1.{Demand1}
 use Rattle.demands.specs.Refusals.{isBegin}
-use Rattle.demands.specs.Names.{toldOf, listedOf, screened, shownAt, cipherAt, NamesKept}
-use Rattle.demands.specs.OtherDevices.{passing, misshowing, forgetting}
+use Rattle.demands.specs.Names.{toldOf, shownAt, NamesKept}
+use Rattle.demands.specs.OtherDevices.{misshowing, forgetting}
 use Rattle.demands.proofs.LoadedLaws.{keysIn, book-is}
 use Rattle.demands.proofs.NamesAreKept.{good-after, there, ours-keeps-names}
 
@@ -101,8 +101,8 @@ isErase (OfCall n o) = false
 isErase (OfPacket n o) = false
 
 -- what is shown where nothing is told of
-none-listed : listed (shown blank) ≡ replicate 20 0
-unfolding shown blank
+none-listed : listed nothingShown ≡ replicate 20 0
+unfolding noName
 none-listed = refl
 
 -- a DES key that is begun with a name

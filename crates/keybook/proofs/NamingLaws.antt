@@ -22,7 +22,7 @@ use Rattle.keybook.proofs.GoodLaws.{good-sized, good-entry}
 use Rattle.keybook.proofs.OperationLaws.{begin-bad-name}
 use Rattle.keybook.proofs.UndoLaws.{free-blank}
 
--- each entry of a good book has a name at its octets 36 to 51, no text where it is free: any other octets there make the book bad
+-- each entry of a good book has a name at its octets 36 to 51: any other octets there make the book bad
 pub good-named : (b : List ℕ) → goodBook b ≡ true → (k : ℕ) → k < 16 → IsName (take 16 (drop 36 (take 52 (drop (k * 52) b))))
 unfolding entryOf
 good-named b g k l = go (ℕ-discrete (cipherIn (entryOf b k)) 0)
@@ -42,7 +42,7 @@ pub record BadlyNamed (b : List ℕ) (c i : ℕ) (name : List ℕ) : Type 0 wher
   pub name-long : length name ≡ 16
   pub long : length b ≡ 832
   pub in-range : inRange c i ≡ true
-  pub is-none : IsName name → ⊥
+  pub is-bad : IsName name → ⊥
 
 -- 17 is given there and nowhere else
 module _ (b : List ℕ) (c i : ℕ) (name : List ℕ) where
@@ -50,7 +50,7 @@ module _ (b : List ℕ) (c i : ℕ) (name : List ℕ) where
   not-right m = go (nameRight name) refl
     where
       go : (t : Bool) → nameRight name ≡ t → t ≡ false
-      go true r = absurd (m .is-none (right-is-name name (m .name-long) r))
+      go true r = absurd (m .is-bad (right-is-name name (m .name-long) r))
       go false r = refl
 
   only-badly : numberOf (beginOf b c i name .0) ≡ 17 → BadlyNamed b c i name
@@ -67,7 +67,7 @@ module _ (b : List ℕ) (c i : ℕ) (name : List ℕ) where
             name-long = eqb-true _ _ (not-false _ w);
             long = eqb-true _ _ (not-false _ l);
             in-range = not-false _ r;
-            is-none = λ m. true≢false (sym (name-is-right name m) ∙ not-true _ t);
+            is-bad = λ m. true≢false (sym (name-is-right name m) ∙ not-true _ t);
           }
 
   pub bad-name-exactly : (numberOf (beginOf b c i name .0) ≡ 17 → BadlyNamed b c i name) × (BadlyNamed b c i name → beginOf b c i name ≡ (BadName, b))

@@ -1,7 +1,6 @@
 -- The ways through what a screen shows, and its laws.
 use Prim.Native.Nat.{ℕ, _≤_, _<_}
-use native.Mathlib.Omega.{arith}
-use mathlib.Core.Path.{_≡_, ap, ap₂, _∙_}
+use mathlib.Core.Path.{_≡_, ap₂, _∙_}
 use mathlib.Core.Bool.{true, false}
 use mathlib.Core.List.{List, []}
 use lib.ListN.{length}
@@ -10,13 +9,13 @@ use Rattle.answers.specs.declared.Answer.{Answer}
 use Rattle.answers.specs.declared.Answer.the-variants.{Done, WrongLength, OutOfRange, Bad}
 use Rattle.answers.proofs.OutcomeLaws.{refusal-keeps, one-outcome}
 use Rattle.keyentry.specs.Name.{noName}
-use Rattle.keyentry.specs.Entry.{cipherIn, idIn, countIn, readyIn, nameIn, blank}
+use Rattle.keyentry.specs.Entry.{nameIn}
 use Rattle.keybook.specs.declared.screen.Shown.{Shown}
 use Rattle.keybook.specs.declared.screen.Named.{Named}
 use Rattle.keybook.specs.declared.screen.Listed.{Listed}
 use Rattle.keybook.specs.Book.{entries, bookOctets, entryOf, goodBook}
 use Rattle.keybook.specs.Operations.{entryFor, entryRefusals}
-use Rattle.keybook.specs.Screen.{nameOf, shown, inventoryRefusals, inventoryOf}
+use Rattle.keybook.specs.Screen.{nameOf, shown, nothingShown, inventoryRefusals, inventoryOf}
 use Rattle.keybook.proofs.OperationLaws.{Ways, ways}
 
 -- ---- the name of an entry
@@ -40,21 +39,21 @@ module _ (b : List ℕ) (c i : ℕ) where
 -- ---- the inventory
 
 -- a refusal's answer and what is shown with it, by its parts
-pub unlisted : {a r : Answer} {s : Shown} {o : Answer × Shown} → (a ≡ r) × (s ≡ shown blank) → (r, shown blank) ≡ o → (a, s) ≡ o
+pub unlisted : {a r : Answer} {s : Shown} {o : Answer × Shown} → (a ≡ r) × (s ≡ nothingShown) → (r, nothingShown) ≡ o → (a, s) ≡ o
 unlisted p q = ap₂ (λ (x : Answer) (y : Shown). (x, y)) (p .0) (p .1) ∙ q
 
 module _ (b : List ℕ) (k : ℕ) where
-  pub list-length : (length b ≡ bookOctets → ⊥) → (WrongLength, shown blank) ≡ inventoryOf b k
+  pub list-length : (length b ≡ bookOctets → ⊥) → (WrongLength, nothingShown) ≡ inventoryOf b k
   unfolding inventoryOf inventoryRefusals
   list-length h = rw (ne-eqb _ _ h)
 
   module _ (h : length b ≡ bookOctets) where
-    pub list-range : entries ≤ k → (OutOfRange, shown blank) ≡ inventoryOf b k
+    pub list-range : entries ≤ k → (OutOfRange, nothingShown) ≡ inventoryOf b k
     unfolding inventoryOf inventoryRefusals
     list-range l = rw (eq-eqb _ _ h, le-ltb _ _ l)
 
     module _ (l : k < entries) where
-      pub list-bad : goodBook b ≡ false → (Bad, shown blank) ≡ inventoryOf b k
+      pub list-bad : goodBook b ≡ false → (Bad, nothingShown) ≡ inventoryOf b k
       unfolding inventoryOf inventoryRefusals
       list-bad g = rw (eq-eqb _ _ h, lt-ltb _ _ l, g)
 
@@ -63,9 +62,9 @@ module _ (b : List ℕ) (k : ℕ) where
       list-done g = rw (eq-eqb _ _ h, lt-ltb _ _ l, g)
 
   -- a refusal shows nothing
-  pub refused-shows-nothing : (inventoryOf b k .0 ≡ Done → ⊥) → inventoryOf b k .1 ≡ shown blank
+  pub refused-shows-nothing : (inventoryOf b k .0 ≡ Done → ⊥) → inventoryOf b k .1 ≡ nothingShown
   unfolding inventoryOf
-  refused-shows-nothing = refusal-keeps (shown blank) (inventoryRefusals b k) (Done, shown (entryOf b k))
+  refused-shows-nothing = refusal-keeps nothingShown (inventoryRefusals b k) (Done, shown (entryOf b k))
 
   pub one-inventory : (r s : Listed) → (r .answer, r .entry) ≡ inventoryOf b k → (s .answer, s .entry) ≡ inventoryOf b k → r ≡ s
   one-inventory r s p q =

@@ -13,13 +13,13 @@ use Rattle.octets.specs.Tests.{pick}
 use Rattle.sizes.proofs.SizeLaws.{key-at-most}
 use Rattle.answers.specs.declared.Answer.the-variants.{Done, NoEntry}
 use Rattle.keyentry.specs.Name.{noName}
-use Rattle.keyentry.specs.Entry.{entryOctets, cipherIn, idIn, countIn, nameIn, isReady, inRange}
+use Rattle.keyentry.specs.Entry.{entryOctets, cipherIn, idIn, countIn, nameIn, isReady, inRange, blank}
 use Rattle.keyentry.proofs.RightLaws.{Used, used-of, for-parts, parts-for}
 use Rattle.keyentry.proofs.WriteLaws.{keyLoaded, loaded-count, in-range-used}
 use Rattle.keybook.specs.declared.screen.Shown.{Shown}
 use Rattle.keybook.specs.Book.{entries, entryOf, goodBook, findEntry, bookRefusals}
 use Rattle.keybook.specs.Operations.{entryFor, entryRefusals}
-use Rattle.keybook.specs.Screen.{nameOf, shown, inventoryOf}
+use Rattle.keybook.specs.Screen.{nameOf, shown, nothingShown, inventoryOf}
 use Rattle.keybook.specs.History.{Operation, nothing, telling, bookAfter, history, nameTold, shownTold, Told}
 use Rattle.keybook.proofs.BookLaws.{entry-length}
 use Rattle.keybook.proofs.GoodLaws.{good-sized, good-entry, find-is, found-for, none-for}
@@ -28,7 +28,11 @@ use Rattle.keybook.proofs.FindLaws.{find-none, none-there, used-found}
 use Rattle.keybook.proofs.HoldLaws.{always-good, held, held-nothing, held-loading, held-finished, none-held, holds-what-was-told}
 use Rattle.keybook.proofs.UndoLaws.{free-blank}
 
--- ---- what a used entry shows is what it holds
+-- ---- what a free entry shows is zeros, and what a used one shows is what it holds
+
+pub shown-free : shown blank ≡ nothingShown
+unfolding shown blank noName
+shown-free = refl
 
 module _ (e : List ℕ) (n : cipherIn e ≡ 0 → ⊥) where
   name-held : (Done, nameIn e) ≡ nameTold (held e)
@@ -91,7 +95,7 @@ module _ (os : List Operation) where
       go : Dec (cipherIn e ≡ 0) → shown e ≡ shownTold (cipherIn e) (idIn e) (telling (history os) (cipherIn e) (idIn e))
       go (yes z) =
           let none = sym (holds-what-was-told os (cipherIn e) (idIn e)) ∙ ap (λ (c : ℕ). held (entryFor b c (idIn e))) z ∙ none-held b (idIn e) (good-sized b good) in
-          ap shown (free-blank b k good l z) ∙ sym (ap (shownTold (cipherIn e) (idIn e)) none)
+          ap shown (free-blank b k good l z) ∙ shown-free ∙ sym (ap (shownTold (cipherIn e) (idIn e)) none)
       go (no n) =
           let here = ap (entryOf b) (find-is b good (cipherIn e) (idIn e) k l n (parts-for e _ _ refl refl)) in
           shown-held e n (entry-length b k (good-sized b good) l) (used-of e n (good-entry b good k l))

@@ -12,15 +12,15 @@ use Rattle.answers.specs.declared.Answer.{Answer}
 use Rattle.answers.specs.declared.Answer.the-variants.{Done}
 use Rattle.answers.specs.Numbers.{isDone}
 use Rattle.answers.proofs.OutcomeLaws.{NoneHolds, done-none, none-settles}
-use Rattle.keyentry.specs.Entry.{entryOctets, cipherIn, isReady, inRange, isFor, blank, newEntry, extended, completed}
+use Rattle.keyentry.specs.Entry.{entryOctets, cipherIn, isReady, nameIn, inRange, isFor, blank, newEntry, extended, completed}
 use Rattle.keyentry.proofs.RightLaws.{free-zero, parts-for}
-use Rattle.keyentry.proofs.WriteLaws.{in-range-used, blank-length, blank-cipher, blank-right, new-cipher, new-id, extend-cipher, extend-id, complete-cipher, complete-id, complete-ready}
+use Rattle.keyentry.proofs.WriteLaws.{in-range-used, blank-length, blank-cipher, blank-right, new-cipher, new-id, new-name, extend-cipher, extend-id, extend-name, complete-name, complete-cipher, complete-id, complete-ready}
 use Rattle.keybook.specs.Book.{entries, bookOctets, entryOf, withEntry, goodBook, findEntry, freeEntry, bookRefusals}
 use Rattle.keybook.specs.Operations.{entryFor, withFor, beginRefusals, beginAfter, beginOf, addRefusals, addOf, finishRefusals, finishOf, entryRefusals, eraseOf}
 use Rattle.keybook.proofs.BookLaws.{entry-length}
 use Rattle.keybook.proofs.GoodLaws.{good-sized, good-entry, find-is, entry-same, entry-other}
 use Rattle.keybook.proofs.OperationLaws.{with-same}
-use Rattle.keybook.proofs.DoneLaws.{Changed, begin-never-done, add-never-done, finish-never-done, begin-in-range, begin-changed, add-there, add-fits, add-changed, finish-there, finish-changed}
+use Rattle.keybook.proofs.DoneLaws.{Changed, begin-never-done, add-never-done, finish-never-done, begin-named, begin-in-range, begin-changed, add-there, add-fits, add-changed, finish-there, finish-changed}
 use Rattle.keybook.proofs.Laws.{begin-takes-first-free}
 
 -- an entry replaced twice is replaced once
@@ -64,6 +64,20 @@ module _ {b : List ℕ} {c i k : ℕ} {e after : List ℕ} (m : Begun b c i k e 
 
   pub begun-found : findEntry after c i ≡ k
   begun-found = find-is after begun-good c i k (m .changed .below) (in-range-used c i (m .in-range)) (ap (isFor c i) begun-entry ∙ m .its)
+
+  pub begun-for : entryFor after c i ≡ e
+  begun-for = ap (entryOf after) begun-found ∙ begun-entry
+
+  pub add-keeps-name : (xs : List ℕ) → isDone (addOf after c i xs .0) ≡ true → nameIn (extended (entryFor after c i) xs) ≡ nameIn e
+  unfolding addOf
+  add-keeps-name xs d =
+      let x = entryFor after c i in
+      let n = done-none (addRefusals after c i xs) after (withFor after c i (extended x xs)) (add-never-done after c i xs) d in
+      let t = add-there after c i xs n in
+      extend-name x xs (t .long) (t .right) (add-fits after c i xs n) ∙ ap nameIn begun-for
+
+  pub finish-keeps-name : nameIn (completed (entryFor after c i)) ≡ nameIn e
+  finish-keeps-name = complete-name (entryFor after c i) (ap length begun-for ∙ m .changed .long) ∙ ap nameIn begun-for
 
   undone : withEntry after k blank ≡ b
   undone =
@@ -120,6 +134,11 @@ module _ {b : List ℕ} {c i k : ℕ} {e after : List ℕ} (m : Begun b c i k e 
 
     pub finish-ready : isReady (completed (entryFor after c i)) ≡ true
     finish-ready = complete-ready (entryFor after c i) (finish-there after c i none-finishes .long)
+
+pub begun-name : (b : List ℕ) (c i : ℕ) (name : List ℕ) → isDone (beginOf b c i name .0) ≡ true → nameIn (newEntry c i name) ≡ name
+unfolding beginOf
+begun-name b c i name d =
+    new-name c i name (begin-named b c i name (done-none (beginRefusals b c i name) b (beginAfter b c i name) (begin-never-done b c i name) d))
 
 pub begun-begin : (b : List ℕ) (c i : ℕ) (name : List ℕ) → isDone (beginOf b c i name .0) ≡ true
     → Begun b c i (freeEntry b) (newEntry c i name) (beginOf b c i name .1)

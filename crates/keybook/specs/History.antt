@@ -13,11 +13,10 @@ use Rattle.answers.specs.declared.Answer.{Answer}
 use Rattle.answers.specs.declared.Answer.the-variants.{Done, NoEntry}
 use Rattle.answers.specs.Numbers.{isDone}
 use Rattle.keyentry.specs.Name.{noName}
-use Rattle.keyentry.specs.Entry.{blank}
 use Rattle.keybook.specs.declared.screen.Shown.{Shown}
 use Rattle.keybook.specs.Book.{bookOctets}
 use Rattle.keybook.specs.Operations.{beginOf, addOf, finishOf, eraseOf}
-use Rattle.keybook.specs.Screen.{shown}
+use Rattle.keybook.specs.Screen.{nothingShown}
 
 -- an operation, with its cipher type and key ID; begin has a name, and add key octets
 pub data Operation : Type 0 where
@@ -66,7 +65,7 @@ nameTold (loading n xs) = (Done, n)
 nameTold (finished n xs) = (Done, n)
 
 abbrev pub shownTold : ℕ → ℕ → Progress → Shown
-shownTold c i nothing = shown blank
+shownTold c i nothing = nothingShown
 shownTold c i (loading n xs) = record { cipher = c; id = i; loaded = length xs; ready = false; name = n }
 shownTold c i (finished n xs) = record { cipher = c; id = i; loaded = length xs; ready = true; name = n }
 

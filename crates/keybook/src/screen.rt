@@ -3,8 +3,7 @@ ghost use mathlib.Core.Path.{_≡_};
 ghost use lib.ListN.{length};
 ghost use Rattle.keyentry.specs.Entry.{entryOctets, nameIn};
 ghost use Rattle.keyentry.specs.Name.{noName};
-ghost use Rattle.keyentry.specs.Entry.{blank};
-ghost use Rattle.keybook.specs.Screen.{nameOf, shown, inventoryOf};
+ghost use Rattle.keybook.specs.Screen.{nameOf, shown, nothingShown, inventoryOf};
 use crate::BOOK_OCTETS;
 use crate::book::ENTRIES;
 use crate::book::Found;
@@ -37,7 +36,7 @@ fn unnamed(answer: Answer) -> Named
     }
 }
 
-fn name_octets(e: &[u8]) -> [u8; NAME_OCTETS]
+fn copy_name(e: &[u8]) -> [u8; NAME_OCTETS]
     requires { ⌜ length (now e) ≡ entryOctets ⌝ }
     ensures { λ r. ⌜ r ≡ nameIn (now (e .entry)) ⌝ }
 {
@@ -55,7 +54,7 @@ pub fn name(book: &[u8], cipher: u8, id: u8) -> Named
         Found::Missing => unnamed(Answer::NoEntry),
         Found::At(k) => Named {
             answer: Answer::Done,
-            name: name_octets(entry(book, k)),
+            name: copy_name(entry(book, k)),
         },
     }
 }
@@ -78,7 +77,7 @@ pub struct Listed {
 }
 
 fn unlisted(answer: Answer) -> Listed
-    ensures { λ r. ⌜ (r .answer ≡ answer) × (r .entry ≡ shown blank) ⌝ }
+    ensures { λ r. ⌜ (r .answer ≡ answer) × (r .entry ≡ nothingShown) ⌝ }
 {
     Listed {
         answer,
@@ -101,7 +100,7 @@ fn show(e: &[u8]) -> Shown
         id: e[ID],
         loaded: e[COUNT],
         ready: e[READY] == 1,
-        name: name_octets(e),
+        name: copy_name(e),
     }
 }
 

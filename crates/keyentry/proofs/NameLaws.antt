@@ -81,8 +81,8 @@ pub ward-four : IsName wardFour
 unfolding nameRight textOctets isPrintable allZero allBelow firstBelow
 ward-four = right-is-name _ refl refl
 
--- spaces are right; DEL, a letter after a zero, and a line's end are not
-pub samples : (nameRight (replicate nameOctets 0x20) ≡ true) × (nameRight (0x7F ∷ replicate 15 0) ≡ false)
-    × (nameRight (0x41 ∷ 0 ∷ 0x42 ∷ replicate 13 0) ≡ false) × (nameRight (0x41 ∷ 0x0A ∷ replicate 14 0) ≡ false)
+-- spaces and tildes are right, 20 and 7E hex; 1F, 7F, and a letter after a zero are not
+pub samples : (nameRight (replicate nameOctets 0x20) ≡ true) × (nameRight (replicate nameOctets 0x7E) ≡ true) × (nameRight (0x1F ∷ replicate 15 0) ≡ false)
+    × (nameRight (0x7F ∷ replicate 15 0) ≡ false) × (nameRight (0x41 ∷ 0 ∷ 0x42 ∷ replicate 13 0) ≡ false)
 unfolding nameRight textOctets isPrintable allZero allBelow firstBelow
-samples = (refl, refl, refl, refl)
+samples = (refl, refl, refl, refl, refl)

@@ -86,7 +86,7 @@ load-can : (b : List ℕ) (c i : ℕ) (key : List ℕ) → goodBook b ≡ true �
 load-can b c i key g l =
     load-ways b c i noName key (λ o. Can (Load c i key) (o .0)) (λ y. begin-can b g c i key)
     (λ k e begun m z. add-can begun (begun-good m) c i key (begun-has m) l) (λ k e added m w. finish-can added (begun-good m) c i key (begun-has m))
-    (λ k e after m r. refl)
+    (λ k e after m r s. refl)
 
 module _ (book : List ℕ) (call : Call) (s : Sound book call) where
   -- an entry that is there is ready
@@ -94,7 +94,7 @@ module _ (book : List ℕ) (call : Call) (s : Sound book call) where
   ready-there c i n h =
       let l : findEntry book c i < entries = ltb-true _ _ (not-false _ h) in
       let q : cipherIn (entryFor book c i) ≡ c = for-parts (entryFor book c i) c i (found-for book c i l) .0 in
-      s .all-ready (findEntry book c i) l (λ z. in-range-used c i (not-false _ n) (sym q ∙ z))
+      s .all-by-k (findEntry book c i) l (λ z. in-range-used c i (not-false _ n) (sym q ∙ z)) .0
 
   good-stays : {A : Type 0} → isBad (standing call) ≡ true → A
   good-stays = never (not-bad call (s .call-good))

@@ -16,7 +16,7 @@ use Rattle.answers.specs.Outcomes.{Refusals, settled}
 use Rattle.answers.proofs.OutcomeLaws.{by-refusals}
 use Rattle.sizes.specs.Ciphers.{sessionSlots}
 use Rattle.sizes.specs.Frame.{halfRate}
-use Rattle.keyentry.specs.Entry.{entryOctets, cipherIn, isReady}
+use Rattle.keyentry.specs.Entry.{entryOctets, cipherIn, isReady, nameIn}
 use Rattle.keybook.specs.Book.{entries, bookOctets, entryOf, goodBook}
 use Rattle.keybook.specs.History.{bookAfter}
 use Rattle.keybook.proofs.GoodLaws.{entry-octet}
@@ -45,14 +45,18 @@ use Rattle.keybook.proofs.LoadLaws.{load-ways, load-stays-good}
 
 -- ---- what book and call are in a run
 
--- every used entry is ready
-abbrev pub AllReady : List ℕ → Type 0
-AllReady b = (k : ℕ) → k < entries → (cipherIn (entryOf b k) ≡ 0 → ⊥) → isReady (entryOf b k) ≡ true
+-- an entry as K leaves it: ready, and without a name
+abbrev ByK : List ℕ → Type 0
+ByK e = (isReady e ≡ true) × (nameIn e ≡ replicate 16 0)
+
+-- every used entry is such a one
+abbrev pub AllByK : List ℕ → Type 0
+AllByK b = (k : ℕ) → k < entries → (cipherIn (entryOf b k) ≡ 0 → ⊥) → ByK (entryOf b k)
 
 -- a good book without half a key, and a good call that is not a sender's, at half rate and, where it receives, strict
 pub record Sound (book : List ℕ) (call : Call) : Type 0 where
   pub book-good : goodBook book ≡ true
-  pub all-ready : AllReady book
+  pub all-by-k : AllByK book
   pub call-good : goodCall call ≡ true
   pub no-sender : call .end ≡ sendingEnd → ⊥
   pub half-rate : call .terms .rate ≡ halfRate
@@ -64,7 +68,7 @@ unfolding bookAfter
 first-sound =
     record {
       book-good = always-good [];
-      all-ready = λ k l n. absurd (n (entry-octet (replicate bookOctets 0) k 0 (omega arith) ∙ padded-at [] bookOctets (k * entryOctets + 0)));
+      all-by-k = λ k l n. absurd (n (entry-octet (replicate bookOctets 0) k 0 (omega arith) ∙ padded-at [] bookOctets (k * entryOctets + 0)));
       call-good = closed-good;
       no-sender = λ e. absurd (omega arith);
       half-rate = refl;
@@ -77,16 +81,17 @@ never-carries {call = call} s k = let d = carries call (s .call-good) k in omega
 
 -- ---- a K
 
-begun-ready : {b : List ℕ} {c i k : ℕ} {e after : List ℕ} → AllReady b → Begun b c i k e after → isReady e ≡ true → AllReady after
-begun-ready {b} {c} {i} {k} {e} {after} all m r j l = go (ℕ-discrete j k)
+begun-by-k : {b : List ℕ} {c i k : ℕ} {e after : List ℕ} → AllByK b → Begun b c i k e after → ByK e → AllByK after
+begun-by-k {b} {c} {i} {k} {e} {after} all m r j l = go (ℕ-discrete j k)
   where
-    go : Dec (j ≡ k) → (cipherIn (entryOf after j) ≡ 0 → ⊥) → isReady (entryOf after j) ≡ true
+    go : Dec (j ≡ k) → (cipherIn (entryOf after j) ≡ 0 → ⊥) → ByK (entryOf after j)
     go (yes q) u = rw (q, begun-entry m) r
     go (no q) u = let o = begun-other m j l q in rw o (all j l (rw o at u))
 
 module _ (b : List ℕ) (c i : ℕ) (key : List ℕ) where
-  load-ready : AllReady b → AllReady (loadOf b c i noName key .1)
-  load-ready all = load-ways b c i noName key (λ o. AllReady (o .1)) (λ y. all) (λ k e begun m z. all) (λ k e added m w. all) (λ k e after m r. begun-ready all m r)
+  load-by-k : AllByK b → AllByK (loadOf b c i noName key .1)
+  unfolding noName
+  load-by-k all = load-ways b c i noName key (λ o. AllByK (o .1)) (λ y. all) (λ k e begun m z. all) (λ k e added m w. all) (λ k e after m r s. begun-by-k all m (r, s))
 
 -- ---- no operation of a record makes a sender, or a call at full rate or by default
 
@@ -158,7 +163,7 @@ module _ (c : Call) (good : goodCall c ≡ true) (h : Heard c) where
 
 -- the book stays
 with-call : {book : List ℕ} {call after : Call} → Sound book call → goodCall after ≡ true → Heard after → Sound book after
-with-call s g h = record { book-good = s .book-good; all-ready = s .all-ready; call-good = g; no-sender = h .0; half-rate = h .1; strictly = h .2 }
+with-call s g h = record { book-good = s .book-good; all-by-k = s .all-by-k; call-good = g; no-sender = h .0; half-rate = h .1; strictly = h .2 }
 
 heard : {book : List ℕ} {call : Call} → Sound book call → Heard call
 heard s = (s .no-sender, s .half-rate, s .strictly)
@@ -168,7 +173,7 @@ unfolding stepOf
 step-sound (Load c i key) {book} {call} s =
     record {
       book-good = load-stays-good book c i noName key (s .book-good);
-      all-ready = load-ready book c i key (s .all-ready);
+      all-by-k = load-by-k book c i key (s .all-by-k);
       call-good = s .call-good;
       no-sender = s .no-sender;
       half-rate = s .half-rate;

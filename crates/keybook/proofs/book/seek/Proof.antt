@@ -1,5 +1,4 @@
 -- `book::seek` meets its contract.
-use mathlib.Core.Path.{_≡_}
 use borrow.Author.Needs.{needs}
 use Rattle.octets.proofs.TestLaws.{fails, holds}
 use Rattle.keybook.proofs.BookLaws.{seek-bad, seek-at, seek-missing}

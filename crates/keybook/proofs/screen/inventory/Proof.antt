@@ -1,8 +1,7 @@
 -- `screen::inventory` meets its contract.
-use mathlib.Core.Path.{ap, ap₂, _∙_}
+use mathlib.Core.Path.{ap, _∙_}
 use borrow.Author.Needs.{needs}
 use Rattle.octets.proofs.TestLaws.{fails, holds}
-use Rattle.answers.specs.declared.Answer.{Answer}
 use Rattle.answers.specs.declared.Answer.the-variants.{Done}
 use Rattle.keybook.specs.declared.screen.Shown.{Shown}
 use Rattle.keybook.specs.Screen.{shown}

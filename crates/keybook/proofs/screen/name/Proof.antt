@@ -20,7 +20,7 @@ returns-2 : tie.Need-returns-2
 returns-2 c = both (c .unnamed2 .ensures .0) (c .unnamed2 .ensures .1) ∙ name-ways _ _ _ .missing (sym (c .before .before .before .look .ensures) ∙ c .before .enum-told .given .1)
 
 returns-3 : tie.Need-returns-3
-returns-3 c = ap (λ (l : List ℕ). (Done, l)) (c .name-octets .ensures ∙ ap nameIn (c .before .entry .ensures .0)) ∙ name-ways _ _ _ .found _ (sym (c .before .before .before .before .before .look .ensures) ∙ c .before .before .before .k .given .1)
+returns-3 c = ap (λ (l : List ℕ). (Done, l)) (c .copy-name .ensures ∙ ap nameIn (c .before .entry .ensures .0)) ∙ name-ways _ _ _ .found _ (sym (c .before .before .before .before .before .look .ensures) ∙ c .before .before .before .k .given .1)
 
 pub name-spec : {M : Type 1} → statement M
 name-spec =

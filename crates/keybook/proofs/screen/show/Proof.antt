@@ -1,5 +1,4 @@
 -- `screen::show` meets its contract.
-use mathlib.Core.Path.{_≡_}
 use borrow.Author.Needs.{needs}
 use Rattle.keybook.specs.Screen.{shown}
 use Rattle.keybook.proofs.screen.show.Statement.{statement}
@@ -15,4 +14,4 @@ show-spec =
     (λ c. search needs)
     (λ c. search needs)
     (λ c κs. search needs)
-    (λ c. rw (c .name-octets .ensures)))
+    (λ c. rw (c .copy-name .ensures)))
