@@ -1,7 +1,7 @@
 -- The devices that demand 1 throws out, each by one part of it: noise for a held frame, or filed as opened speech, a bad book taken, a refusal that wipes the book, everything held, a
 -- key operation that reaches a call, version three, which takes a vector in the middle of a session, and version one, which takes half a key.
 use mathlib.Core.Path.{_≡_, refl, sym, ap, _∙_}
-use mathlib.Core.Bool.{Bool, true, false, true≢false}
+use mathlib.Core.Bool.{Bool, true, false, _&&_, true≢false}
 use mathlib.Core.Logic.{inl, inr}
 use mathlib.Core.List.{List, [], _∷_, _++_}
 use Prim.Native.Nat.{ℕ, _≤_, _<_}
@@ -36,8 +36,8 @@ use Rattle.voice.proofs.CallLaws.{not-bad}
 use Rattle.voice.proofs.SlotSteps.{voice-at}
 use Rattle.data.specs.Packet as packet
 use Rattle.demands.specs.Marked.{holding}
-use Rattle.demands.specs.Device.{Device, Name, Inventory, CallOperation, Open, Start, Join, Voice, Lost, End, Announce, NextVector, callStep, OpenPacket, Message, LostMessage, EndPacket, Operation, OfBook, OfScreen, OfCall, OfPacket, Step, step, deviceAfter, history}
-use Rattle.demands.specs.Demand1.{RightInput, NotTold, TimeOfCall, Unknown, slot, NoneDone, Demand1}
+use Rattle.demands.specs.Device.{Device, ScreenOperation, Name, Inventory, lentScreen, CallOperation, Open, Start, Join, Voice, Lost, End, Announce, NextVector, callStep, OpenPacket, Message, LostMessage, EndPacket, Operation, OfBook, OfScreen, OfCall, OfPacket, Step, step, deviceAfter, history}
+use Rattle.demands.specs.Demand1.{RightScreen, RightInput, NotTold, TimeOfCall, Unknown, slot, NoneDone, Demand1}
 use Rattle.demands.specs.OtherDevices.{noise, noisy, filing, wiped, wiping, careless, holdingAll, ending, telltale, hastyCall, hasty, eager}
 use Rattle.demands.proofs.Layouts.{ways-right, sender-right}
 use Rattle.demands.proofs.Samples.{silence, silent-long}
@@ -174,15 +174,21 @@ ending-thrown-out st such o e f meets = let z = ap (λ (c : Call). c .end) (stay
 
 -- ---- a screen that is refused and handed something all the same
 
-pub telltale-thrown-out : Demand1 telltale → ⊥
-telltale-thrown-out meets =
+no-book : (o : ScreenOperation) → RightScreen [] o → ⊥
+no-book (Name c i) k = omega (arith, k .long)
+no-book (Inventory n) k = omega (arith, k .0)
+
+not-noise : (o : ScreenOperation) → noise ≡ lentScreen o → ⊥
+not-noise (Name c i) q = let z = ap (λ (xs : List ℕ). length xs) q in omega arith
+not-noise (Inventory k) q = let z = ap (λ (xs : List ℕ). length xs) q in omega arith
+
+pub telltale-thrown-out : (st : Step) (such : Operation → Bool) (o : ScreenOperation) → such (OfScreen o) ≡ true → Demand1 (telltale such st) → ⊥
+telltale-thrown-out st such o e meets =
     let d = having [] (λ n. noCall) in
-    let o = OfScreen (Inventory 0) in
-    let r : 2 ≤ numberOf (step d o .0) = meets .refused d o (λ k. omega (arith, k .0)) in
-    let u : pick (leb 2 (numberOf (step d o .0))) noise (step d o .1 .1) ≡ replicate 20 0 = meets .untouched d o (λ z. omega arith) in
-    let q : noise ≡ replicate 20 0 = rw (le-leb 2 (numberOf (step d o .0)) r) at u in
-    let z = ap (λ (xs : List ℕ). length xs) q in
-    omega arith
+    let n = numberOf (st d (OfScreen o) .0) in
+    let r : 2 ≤ n = meets .refused d (OfScreen o) (no-book o) in
+    let u : pick (such (OfScreen o) && leb 2 n) noise (st d (OfScreen o) .1 .1) ≡ lentScreen o = meets .untouched d (OfScreen o) (λ z. omega arith) in
+    not-noise o (rw (e, le-leb 2 n r) at u)
 
 -- ---- version three: a vector that is announced in the middle of a session; and one where the session's vector was told already
 

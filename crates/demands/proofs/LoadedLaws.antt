@@ -18,7 +18,7 @@ use Rattle.demands.proofs.DeviceLaws.{by-number}
 
 -- ---- the key operations of a device, and its book
 
-pub keysIn : List Operation → List book.Operation
+unfoldable pub keysIn : List Operation → List book.Operation
 keysIn [] = []
 keysIn (OfBook o ∷ os) = o ∷ keysIn os
 keysIn (OfScreen o ∷ os) = keysIn os

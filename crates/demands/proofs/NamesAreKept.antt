@@ -3,20 +3,19 @@ use mathlib.Core.Path.{_≡_, refl, sym, ap, _∙_}
 use mathlib.Core.Bool.{Bool, true, false, true≢false}
 use mathlib.Core.List.{List, [], _∷_}
 use Prim.Native.Nat.{ℕ, _≤_, _<_}
-use native.Mathlib.Decide.{decLt}
 use native.Mathlib.Omega.{arith}
-use lib.Dec.{ltb}
 use lib.ListN.{length, getD, take}
-use borrow.Author.Tests.{le-leb, lt-ltb}
+use borrow.Author.Tests.{le-leb}
 use Rattle.answers.specs.declared.Answer.{Answer}
 use Rattle.answers.specs.declared.Answer.the-variants.{Done}
 use Rattle.answers.specs.Numbers.{numberOf}
 use Rattle.sizes.specs.Ciphers.{keyOctets}
+use Rattle.ciphers.specs.Keys.{keyAllowed}
+use Rattle.keyentry.specs.Name.{IsName}
 use Rattle.keyentry.specs.Entry.{cipherIn, idIn, inRange}
 use Rattle.keyentry.proofs.RightLaws.{ready-octet}
 use Rattle.keybook.specs.declared.screen.Shown.{Shown}
 use Rattle.keybook.specs.Book.{entryOf, goodBook, findEntry}
-use Rattle.keybook.specs.Operations as operations
 use Rattle.keybook.specs.Screen as screen
 use Rattle.keybook.specs.History as book
 use Rattle.keybook.proofs.BookLaws.{entry-length}
@@ -25,10 +24,10 @@ use Rattle.keybook.proofs.HoldLaws.{always-good}
 use Rattle.keybook.proofs.HistoryLaws.{ready-only-if-told, ready-if-finished}
 use Rattle.keybook.proofs.ScreenLaws.{list-done}
 use Rattle.keybook.proofs.ToldLaws.{name-is-told, inventory-is-told, told-is-listed}
-use Rattle.demands.specs.Device.{Device, Operation, Inventory, OfBook, OfScreen, listed, screenStep, Step, step, deviceAfter, history}
+use Rattle.keybook.proofs.TurnLaws.{begun-in-turn, out-of-turn, stays-put}
+use Rattle.demands.specs.Device.{Device, Operation, Inventory, OfBook, OfScreen, OfCall, OfPacket, listed, screenStep, Step, step, deviceAfter, history, keyOperations}
 use Rattle.demands.specs.Demand1.{Demand1}
-use Rattle.demands.specs.Names.{toldOf, listedOf, screened, cipherAt, idAt, Shows, withoutKey, NamesKept}
-use Rattle.demands.proofs.DeviceLaws.{unrefused-only}
+use Rattle.demands.specs.Names.{toldOf, listedOf, erasesKey, screened, cipherAt, idAt, Shows, withoutKey, NamesKept}
 use Rattle.demands.proofs.LoadedLaws.{keysIn, book-is, keys-are}
 
 ranged : (c i : ℕ) → (1 ≤ c) × (c ≤ 3) → i ≤ 63 → inRange c i ≡ true
@@ -78,39 +77,46 @@ module _ (os : List Operation) where
       → (findEntry b c i < 16) × (screen.inventoryOf b (findEntry b c i) ≡ (Done, book.shownTold c i (toldOf (history step os) c i)))
   there c i t = rw (told-as c i) (told-is-listed (keysIn os) c i (λ e. t (told-as c i ∙ e)))
 
-  ours-begun-once : (c i : ℕ) (n : List ℕ) → (toldOf (history step os) c i ≡ book.nothing → ⊥)
-      → 2 ≤ numberOf (step (deviceAfter step os) (OfBook (book.Begin c i n)) .0)
-  unfolding operations.beginRefusals
-  ours-begun-once c i n t = go (decLt (numberOf (step (deviceAfter step os) (OfBook (book.Begin c i n)) .0)) 2)
-    where
-      go : Dec (numberOf (step (deviceAfter step os) (OfBook (book.Begin c i n)) .0) < 2)
-          → 2 ≤ numberOf (step (deviceAfter step os) (OfBook (book.Begin c i n)) .0)
-      go (yes l) =
-          let none = unrefused-only (deviceAfter step os) (OfBook (book.Begin c i n)) l in
-          let h : ltb (findEntry (deviceAfter step os .book) c i) 16 ≡ true = rw (book-is os) (lt-ltb _ _ (there c i t .0)) in
-          absurd (true≢false (sym h ∙ none .1 .1 .1 .1 .1 .0))
-      go (no m) = omega arith
+  -- a key operation is the book's
+  as-key : (o : book.Operation) → step (deviceAfter step os) (OfBook o) .0 ≡ book.step o b .0
+  unfolding step
+  as-key o = ap (λ (x : List ℕ). book.step o x .0) (book-is os)
 
-  ours-whole : (c i : ℕ) (n xs : List ℕ) → toldOf (history step os) c i ≡ book.finished n xs → length xs ≡ keyOctets c
+  ours-in-turn : (o : book.Operation) → book.inTurn o (book.toldFor o (keyOperations (history step os))) ≡ false
+      → 2 ≤ numberOf (step (deviceAfter step os) (OfBook o) .0)
+  ours-in-turn o f = rw (as-key o) (out-of-turn (keysIn os) o (rw (keys-are os) at f))
+
+  ours-whole : (c i : ℕ) (n xs : List ℕ) → toldOf (history step os) c i ≡ book.finished n xs → (length xs ≡ keyOctets c) × (keyAllowed c xs ≡ true)
   ours-whole c i n xs f =
       let t = sym (told-as c i) ∙ f in
       let u = ready-only-if-told (keysIn os) c i _ (ready-if-finished (keysIn os) c i n xs t) in
       let same : xs ≡ u .octets = cc (t, u .is-finished) in
-      ap length same ∙ u .is-whole
+      (ap length same ∙ u .is-whole, ap (keyAllowed c) same ∙ u .is-allowed)
 
   -- the inventory of the device's book
   of-book : (k : ℕ) (o : Answer × Shown) → screen.inventoryOf b k ≡ o → screened (step (deviceAfter step os) (OfScreen (Inventory k))) ≡ (o .0, listed (o .1))
   unfolding step screenStep
   of-book k o q = ap (λ (r : Answer × Shown). (r .0, listed (r .1))) (ap (λ (x : List ℕ). screen.inventoryOf x k) (book-is os) ∙ q)
 
+  -- its cipher type and key ID are those of the book's entry
+  ours-parts : (k : ℕ) → k ≤ 15 → (cipherAt step os k ≡ cipherIn (entryOf b k)) × (idAt step os k ≡ idIn (entryOf b k))
+  ours-parts k l =
+      let p = parts b k l (always-good (keysIn os)) in
+      let e = ours-in-place (deviceAfter step os) k l good-after ∙ ap (λ (x : List ℕ). withoutKey x k) (book-is os) in
+      (ap (λ (xs : List ℕ). getD xs 0 0) e ∙ p .0, ap (λ (xs : List ℕ). getD xs 1 0) e ∙ p .1)
+
+  ours-taken : (c i : ℕ) (n : List ℕ) → (1 ≤ c) × (c ≤ 3) → i ≤ 63 → IsName n → toldOf (history step os) c i ≡ book.nothing → (k : ℕ) → k ≤ 15
+      → cipherAt step os k ≡ 0 → step (deviceAfter step os) (OfBook (book.Begin c i n)) .0 ≡ Done
+  unfolding book.step
+  ours-taken c i n r l named e k low z =
+      as-key (book.Begin c i n)
+      ∙ begun-in-turn (keysIn os) c i n named (ranged c i r l) (sym (told-as c i) ∙ e) k (omega arith) (sym (ours-parts k low .0) ∙ z)
+
   ours-shown : (k : ℕ) → k ≤ 15
       → screened (step (deviceAfter step os) (OfScreen (Inventory k))) ≡ (Done, listedOf (history step os) (cipherAt step os k) (idAt step os k))
   ours-shown k l =
-      let p = parts b k l (always-good (keysIn os)) in
-      let e = ours-in-place (deviceAfter step os) k l good-after ∙ ap (λ (x : List ℕ). withoutKey x k) (book-is os) in
-      let c = ap (λ (xs : List ℕ). getD xs 0 0) e ∙ p .0 in
-      let i = ap (λ (xs : List ℕ). getD xs 1 0) e ∙ p .1 in
-      rw (c, i, told-as (cipherIn (entryOf b k)) (idIn (entryOf b k))) (of-book k _ (inventory-is-told (keysIn os) k (omega arith)))
+      let p = ours-parts k l in
+      rw (p .0, p .1, told-as (cipherIn (entryOf b k)) (idIn (entryOf b k))) (of-book k _ (inventory-is-told (keysIn os) k (omega arith)))
 
   ours-complete : (c i : ℕ) → (toldOf (history step os) c i ≡ book.nothing → ⊥) → Shows step os c i
   ours-complete c i t =
@@ -118,15 +124,29 @@ module _ (os : List Operation) where
       let below : findEntry b c i < 16 = f .0 in
       record { place = findEntry b c i; below = omega arith; shows = ap (λ (r : Answer × List ℕ). r .1) (of-book _ _ (f .1)) }
 
+ours-stays : (os : List Operation) (o : Operation) (k : ℕ) → k ≤ 15 → (cipherAt step os k ≡ 0 → ⊥) → erasesKey (cipherAt step os k) (idAt step os k) o ≡ false
+    → (cipherAt step (o ∷ os) k ≡ cipherAt step os k) × (idAt step (o ∷ os) k ≡ idAt step os k)
+unfolding keysIn book.bookAfter deviceAfter step
+ours-stays os (OfBook o) k l u f =
+    let p = ours-parts os k l in
+    let q = ours-parts (OfBook o ∷ os) k l in
+    let s = stays-put (book.bookAfter (keysIn os)) k (omega arith) (λ z. u (p .0 ∙ z)) o (rw (p .0, p .1) at f) in
+    (q .0 ∙ s .0 ∙ sym (p .0), q .1 ∙ s .1 ∙ sym (p .1))
+ours-stays os (OfScreen o) k l u f = (refl, refl)
+ours-stays os (OfCall n o) k l u f = (refl, refl)
+ours-stays os (OfPacket n o) k l u f = (refl, refl)
+
 pub ours-keeps-names : NamesKept step
 unfolding step screenStep
 ours-keeps-names =
     record {
       name = λ os c i r l.
           ap (λ (x : List ℕ). screen.nameOf x c i) (book-is os) ∙ name-is-told (keysIn os) c i (ranged c i r l) ∙ ap book.nameTold (sym (told-as os c i));
-      begun-once = ours-begun-once;
+      taken = ours-taken;
+      in-turn = ours-in-turn;
       whole = ours-whole;
       in-place = ours-in-place;
+      stays = ours-stays;
       shown = ours-shown;
       complete = ours-complete;
     }

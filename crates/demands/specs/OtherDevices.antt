@@ -1,9 +1,9 @@
 -- Devices that demand 1 throws out: each does what the user fears. And devices that count wrong (document 02, W-207), or show keys wrong (W-201).
 use mathlib.Core.Bool.{Bool, true, false, _&&_}
-use mathlib.Core.List.{List, [], _∷_}
+use mathlib.Core.List.{List, [], _∷_, _++_}
 use Prim.Native.Nat.{ℕ, _+_}
 use lib.Dec.{leb, eqb}
-use lib.ListN.{getD, replicate}
+use lib.ListN.{getD, take, drop, replicate}
 use Rattle.octets.specs.Tests.{pick}
 use Rattle.answers.specs.declared.Answer.{Answer}
 use Rattle.answers.specs.declared.Answer.the-variants.{Done, Held, NotReady, NotNow}
@@ -18,7 +18,7 @@ use Rattle.voice.specs.Opening.{begun, joined}
 use Rattle.voice.specs.Slot.{streamOf, inSlot}
 use Rattle.voice.specs.Vector.{withVector}
 use Rattle.demands.specs.Device.{withNone, Device, CallOperation, Open, Start, Join, Voice, Lost, End, Announce, NextVector, callStep, Operation, OfBook, OfScreen, OfCall, OfPacket, withCall, Step, step, lent}
-use Rattle.demands.specs.Refusals.{callRefusals}
+use Rattle.demands.specs.Refusals.{callRefusals, isBegin}
 
 -- octets that nobody said
 abbrev pub noise : List ℕ
@@ -169,12 +169,23 @@ isScreen (OfCall n o) = false
 isScreen (OfPacket n o) = false
 
 -- a name or an entry otherwise
-abbrev pub misshowing : (List ℕ → List ℕ) → Step
-misshowing = passing isScreen
+abbrev pub misshowing : (Device → List ℕ → List ℕ) → Step
+misshowing f d o = let r = step d o in (r .0, (r .1 .0, pick (isDone (r .0) && isScreen o) (f d (r .1 .1)) (r .1 .1)))
 
--- noise, where it is refused
-abbrev pub telltale : Step
-telltale d o = let r = step d o in (r .0, (r .1 .0, pick (isScreen o && leb 2 (numberOf (r .0))) noise (r .1 .1)))
+-- any device, but where such an operation is refused noise comes back
+abbrev pub telltale : (Operation → Bool) → Step → Step
+telltale such st d o = let r = st d o in (r .0, (r .1 .0, pick (such o && leb 2 (numberOf (r .0))) noise (r .1 .1)))
+
+-- ---- ours, but a begin moves every entry one place on
+
+abbrev pub oneOn : List ℕ → List ℕ
+oneOn b = drop 780 b ++ take 780 b
+
+abbrev pub moving : Step
+moving d o =
+    let r = step d o in
+    let e = r .1 .0 in
+    (r .0, (record { book = pick (isDone (r .0) && isBegin o) (oneOn (e .book)) (e .book); calls = e .calls; packets = e .packets }, r .1 .1))
 
 -- ---- ours, but such an operation is answered and not done
 

@@ -93,7 +93,7 @@ pub record FirstFree (b : List ℕ) (k : ℕ) : Type 0 where
 abbrev freeAt : List ℕ → ℕ → Bool
 freeAt b k = eqb (cipherIn (entryOf b k)) 0
 
-first-free : (b : List ℕ) → freeEntry b < entries → FirstFree b (freeEntry b)
+pub first-free : (b : List ℕ) → freeEntry b < entries → FirstFree b (freeEntry b)
 unfolding freeEntry
 first-free b l =
     record {
@@ -106,7 +106,7 @@ first-free-is : (b : List ℕ) (k : ℕ) → FirstFree b k → freeEntry b ≡ k
 unfolding freeEntry
 first-free-is b k f = first-is (freeAt b) entries k (f .below) (λ j l. ne-eqb _ _ (f .first j l)) (eq-eqb _ _ (f .free))
 
-some-free : (b : List ℕ) (k : ℕ) → k < entries → cipherIn (entryOf b k) ≡ 0 → freeEntry b < entries
+pub some-free : (b : List ℕ) (k : ℕ) → k < entries → cipherIn (entryOf b k) ≡ 0 → freeEntry b < entries
 unfolding freeEntry
 some-free b k l z = go (decLt (freeEntry b) entries)
   where

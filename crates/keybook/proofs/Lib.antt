@@ -11,3 +11,4 @@ pub mod UndoLaws
 pub mod LoadLaws
 pub mod ToldLaws
 pub mod NamingLaws
+pub mod TurnLaws

@@ -58,6 +58,35 @@ unfoldable pub telling : History → ℕ → ℕ → Progress
 telling [] c i = nothing
 telling (h ∷ hs) c i = pick (isDone (h .1) && concerns c i (h .0)) (tells (h .0) (telling hs c i)) (telling hs c i)
 
+-- what is told of the cipher type and key ID that an operation names, and whether it is the operation's turn: begin's where there is no key, add's and finish's
+-- where one is being loaded, erase's where there is one
+abbrev pub toldFor : Operation → History → Progress
+toldFor (Begin c i n) h = telling h c i
+toldFor (Add c i ys) h = telling h c i
+toldFor (Finish c i) h = telling h c i
+toldFor (Erase c i) h = telling h c i
+
+abbrev pub inTurn : Operation → Progress → Bool
+inTurn (Begin c i n) nothing = true
+inTurn (Begin c i n) (loading m xs) = false
+inTurn (Begin c i n) (finished m xs) = false
+inTurn (Add c i ys) nothing = false
+inTurn (Add c i ys) (loading m xs) = true
+inTurn (Add c i ys) (finished m xs) = false
+inTurn (Finish c i) nothing = false
+inTurn (Finish c i) (loading m xs) = true
+inTurn (Finish c i) (finished m xs) = false
+inTurn (Erase c i) nothing = false
+inTurn (Erase c i) (loading m xs) = true
+inTurn (Erase c i) (finished m xs) = true
+
+-- the operation erases them
+abbrev pub erases : ℕ → ℕ → Operation → Bool
+erases c i (Begin d j n) = false
+erases c i (Add d j xs) = false
+erases c i (Finish d j) = false
+erases c i (Erase d j) = eqb d c && eqb j i
+
 -- what the name operation answers by it, and what the inventory shows of cipher type c and key ID i
 abbrev pub nameTold : Progress → Answer × List ℕ
 nameTold nothing = (NoEntry, noName)
