@@ -1,5 +1,5 @@
--- The devices that demand 1 throws out, each by one part of it: noise for a held frame, or filed as opened speech, a bad book taken, a refusal that wipes the book, everything held, a
--- key operation that reaches a call, version three, which takes a vector in the middle of a session, and version one, which takes half a key.
+-- The devices that demand 1 throws out, each by one part of it: noise for a held frame, or filed as opened speech, a bad book taken, a refusal that wipes the
+-- book, everything held, an operation on keys, a packet or a screen that reaches a call, noise for a refused screen, version three, which takes a vector in the middle of a session, and version one, which takes half a key.
 use mathlib.Core.Path.{_≡_, refl, sym, ap, _∙_}
 use mathlib.Core.Bool.{Bool, true, false, _&&_, true≢false}
 use mathlib.Core.Logic.{inl, inr}
@@ -84,7 +84,7 @@ filing-thrown-out meets =
 -- ---- a bad book taken, by whatever device else
 
 -- the key operations, what a screen shows, and the openings read the book
-abbrev pub readsBook : Operation → Bool
+abbrev readsBook : Operation → Bool
 readsBook (OfBook o) = true
 readsBook (OfScreen o) = true
 readsBook (OfCall n (Open c i r m w)) = true

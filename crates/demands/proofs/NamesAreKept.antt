@@ -5,7 +5,7 @@ use mathlib.Core.List.{List, [], _∷_}
 use Prim.Native.Nat.{ℕ, _≤_, _<_}
 use native.Mathlib.Omega.{arith}
 use lib.ListN.{length, getD, take}
-use borrow.Author.Tests.{le-leb}
+use borrow.Author.Tests.{le-leb, eq-eqb, lt-ltb}
 use Rattle.answers.specs.declared.Answer.{Answer}
 use Rattle.answers.specs.declared.Answer.the-variants.{Done}
 use Rattle.answers.specs.Numbers.{numberOf}
@@ -15,7 +15,8 @@ use Rattle.keyentry.specs.Name.{IsName}
 use Rattle.keyentry.specs.Entry.{cipherIn, idIn, inRange}
 use Rattle.keyentry.proofs.RightLaws.{ready-octet}
 use Rattle.keybook.specs.declared.screen.Shown.{Shown}
-use Rattle.keybook.specs.Book.{entryOf, goodBook, findEntry}
+use Rattle.keybook.specs.Book.{entryOf, goodBook, findEntry, bookRefusals}
+use Rattle.keybook.specs.Operations.{eraseOf, entryRefusals}
 use Rattle.keybook.specs.Screen as screen
 use Rattle.keybook.specs.History as book
 use Rattle.keybook.proofs.BookLaws.{entry-length}
@@ -45,7 +46,7 @@ first-four (a ∷ b ∷ c ∷ d ∷ xs) w = refl
 
 module _ (b : List ℕ) (k : ℕ) (l : k ≤ 15) (g : goodBook b ≡ true) where
   -- what is shown of an entry is the entry without its key
-  pub shown-octets : listed (screen.shown (entryOf b k)) ≡ withoutKey b k
+  shown-octets : listed (screen.shown (entryOf b k)) ≡ withoutKey b k
   unfolding screen.shown entryOf
   shown-octets =
       rw (first-four (entryOf b k) (entry-length b k (good-sized b g) (omega arith)), ready-octet (entryOf b k) (good-entry b g k (omega arith)))
@@ -112,6 +113,13 @@ module _ (os : List Operation) where
       as-key (book.Begin c i n)
       ∙ begun-in-turn (keysIn os) c i n named (ranged c i r l) (sym (told-as c i) ∙ e) k (omega arith) (sym (ours-parts k low .0) ∙ z)
 
+  ours-erased : (c i : ℕ) → (1 ≤ c) × (c ≤ 3) → i ≤ 63 → (toldOf (history step os) c i ≡ book.nothing → ⊥)
+      → step (deviceAfter step os) (OfBook (book.Erase c i)) .0 ≡ Done
+  unfolding book.step eraseOf entryRefusals bookRefusals
+  ours-erased c i r l t =
+      as-key (book.Erase c i)
+      ∙ rw (eq-eqb _ _ (good-sized b (always-good (keysIn os))), always-good (keysIn os), ranged c i r l, lt-ltb _ _ (there c i t .0))
+
   ours-shown : (k : ℕ) → k ≤ 15
       → screened (step (deviceAfter step os) (OfScreen (Inventory k))) ≡ (Done, listedOf (history step os) (cipherAt step os k) (idAt step os k))
   ours-shown k l =
@@ -144,6 +152,7 @@ ours-keeps-names =
           ap (λ (x : List ℕ). screen.nameOf x c i) (book-is os) ∙ name-is-told (keysIn os) c i (ranged c i r l) ∙ ap book.nameTold (sym (told-as os c i));
       taken = ours-taken;
       in-turn = ours-in-turn;
+      erased = ours-erased;
       whole = ours-whole;
       in-place = ours-in-place;
       stays = ours-stays;

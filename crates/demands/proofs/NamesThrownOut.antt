@@ -1,5 +1,6 @@
--- What names on keys throw out: a device that takes a bad name, or shows an entry that isn't there; one that hands out another name of a key than its begin gave, or shows an entry otherwise than it
--- is; one that takes no key, does a key operation out of its turn, or finishes half a key; and one whose begin or erase is answered and not done.
+-- What names on keys throw out: a device that takes a bad name, or shows an entry that isn't there; one that takes no key, or gives none up; one that does a key
+-- operation out of its turn, or finishes a key that isn't whole and allowed; one that hands out another name or shows an entry otherwise than it is; one whose begin
+-- or erase is answered and not done; and one whose entries move.
 use mathlib.Core.Path.{_≡_, refl, sym, ap, ap₂, _∙_}
 use mathlib.Core.Bool.{Bool, true, false, _&&_}
 use mathlib.Core.List.{List, [], _∷_, _++_}
@@ -26,7 +27,7 @@ use Rattle.keybook.proofs.GoodLaws.{good-sized}
 use Rattle.keybook.proofs.HoldLaws.{always-good}
 use Rattle.demands.specs.Device.{Device, atFirst, Operation, Name, Inventory, OfBook, OfScreen, OfCall, OfPacket, listed, Step, step, History, deviceAfter, history, keyOperations}
 use Rattle.demands.specs.Demand1.{Demand1}
-use Rattle.demands.specs.Refusals.{isBegin}
+use Rattle.demands.specs.Refusals.{isBegin, isErase}
 use Rattle.demands.specs.Names.{toldOf, shownAt, cipherAt, withoutKey, NamesKept}
 use Rattle.demands.specs.OtherDevices.{misshowing, oneOn, moving, forgetting}
 use Rattle.demands.proofs.LoadedLaws.{keysIn, book-is}
@@ -42,7 +43,7 @@ bad-name-thrown-out st d c i n bad done meets = let r = meets .refused d (OfBook
 pub no-other-entry : (st : Step) (d : Device) (k : ℕ) → 16 ≤ k → numberOf (st d (OfScreen (Inventory k)) .0) ≡ 0 → Demand1 st → ⊥
 no-other-entry st d k l done meets = let r = meets .refused d (OfScreen (Inventory k)) (λ right. omega (arith, right .1)) in omega arith
 
--- a key operation done out of its turn: a key begun again that was not erased, or added to or finished again
+-- a key operation done out of its turn: a begin of a key that is there, an add or a finish of one that isn't being loaded, an erase of none
 pub out-of-turn-thrown-out : (st : Step) (os : List Operation) (o : book.Operation) → book.inTurn o (book.toldFor o (keyOperations (history st os))) ≡ false
     → numberOf (st (deviceAfter st os) (OfBook o) .0) ≡ 0 → NamesKept st → ⊥
 out-of-turn-thrown-out st os o f done kept = let r = kept .in-turn os o f in omega arith
@@ -55,6 +56,11 @@ taking-none-thrown-out st c i n r l named refused kept =
     let free : cipherAt st [] 0 ≡ 0 = ap (λ (xs : List ℕ). getD xs 0 0) (kept .in-place atFirst 0 (omega arith) (always-good [])) in
     refused (ap numberOf (kept .taken [] c i n r l named refl 0 (omega arith) free))
 
+-- a key kept that is to be erased
+pub keeping-thrown-out : (st : Step) (os : List Operation) (c i : ℕ) → (1 ≤ c) × (c ≤ 3) → i ≤ 63 → (toldOf (history st os) c i ≡ book.nothing → ⊥)
+    → (numberOf (st (deviceAfter st os) (OfBook (book.Erase c i)) .0) ≡ 0 → ⊥) → NamesKept st → ⊥
+keeping-thrown-out st os c i r l told refused kept = refused (ap numberOf (kept .erased os c i r l told))
+
 -- a key finished that is not whole, or not allowed
 pub half-finished-thrown-out : (st : Step) (os : List Operation) (c i : ℕ) (n xs : List ℕ) → toldOf (history st os) c i ≡ book.finished n xs
     → (length xs ≡ keyOctets c → keyAllowed c xs ≡ true → ⊥) → NamesKept st → ⊥
@@ -62,7 +68,7 @@ half-finished-thrown-out st os c i n xs told short kept = let w = kept .whole os
 
 -- ---- ours, but for what it hands out: another name of any key at any time, or anything else of an entry
 
-module _ (f : Device → List ℕ → List ℕ) where
+module _ (f : Device → Operation → List ℕ → List ℕ) where
   same-after : (os : List Operation) → deviceAfter (misshowing f) os ≡ deviceAfter step os
   unfolding deviceAfter
   same-after [] = refl
@@ -75,35 +81,26 @@ module _ (f : Device → List ℕ → List ℕ) where
 
   module _ (os : List Operation) (kept : NamesKept (misshowing f)) where
     pub misnaming-thrown-out : (c i : ℕ) → (1 ≤ c) × (c ≤ 3) → i ≤ 63 → (n : List ℕ) → book.nameTold (toldOf (history step os) c i) ≡ (Done, n)
-        → (f (deviceAfter step os) n ≡ n → ⊥) → ⊥
+        → (f (deviceAfter step os) (OfScreen (Name c i)) n ≡ n → ⊥) → ⊥
     misnaming-thrown-out c i r l n told other =
         let o = step (deviceAfter step os) (OfScreen (Name c i)) in
         let ours = ours-keeps-names .name os c i r l ∙ told in
         let done : o .0 ≡ Done = ap (λ (x : Answer × List ℕ). x .0) ours in
         let name : o .1 .1 ≡ n = ap (λ (x : Answer × List ℕ). x .1) ours in
         let theirs = ap (λ (x : Answer × List ℕ). x .1) (rw (same-after os, same-history os) at (kept .name os c i r l) ∙ told) in
-        let t : pick (isDone (o .0) && true) (f (deviceAfter step os) (o .1 .1)) (o .1 .1) ≡ n = theirs in
+        let t : pick (isDone (o .0) && true) (f (deviceAfter step os) (OfScreen (Name c i)) (o .1 .1)) (o .1 .1) ≡ n = theirs in
         other (rw (done, name) at t)
 
-    pub mislisting-thrown-out : (k : ℕ) → k ≤ 15 → (f (deviceAfter step os) (shownAt step os k) ≡ shownAt step os k → ⊥) → ⊥
+    pub mislisting-thrown-out : (k : ℕ) → k ≤ 15 → (f (deviceAfter step os) (OfScreen (Inventory k)) (shownAt step os k) ≡ shownAt step os k → ⊥) → ⊥
     mislisting-thrown-out k l other =
         let d = deviceAfter step os in
         let o = step d (OfScreen (Inventory k)) in
         let done : o .0 ≡ Done = ap (λ (x : Answer × List ℕ). x .0) (ours-keeps-names .shown os k l) in
-        let t : pick (isDone (o .0) && true) (f (deviceAfter step os) (o .1 .1)) (o .1 .1) ≡ o .1 .1 =
+        let t : pick (isDone (o .0) && true) (f (deviceAfter step os) (OfScreen (Inventory k)) (o .1 .1)) (o .1 .1) ≡ o .1 .1 =
         kept .in-place d k l (good-after os) ∙ sym (ours-keeps-names .in-place d k l (good-after os)) in
         other (rw done at t)
 
 -- ---- ours, but a begin, or an erase, is answered and not done
-
-abbrev pub isErase : Operation → Bool
-isErase (OfBook (book.Begin c i n)) = false
-isErase (OfBook (book.Add c i xs)) = false
-isErase (OfBook (book.Finish c i)) = false
-isErase (OfBook (book.Erase c i)) = true
-isErase (OfScreen o) = false
-isErase (OfCall n o) = false
-isErase (OfPacket n o) = false
 
 -- what is shown where nothing is told of
 none-listed : listed nothingShown ≡ replicate 20 0

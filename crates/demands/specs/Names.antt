@@ -1,5 +1,5 @@
--- Names on keys (document 02, W-201), asked of any device: a key's name is the one that its begin gave, until it is erased; and the inventory shows the book
--- without its key octets, and so every key that the history tells of, each in its place.
+-- Names on keys (document 02, W-201), asked of any device: a key is taken with its name, and has it until it is erased; and the inventory shows the book without
+-- its key octets, every key that the history tells of and no other, each in its place.
 use mathlib.Core.Path.{_≡_}
 use mathlib.Core.Bool.{Bool, true, false}
 use mathlib.Core.List.{List, _∷_, _++_}
@@ -25,7 +25,7 @@ toldOf h c i = telling (keyOperations h) c i
 abbrev pub listedOf : History → ℕ → ℕ → List ℕ
 listedOf h c i = listed (shownTold c i (toldOf h c i))
 
--- the operation erases a cipher type and key ID
+-- the operation is an erase of a cipher type and key ID, done or refused
 abbrev pub erasesKey : ℕ → ℕ → Operation → Bool
 erasesKey c i (OfBook o) = book.erases c i o
 erasesKey c i (OfScreen o) = false
@@ -65,12 +65,15 @@ pub record NamesKept (st : Step) : Type 0 where
   -- the name is the one that the begin gave, ready or not; where there is no key it is 5, and zeros
   pub name : (os : List Operation) (c i : ℕ) → (1 ≤ c) × (c ≤ 3) → i ≤ 63
       → screened (st (deviceAfter st os) (OfScreen (Name c i))) ≡ nameTold (toldOf (history st os) c i)
-  -- a key is begun with any name, also another key's, where an entry is free;
+  -- a key in range is begun with any name, also another key's, where an entry is free,
   pub taken : (os : List Operation) (c i : ℕ) (n : List ℕ) → (1 ≤ c) × (c ≤ 3) → i ≤ 63 → IsName n → toldOf (history st os) c i ≡ nothing
       → (k : ℕ) → k ≤ 15 → cipherAt st os k ≡ 0 → st (deviceAfter st os) (OfBook (book.Begin c i n)) .0 ≡ Done
-  -- but not before it is erased; nor is a key added to or finished that isn't being loaded
+  -- but not again before it is erased; nor is one added to or finished that isn't being loaded, or erased that isn't there
   pub in-turn : (os : List Operation) (o : book.Operation) → book.inTurn o (book.toldFor o (keyOperations (history st os))) ≡ false
       → 2 ≤ numberOf (st (deviceAfter st os) (OfBook o) .0)
+  -- what is there is erased
+  pub erased : (os : List Operation) (c i : ℕ) → (1 ≤ c) × (c ≤ 3) → i ≤ 63 → (toldOf (history st os) c i ≡ nothing → ⊥)
+      → st (deviceAfter st os) (OfBook (book.Erase c i)) .0 ≡ Done
   -- what was finished is whole and allowed
   pub whole : (os : List Operation) (c i : ℕ) (n xs : List ℕ) → toldOf (history st os) c i ≡ finished n xs
       → (length xs ≡ keyOctets c) × (keyAllowed c xs ≡ true)

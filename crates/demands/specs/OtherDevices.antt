@@ -140,13 +140,13 @@ endsOne (OfScreen o) = false
 endsOne (OfCall n o) = ends o
 endsOne (OfPacket n o) = false
 
--- ours, but where such an operation is done it hands out f of what ours does
-abbrev pub passing : (Operation → Bool) → (List ℕ → List ℕ) → Step
-passing such f d o = let r = step d o in (r .0, (r .1 .0, pick (isDone (r .0) && such o) (f (r .1 .1)) (r .1 .1)))
+-- ours, but where such an operation is done it hands out f of what ours does, by device and operation
+abbrev passing : (Operation → Bool) → (Device → Operation → List ℕ → List ℕ) → Step
+passing such f d o = let r = step d o in (r .0, (r .1 .0, pick (isDone (r .0) && such o) (f d o (r .1 .1)) (r .1 .1)))
 
 -- of end, the counts
 abbrev pub handing : (List ℕ → List ℕ) → Step
-handing = passing endsOne
+handing f = passing endsOne (λ d o. f)
 
 -- it never counts
 abbrev pub uncounted : List ℕ → List ℕ
@@ -169,10 +169,10 @@ isScreen (OfCall n o) = false
 isScreen (OfPacket n o) = false
 
 -- a name or an entry otherwise
-abbrev pub misshowing : (Device → List ℕ → List ℕ) → Step
-misshowing f d o = let r = step d o in (r .0, (r .1 .0, pick (isDone (r .0) && isScreen o) (f d (r .1 .1)) (r .1 .1)))
+abbrev pub misshowing : (Device → Operation → List ℕ → List ℕ) → Step
+misshowing = passing isScreen
 
--- any device, but where such an operation is refused noise comes back
+-- any device, but wherever such an operation is refused noise comes back
 abbrev pub telltale : (Operation → Bool) → Step → Step
 telltale such st d o = let r = st d o in (r .0, (r .1 .0, pick (such o && leb 2 (numberOf (r .0))) noise (r .1 .1)))
 

@@ -132,6 +132,16 @@ isBegin (OfScreen o) = false
 isBegin (OfCall n o) = false
 isBegin (OfPacket n o) = false
 
+-- an erase
+abbrev pub isErase : Operation → Bool
+isErase (OfBook (book.Begin c i n)) = false
+isErase (OfBook (book.Add c i xs)) = false
+isErase (OfBook (book.Finish c i)) = false
+isErase (OfBook (book.Erase c i)) = true
+isErase (OfScreen o) = false
+isErase (OfCall n o) = false
+isErase (OfPacket n o) = false
+
 -- a slot, arrived or lost
 abbrev pub isSlot : Operation → Bool
 isSlot (OfBook o) = false

@@ -1,5 +1,5 @@
--- Over every list of key operations on an all-zero book: one out of its turn is refused, and a begin in its turn is done where an entry is free. And, of every
--- book, an entry stays its key's until that is erased.
+-- Over every list of key operations on an all-zero book: one out of its turn is refused, and a begin in its turn, in range and with a name, is done where an
+-- entry is free. And, of every book, a used entry stays its key's until that is erased.
 use Prim.Native.Nat.{ℕ, _≤_, _<_}
 use native.Mathlib.Decide.{ℕ-discrete, decLt}
 use native.Mathlib.Omega.{arith}
@@ -46,7 +46,7 @@ module _ (os : List Operation) (c i : ℕ) where
       go true r = let h = held-finished (entryFor b c i) u r in let n = holds-what-was-told os c i ∙ e in let z : _≡_ {A = ℕ} 0 1 = cc (h, n) in omega arith
       go false r = let h = loading-told u r in let z : _≡_ {A = ℕ} 0 1 = cc (h, e) in omega arith
 
-  -- a begin in its turn, with a name, is done where an entry is free
+  -- a begin in its turn, in range and with a name, is done where an entry is free
   pub begun-in-turn : (n : List ℕ) → IsName n → inRange c i ≡ true → telling (history os) c i ≡ nothing → (k : ℕ) → k < entries → cipherIn (entryOf b k) ≡ 0
       → beginOf b c i n .0 ≡ Done
   begun-in-turn n named r e k l z =
@@ -82,7 +82,7 @@ out-of-turn os (Erase c i) f =
     let b = bookAfter os in
     some-refuses b (entryRefusals b c i) (Done, withFor b c i blank) refl (λ none. used-told os c i (entry-there b c i none .used) (erase-of-none c i _ f)) .0
 
--- ---- an entry stays its key's
+-- ---- a used entry stays its key's
 
 module _ (b : List ℕ) (k : ℕ) (l : k < entries) (u : cipherIn (entryOf b k) ≡ 0 → ⊥) where
   abbrev Its : List ℕ → Type 0

@@ -80,7 +80,7 @@ inTurn (Erase c i) nothing = false
 inTurn (Erase c i) (loading m xs) = true
 inTurn (Erase c i) (finished m xs) = true
 
--- the operation erases them
+-- the operation is an erase of a cipher type and key ID, done or refused
 abbrev pub erases : ℕ → ℕ → Operation → Bool
 erases c i (Begin d j n) = false
 erases c i (Add d j xs) = false
