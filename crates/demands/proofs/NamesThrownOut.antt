@@ -2,7 +2,7 @@
 -- operation out of its turn, or finishes a key that isn't whole and allowed; one that hands out another name or shows an entry otherwise than it is; one whose begin
 -- or erase is answered and not done; and one whose entries move.
 use mathlib.Core.Path.{_≡_, refl, sym, ap, ap₂, _∙_}
-use mathlib.Core.Bool.{Bool, true, false, _&&_}
+use mathlib.Core.Bool.{true, false, _&&_}
 use mathlib.Core.List.{List, [], _∷_, _++_}
 use Prim.Native.Nat.{ℕ, _≤_}
 use native.Mathlib.Omega.{arith}
@@ -25,7 +25,7 @@ use Rattle.keybook.specs.History as book
 use Rattle.keybook.proofs.Laws.{begin-done-at-first-free}
 use Rattle.keybook.proofs.GoodLaws.{good-sized}
 use Rattle.keybook.proofs.HoldLaws.{always-good}
-use Rattle.demands.specs.Device.{Device, atFirst, Operation, Name, Inventory, OfBook, OfScreen, OfCall, OfPacket, listed, Step, step, History, deviceAfter, history, keyOperations}
+use Rattle.demands.specs.Device.{Device, atFirst, Operation, Name, Inventory, OfBook, OfScreen, listed, Step, step, History, deviceAfter, history, keyOperations}
 use Rattle.demands.specs.Demand1.{Demand1}
 use Rattle.demands.specs.Refusals.{isBegin, isErase}
 use Rattle.demands.specs.Names.{toldOf, shownAt, cipherAt, withoutKey, NamesKept}
