@@ -102,8 +102,8 @@ shownTold c i (finished n xs) = record { cipher = c; id = i; loaded = length xs;
 abbrev pub padded : List ℕ → List ℕ
 padded xs = xs ++ replicate (keyRoom - length xs) 0
 
--- a history tells of key k: a key was begun with a name and finished, k is exactly the octets that were added since its begin, in order, followed by zeros, their number is
--- the cipher's key length, and they are allowed
+-- a history tells of key k: a key was begun with a name and finished, k is exactly the octets that were added since its begin, in order, followed by zeros,
+-- their number is the cipher's key length, and they are allowed
 pub record Told (h : History) (c i : ℕ) (k : List ℕ) : Type 0 where
   pub name : List ℕ
   pub octets : List ℕ

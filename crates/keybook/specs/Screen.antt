@@ -13,7 +13,7 @@ use Rattle.keybook.specs.declared.screen.Shown.{Shown}
 use Rattle.keybook.specs.Book.{entries, bookOctets, entryOf, badBook}
 use Rattle.keybook.specs.Operations.{entryFor, entryRefusals}
 
--- the name of an entry, ready or not; refused by 2, 3, 4 of the book, 5, and then no name
+-- the name of an entry, ready or not; refused by 2, 3, 4 of the book, 5, and then zeros
 unfoldable pub nameOf : List ℕ → ℕ → ℕ → Answer × List ℕ
 nameOf b c i = outcome noName (entryRefusals b c i) (nameIn (entryFor b c i))
 
