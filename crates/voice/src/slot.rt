@@ -127,7 +127,7 @@ fn slot_on(call: Call, slot: Counts) -> Call
 }
 
 // Whether a receiver was told of as many slots as it may be.
-fn is_full(call: Call) -> bool
+pub fn is_full(call: Call) -> bool
     requires { ⌜ goodCall call ≡ true ⌝ }
     ensures { λ r. ⌜ r ≡ isFull (standing call) (call .counts) ⌝ }
 {
