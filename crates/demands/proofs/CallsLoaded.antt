@@ -24,7 +24,8 @@ use Rattle.voice.specs.Opening.{joinRefusals, begunRefusals, begun, begunOf, op
 use Rattle.voice.specs.Slot.{goingOn, ridden, slotOn, lostRefusals, lostOf, voiceRefusals, streamOf, voiceAfter, voiceBy}
 use Rattle.voice.specs.Vector.{withVector, announceRefusals, announceOf, nextVectorOf}
 use Rattle.voice.proofs.CallLaws.{by-stands, stands-bad}
-use Rattle.demands.specs.Device.{Device, screenStep, CallOperation, Open, Start, Join, Voice, Lost, End, Announce, NextVector, callStep, packetStep, Operation, OfBook, OfScreen, OfCall, OfPacket, step, deviceAfter, history}
+use Rattle.nxdn.specs.Operations.{screenStep, CallOperation, Open, Start, Join, Voice, Lost, End, Announce, NextVector, callStep, packetStep}
+use Rattle.demands.specs.Device.{Device, Operation, OfBook, OfScreen, OfCall, OfPacket, step, deviceAfter, history}
 use Rattle.demands.specs.Demand1.{OpensCall, by-open, by-start, by-join, renewsCall}
 use Rattle.demands.proofs.LoadedLaws.{Holder, SameKey, KeepsKey, begins, Left, Held, always-loaded, as-it-was, renewing, keeping, of-number}
 use Rattle.openings.proofs.ReadyLaws.{none-ready, none-ready-vector}

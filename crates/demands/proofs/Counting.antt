@@ -36,7 +36,8 @@ use Rattle.voice.proofs.SlotSteps.{lost-at}
 use Rattle.voice.proofs.GoodLaws.{slot-good, announce-good}
 use Rattle.voice.proofs.OpeningGood.{open-leaves, join-leaves}
 use Rattle.voice.proofs.Exactly as voice
-use Rattle.demands.specs.Device.{handedOut, Device, screenStep, CallOperation, Open, Start, Join, Voice, Lost, End, Announce, NextVector, callStep, packetStep, Operation, OfBook, OfScreen, OfCall, OfPacket, Step, step, History, deviceAfter, history}
+use Rattle.nxdn.specs.Operations.{handedOut, screenStep, CallOperation, Open, Start, Join, Voice, Lost, End, Announce, NextVector, callStep, packetStep}
+use Rattle.demands.specs.Device.{Device, Operation, OfBook, OfScreen, OfCall, OfPacket, Step, step, History, deviceAfter, history}
 use Rattle.demands.specs.Demand1.{opensOrEnds, renewsCall, NoneDone, OpensCall, by-open, by-start, by-join}
 use Rattle.demands.specs.Counted.{Slot, arrived, missed, slotOf, slotFor, toReceive, opensToReceive, receivesIn, rateIn, slotsIn, Fate, opened, held, replaced, lost, placeOf, fates, howMany, fourCounts, AtLimit, Counted}
 use Rattle.demands.specs.Rates.{Layout, layout}

@@ -22,7 +22,8 @@ use Rattle.voice.specs.declared.call.Call.{Call}
 use Rattle.voice.specs.Counts.{noCounts}
 use Rattle.voice.specs.Call.{closedTests, isClosed, standing, termsOf, noCall, written}
 use Rattle.voice.specs.Opening.{joinRefusals, joined, joinOf}
-use Rattle.demands.specs.Device.{Device, Open, Join, Voice, Lost, End, callStep, Operation, OfCall, Step, step, deviceAfter, history, CallOperation}
+use Rattle.nxdn.specs.Operations.{Open, Join, Voice, Lost, End, callStep, CallOperation}
+use Rattle.demands.specs.Device.{Device, Operation, OfCall, Step, step, deviceAfter, history}
 use Rattle.demands.specs.OtherDevices.{handing, uncounted, exchanged, passedOff}
 use Rattle.demands.specs.Rates.{layout}
 use Rattle.demands.specs.Counted.{Slot, arrived, missed, receivesIn, rateIn, slotsIn, fourCounts, AtLimit, Counted}

@@ -35,7 +35,8 @@ use Rattle.data.specs.Kinds.{isKind}
 use Rattle.data.specs.Packet as packet
 use Rattle.data.specs.Opening as opening
 use Rattle.data.specs.Message as message
-use Rattle.demands.specs.Device.{withNone, handedOut, Device, ScreenOperation, Name, Inventory, listed, screenStep, lentScreen, CallOperation, Open, Start, Join, Voice, Lost, End, Announce, NextVector, callStep, lentCall, PacketOperation, OpenPacket, Message, LostMessage, EndPacket, packetStep, lentPacket, Operation, OfBook, OfScreen, OfCall, OfPacket, withNumber, step}
+use Rattle.nxdn.specs.Operations.{withNone, handedOut, ScreenOperation, Name, Inventory, listed, screenStep, lentScreen, CallOperation, Open, Start, Join, Voice, Lost, End, Announce, NextVector, callStep, lentCall, PacketOperation, OpenPacket, Message, LostMessage, EndPacket, packetStep, lentPacket}
+use Rattle.demands.specs.Device.{Device, Operation, OfBook, OfScreen, OfCall, OfPacket, withNumber, step}
 use Rattle.demands.specs.Refusals.{keyRefusals, screenRefusals, callRefusals, packetRefusals, refusalsOf, callUnrefused, unrefused}
 use Rattle.demands.specs.Demand1.{Same, SameBeside}
 
@@ -102,7 +103,7 @@ by-number {A} P m x f n its others = go (eqb n m) refl
     go false e = others (eqb-false n m e)
 
 -- a number's own again
-same-number : {A : Type 0} (m : ℕ) {x : A} (f : ℕ → A) → x ≡ f m → (n : ℕ) → withNumber m x f n ≡ f n
+pub same-number : {A : Type 0} (m : ℕ) {x : A} (f : ℕ → A) → x ≡ f m → (n : ℕ) → withNumber m x f n ≡ f n
 same-number {A} m {x} f e n = by-number (λ (y : A). y ≡ f n) m x f n (λ q. e ∙ ap f (sym q)) (λ q. refl)
 
 pub answers-by-table : (d : Device) (o : Operation) → isOneOf (numberOf (step d o .0)) operationNumbers ≡ true

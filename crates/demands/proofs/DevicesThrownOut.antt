@@ -36,7 +36,8 @@ use Rattle.voice.proofs.CallLaws.{not-bad}
 use Rattle.voice.proofs.SlotSteps.{voice-at}
 use Rattle.data.specs.Packet as packet
 use Rattle.demands.specs.Marked.{holding}
-use Rattle.demands.specs.Device.{Device, ScreenOperation, Name, Inventory, lentScreen, CallOperation, Open, Start, Join, Voice, Lost, End, Announce, NextVector, callStep, OpenPacket, Message, LostMessage, EndPacket, Operation, OfBook, OfScreen, OfCall, OfPacket, Step, step, deviceAfter, history}
+use Rattle.nxdn.specs.Operations.{ScreenOperation, Name, Inventory, lentScreen, CallOperation, Open, Start, Join, Voice, Lost, End, Announce, NextVector, callStep, OpenPacket, Message, LostMessage, EndPacket}
+use Rattle.demands.specs.Device.{Device, Operation, OfBook, OfScreen, OfCall, OfPacket, Step, step, deviceAfter, history}
 use Rattle.demands.specs.Demand1.{RightScreen, RightInput, NotTold, TimeOfCall, Unknown, slot, NoneDone, Demand1}
 use Rattle.demands.specs.OtherDevices.{noise, noisy, filing, wiped, wiping, careless, holdingAll, ending, telltale, hastyCall, hasty, eager}
 use Rattle.demands.proofs.Layouts.{ways-right, sender-right}

@@ -35,7 +35,8 @@ use Rattle.data.specs.Opening as opening
 use Rattle.data.specs.Message.{lostRefusals, messageOf}
 use Rattle.data.proofs.MessageLaws.{message-done}
 use Rattle.openings.specs.Samples.{seed, desABCD}
-use Rattle.demands.specs.Device.{Device, Name, Open, Voice, callStep, OpenPacket, Message, packetStep, Operation, OfBook, OfScreen, OfCall, OfPacket, screenStep, step, deviceAfter, history}
+use Rattle.nxdn.specs.Operations.{Name, Open, Voice, callStep, OpenPacket, Message, packetStep, screenStep}
+use Rattle.demands.specs.Device.{Device, Operation, OfBook, OfScreen, OfCall, OfPacket, step, deviceAfter, history}
 use Rattle.demands.specs.Names.{shownAt}
 use Rattle.demands.specs.Demand1.{WordsTurned, MessageTurned}
 use Rattle.demands.proofs.Meets1.{ours-meets-1}

@@ -14,7 +14,8 @@ use Rattle.voice.proofs.SlotLaws.{done-turned, voice-taken, none-open}
 use Rattle.data.specs.declared.packet.Packet.{Packet}
 use Rattle.data.proofs.PacketLaws.{open-some}
 use Rattle.data.proofs.MessageBits as bits
-use Rattle.demands.specs.Device.{callStep, Voice, packetStep, Message, Operation, OfCall, OfPacket, step, deviceAfter, history}
+use Rattle.nxdn.specs.Operations.{callStep, Voice, packetStep, Message}
+use Rattle.demands.specs.Device.{Operation, OfCall, OfPacket, step, deviceAfter, history}
 use Rattle.demands.specs.Demand1.{WordsTurned, MessageTurned, Demand1}
 use Rattle.data.proofs.MessageBits.{done-open}
 use Rattle.demands.proofs.DeviceLaws.{answers-by-table, refusal-changes-nothing, reaches-its-own}

@@ -26,7 +26,8 @@ use Rattle.keybook.proofs.HistoryLaws.{ready-only-if-told, ready-if-finished}
 use Rattle.keybook.proofs.ScreenLaws.{list-done}
 use Rattle.keybook.proofs.ToldLaws.{name-is-told, inventory-is-told, told-is-listed}
 use Rattle.keybook.proofs.TurnLaws.{begun-in-turn, out-of-turn, stays-put}
-use Rattle.demands.specs.Device.{Device, Operation, Inventory, OfBook, OfScreen, OfCall, OfPacket, listed, screenStep, Step, step, deviceAfter, history, keyOperations}
+use Rattle.nxdn.specs.Operations.{Inventory, listed, screenStep}
+use Rattle.demands.specs.Device.{Device, Operation, OfBook, OfScreen, OfCall, OfPacket, Step, step, deviceAfter, history, keyOperations}
 use Rattle.demands.specs.Demand1.{Demand1}
 use Rattle.demands.specs.Names.{toldOf, listedOf, erasesKey, screened, cipherAt, idAt, Shows, withoutKey, NamesKept}
 use Rattle.demands.proofs.LoadedLaws.{keysIn, book-is, keys-are}

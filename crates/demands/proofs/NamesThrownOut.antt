@@ -25,7 +25,8 @@ use Rattle.keybook.specs.History as book
 use Rattle.keybook.proofs.Laws.{begin-done-at-first-free}
 use Rattle.keybook.proofs.GoodLaws.{good-sized}
 use Rattle.keybook.proofs.HoldLaws.{always-good}
-use Rattle.demands.specs.Device.{Device, atFirst, Operation, Name, Inventory, OfBook, OfScreen, listed, Step, step, History, deviceAfter, history, keyOperations}
+use Rattle.nxdn.specs.Operations.{Name, Inventory, listed}
+use Rattle.demands.specs.Device.{Device, atFirst, Operation, OfBook, OfScreen, Step, step, History, deviceAfter, history, keyOperations}
 use Rattle.demands.specs.Demand1.{Demand1}
 use Rattle.demands.specs.Refusals.{isBegin, isErase}
 use Rattle.demands.specs.Names.{toldOf, shownAt, cipherAt, withoutKey, NamesKept}

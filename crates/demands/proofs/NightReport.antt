@@ -10,7 +10,8 @@ use Rattle.report.specs.Report.{perCall, sumBelow, sumAt, sums, reportOf}
 use Rattle.report.proofs.SumLaws.{one-after-other}
 use Rattle.report.proofs.ReportLaws.{done-sums}
 use Rattle.voice.specs.Call.{noCall}
-use Rattle.demands.specs.Device.{Device, Voice, Lost, End, Operation, OfCall, Step, step, deviceAfter}
+use Rattle.nxdn.specs.Operations.{Voice, Lost, End}
+use Rattle.demands.specs.Device.{Device, Operation, OfCall, Step, step, deviceAfter}
 use Rattle.demands.specs.Counted.{Slot, Fate, opened, held, replaced, lost, placeOf, fates, howMany, fourCounts, Counted}
 use Rattle.demands.specs.Night.{Ending, AllEnded, handedOver, slotsOf, nightSlots, said}
 use Rattle.demands.proofs.Samples.{silence}

@@ -15,7 +15,8 @@ use Rattle.data.specs.Kinds.{isKind}
 use Rattle.data.specs.Packet as packet
 use Rattle.data.specs.Opening as opening
 use Rattle.data.specs.Message as message
-use Rattle.demands.specs.Device.{Device, screenStep, callStep, PacketOperation, OpenPacket, Message, LostMessage, EndPacket, packetStep, Operation, OfBook, OfScreen, OfCall, OfPacket, step, deviceAfter, history}
+use Rattle.nxdn.specs.Operations.{screenStep, callStep, PacketOperation, OpenPacket, Message, LostMessage, EndPacket, packetStep}
+use Rattle.demands.specs.Device.{Device, Operation, OfBook, OfScreen, OfCall, OfPacket, step, deviceAfter, history}
 use Rattle.demands.specs.Demand1.{OpensPacket, by-opening, renewsPacket}
 use Rattle.demands.proofs.LoadedLaws.{Holder, begins, Left, Held, always-loaded, as-it-was, renewing, keeping, of-number}
 use Rattle.openings.proofs.ReadyLaws.{none-ready-vector}

@@ -32,7 +32,8 @@ use Rattle.data.specs.Kinds.{isKind}
 use Rattle.data.specs.Packet as packet
 use Rattle.data.specs.Opening as opening
 use Rattle.data.specs.Message as message
-use Rattle.demands.specs.Device.{Device, Name, Inventory, Open, Start, Join, Voice, Lost, End, Announce, NextVector, OpenPacket, Message, LostMessage, EndPacket, Operation, OfBook, OfScreen, OfCall, OfPacket, step}
+use Rattle.nxdn.specs.Operations.{Name, Inventory, Open, Start, Join, Voice, Lost, End, Announce, NextVector, OpenPacket, Message, LostMessage, EndPacket}
+use Rattle.demands.specs.Device.{Device, Operation, OfBook, OfScreen, OfCall, OfPacket, step}
 use Rattle.demands.proofs.DeviceLaws.{refusals-decide}
 use Rattle.demands.specs.Refusals.{refusalsOf, withoutCall, beginOrder, voiceOrder, orderOf, unrefused, withoutBook, lostOrder, isBegin, isSlot}
 

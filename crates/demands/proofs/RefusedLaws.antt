@@ -44,7 +44,8 @@ use Rattle.data.proofs.KindLaws.{kind-range}
 use Rattle.data.specs.Packet as packet
 use Rattle.data.specs.Opening as opening
 use Rattle.data.specs.Message as message
-use Rattle.demands.specs.Device.{Device, ScreenOperation, Name, Inventory, screenStep, lentScreen, CallOperation, Open, Start, Join, Voice, Lost, End, Announce, NextVector, callStep, lentCall, PacketOperation, OpenPacket, Message, LostMessage, EndPacket, packetStep, lentPacket, Operation, OfBook, OfScreen, OfCall, OfPacket, step, lent, handedOut}
+use Rattle.nxdn.specs.Operations.{ScreenOperation, Name, Inventory, screenStep, lentScreen, CallOperation, Open, Start, Join, Voice, Lost, End, Announce, NextVector, callStep, lentCall, PacketOperation, OpenPacket, Message, LostMessage, EndPacket, packetStep, lentPacket, handedOut}
+use Rattle.demands.specs.Device.{Device, Operation, OfBook, OfScreen, OfCall, OfPacket, step, lent}
 use Rattle.demands.specs.Refusals.{keyRefusals, screenRefusals, callRefusals, packetRefusals, refusalsOf}
 use Rattle.demands.specs.Demand1.{Keyed, RightBook, RightScreen, NotZeros, RightCall, RightPacket, RightInput, InTime, Unknown, slot}
 use Rattle.demands.specs.Rates.{Layout}

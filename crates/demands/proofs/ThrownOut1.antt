@@ -14,7 +14,8 @@ use Rattle.answers.specs.Numbers.{numberOf, isDone}
 use Rattle.voice.specs.Call.{byDefault}
 use Rattle.keybook.specs.History as book
 use Rattle.keybook.proofs.HistoryLaws.{one-told}
-use Rattle.demands.specs.Device.{Device, CallOperation, Open, Start, Join, Voice, Lost, End, Announce, NextVector, PacketOperation, OpenPacket, Message, LostMessage, EndPacket, Operation, OfBook, OfScreen, OfCall, OfPacket, Step, History, deviceAfter, history, keyOperations}
+use Rattle.nxdn.specs.Operations.{CallOperation, Open, Start, Join, Voice, Lost, End, Announce, NextVector, PacketOperation, OpenPacket, Message, LostMessage, EndPacket}
+use Rattle.demands.specs.Device.{Device, Operation, OfBook, OfScreen, OfCall, OfPacket, Step, History, deviceAfter, history, keyOperations}
 use Rattle.octets.proofs.TestLaws.{and-false-r}
 use Rattle.demands.proofs.LoadedLaws.{still-loaded}
 use Rattle.demands.specs.Demand1.{OpensCall, by-open, by-start, by-join, OpensPacket, by-opening, renewsCall, renewsPacket, NoneDone, Loaded, Demand1}

@@ -22,7 +22,8 @@ use Rattle.data.specs.Packet as packet
 use Rattle.data.specs.Opening as opening
 use Rattle.data.specs.Message as message
 use Rattle.data.proofs.PacketLaws.{kind-closed}
-use Rattle.demands.specs.Device.{Device, CallOperation, Open, Start, Join, Voice, Lost, End, Announce, NextVector, PacketOperation, OpenPacket, Message, LostMessage, EndPacket, Operation, OfBook, OfScreen, OfCall, OfPacket}
+use Rattle.nxdn.specs.Operations.{CallOperation, Open, Start, Join, Voice, Lost, End, Announce, NextVector, PacketOperation, OpenPacket, Message, LostMessage, EndPacket}
+use Rattle.demands.specs.Device.{Device, Operation, OfBook, OfScreen, OfCall, OfPacket}
 use Rattle.demands.specs.Refusals.{callRefusals, packetRefusals, refusalsOf}
 use Rattle.demands.specs.Demand1.{TimeOfCall, TimeOfPacket, InTime}
 

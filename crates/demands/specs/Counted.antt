@@ -10,7 +10,8 @@ use Rattle.octets.specs.Tests.{pick}
 use Rattle.answers.specs.declared.Answer.{Answer}
 use Rattle.answers.specs.Numbers.{numberOf, isDone}
 use Rattle.voice.specs.Frame.{inMask}
-use Rattle.demands.specs.Device.{CallOperation, Open, Start, Join, Voice, Lost, End, Announce, NextVector, Operation, OfBook, OfScreen, OfCall, OfPacket, Step, History, deviceAfter, history}
+use Rattle.nxdn.specs.Operations.{CallOperation, Open, Start, Join, Voice, Lost, End, Announce, NextVector}
+use Rattle.demands.specs.Device.{Operation, OfBook, OfScreen, OfCall, OfPacket, Step, History, deviceAfter, history}
 use Rattle.demands.specs.Demand1.{renewsCall}
 use Rattle.demands.specs.Rates.{layout}
 

@@ -23,7 +23,8 @@ use Rattle.data.specs.Kinds.{messageOctets}
 use Rattle.data.specs.Packet.{goodPacket}
 use Rattle.data.specs.Message.{messageTurned}
 use Rattle.demands.specs.Rates.{layout}
-use Rattle.demands.specs.Device.{Device, ScreenOperation, Name, Inventory, CallOperation, Open, Start, Join, Voice, Lost, End, Announce, NextVector, PacketOperation, OpenPacket, Message, LostMessage, EndPacket, Operation, OfBook, OfScreen, OfCall, OfPacket, Step, lent, History, deviceAfter, history, keyOperations}
+use Rattle.nxdn.specs.Operations.{ScreenOperation, Name, Inventory, CallOperation, Open, Start, Join, Voice, Lost, End, Announce, NextVector, PacketOperation, OpenPacket, Message, LostMessage, EndPacket}
+use Rattle.demands.specs.Device.{Device, Operation, OfBook, OfScreen, OfCall, OfPacket, Step, lent, History, deviceAfter, history, keyOperations}
 
 -- ---- what an operation has to be given, or it is refused: lengths, numbers, the book where it reads it, and what it is for
 

@@ -14,7 +14,8 @@ use Rattle.keyentry.specs.Name.{IsName}
 use Rattle.keybook.specs.Book.{goodBook}
 use Rattle.keybook.specs.History as book
 use Rattle.keybook.specs.History.{Progress, nothing, finished, telling, nameTold, shownTold}
-use Rattle.demands.specs.Device.{Device, Operation, Name, Inventory, OfBook, OfScreen, OfCall, OfPacket, listed, Step, History, deviceAfter, history, keyOperations}
+use Rattle.nxdn.specs.Operations.{Name, Inventory, listed}
+use Rattle.demands.specs.Device.{Device, Operation, OfBook, OfScreen, OfCall, OfPacket, Step, History, deviceAfter, history, keyOperations}
 
 -- ---- by what was asked and answered alone
 

@@ -5,7 +5,8 @@ use mathlib.Core.List.{List, [], _∷_, _++_}
 use Prim.Native.Nat.{ℕ, _+_}
 use Rattle.answers.specs.declared.Answer.{Answer}
 use Rattle.answers.specs.Numbers.{numberOf}
-use Rattle.demands.specs.Device.{End, Operation, OfCall, Step, deviceAfter, history}
+use Rattle.nxdn.specs.Operations.{End}
+use Rattle.demands.specs.Device.{Operation, OfCall, Step, deviceAfter, history}
 use Rattle.demands.specs.Counted.{Slot, slotsIn, opened, held, fates, howMany, fourCounts}
 
 -- the operations before an end, and the number of the call that it ends

@@ -17,7 +17,8 @@ use Rattle.voice.specs.Counts.{noCounts}
 use Rattle.voice.specs.Opening.{begun, joined}
 use Rattle.voice.specs.Slot.{streamOf, inSlot}
 use Rattle.voice.specs.Vector.{withVector}
-use Rattle.demands.specs.Device.{withNone, Device, CallOperation, Open, Start, Join, Voice, Lost, End, Announce, NextVector, callStep, Operation, OfBook, OfScreen, OfCall, OfPacket, withCall, Step, step, lent}
+use Rattle.nxdn.specs.Operations.{withNone, CallOperation, Open, Start, Join, Voice, Lost, End, Announce, NextVector, callStep}
+use Rattle.demands.specs.Device.{Device, Operation, OfBook, OfScreen, OfCall, OfPacket, withCall, Step, step, lent}
 use Rattle.demands.specs.Refusals.{callRefusals, isBegin}
 
 -- octets that nobody said

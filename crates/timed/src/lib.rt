@@ -3,6 +3,8 @@ ghost use mathlib.Core.Path.{_≡_};
 ghost use lib.ListN.{length};
 use data::kind::DCALL;
 use data::packet::Packet;
+use voice::call::DEFAULT;
+use voice::call::no_call;
 
 fn des_chain(key: &[u8], block: &mut [u8], n: usize)
     requires { ⌜ (length (now key) ≡ 8) × (length (now block) ≡ 8) ⌝ }
@@ -97,4 +99,25 @@ pub extern "C" fn timed_message(
         vector: eight(vector),
     };
     data::message::message(packet, message);
+}
+
+// n slots of all words, received by value one after the other in a call that rides on from its opening; nothing where it can't be opened.
+#[no_mangle]
+pub extern "C" fn timed_slots(
+    book: &[u8],
+    cipher: u8,
+    id: u8,
+    rate: u8,
+    vector: &[u8],
+    frame: &mut [u8],
+    n: usize,
+) {
+    let opened = voice::opening::open(no_call(), cipher, id, rate, DEFAULT, vector, book);
+    let mut call = opened.call;
+    let mut i = 0;
+    while i < n {
+        let stepped = voice::slot::voice(call, 15, frame);
+        call = stepped.call;
+        i += 1;
+    }
 }

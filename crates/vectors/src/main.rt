@@ -5,10 +5,10 @@ mod blocks;
 mod calls;
 mod feedback;
 mod messages;
-mod nxdn;
 mod row;
 mod selection;
 mod slots;
+mod standard;
 
 use crate::row::is_row;
 use libc::STDOUT_FILENO;
@@ -21,7 +21,7 @@ enum Set {
     Des,
     Aes,
     Feedback,
-    Nxdn,
+    Standard,
     SentSlots,
     HeardSlots,
     Calls,
@@ -39,7 +39,7 @@ fn holds(set: Set, row: &[u8]) -> bool {
         Set::Des => blocks::des_holds(row),
         Set::Aes => blocks::aes_holds(row),
         Set::Feedback => feedback::holds(row),
-        Set::Nxdn => nxdn::holds(row),
+        Set::Standard => standard::holds(row),
         Set::SentSlots => slots::holds(row, false),
         Set::HeardSlots => slots::holds(row, true),
         Set::Calls => calls::holds(row),
@@ -211,7 +211,7 @@ fn main() {
         b"nxdn-first-messages-one-bit-wrong.tsv",
     );
     run_both(
-        Set::Nxdn,
+        Set::Standard,
         b"nxdn-known-answers.tsv",
         b"NXDN TS 1-D, 7.2.3",
         b"nxdn-one-bit-wrong.tsv",

@@ -1,10 +1,10 @@
--- `vectors::nxdn::output` is safe and ends.
+-- `vectors::standard::output` is safe and ends.
 use mathlib.Core.Path.{_≡_}
 use Prim.Native.Nat.{_-_}
 use lib.ListN.{length}
 use borrow.Author.Needs.{needs}
-use Rattle.vectors.proofs.nxdn.output.Statement.{statement}
-use Rattle.vectors.proofs.nxdn.output.Tie as tie
+use Rattle.vectors.proofs.standard.output.Statement.{statement}
+use Rattle.vectors.proofs.standard.output.Tie as tie
 
 abbrev Inv-loop : tie.InvT-loop
 Inv-loop n vector₀ k₀ vector k = length vector ≡ 8

@@ -1,0 +1,3 @@
+pub mod LentLaws
+pub mod InterfaceLaws
+pub mod CallLaws

@@ -1,0 +1,4 @@
+pub mod Operations
+pub mod Lent
+pub mod Shown
+pub mod Interface
