@@ -7,6 +7,8 @@ pub mod Standing
 pub mod Marking
 pub mod ToldSlots
 pub mod ReceiverMeets
+pub mod HeardMeets
+pub mod HeardInTime
 pub mod LogComplete
 pub mod ScrambleAlike
 pub mod Settled
@@ -21,6 +23,7 @@ pub mod Instance
 pub mod Meets2
 pub mod Apart
 pub mod ThrownOutDefault
+pub mod HeardThrownOut
 pub mod Ends
 pub mod DeviceLaws
 pub mod RefusalOrder
@@ -40,3 +43,6 @@ pub mod Instance1
 pub mod CountsThrownOut
 pub mod NightReport
 pub mod ThrownOut2
+pub mod RoomLaws
+pub mod HostLaws
+pub mod HostAnswers

@@ -2,7 +2,7 @@
 -- its announcement arrived.
 use mathlib.Core.Path.{_≡_, refl, sym, ap, _∙_}
 use mathlib.Core.List.{List, [], _∷_, _++_}
-use mathlib.Core.Bool.{Bool, true, false, _&&_, _||_, not, or-true, true≢false}
+use mathlib.Core.Bool.{Bool, true, false, _&&_, _||_, not, or-true, or-false, or-comm, true≢false}
 use Prim.Native.Nat.{ℕ}
 use lib.Dec.{eqb}
 use lib.ListN.{drop}
@@ -17,6 +17,15 @@ module _ (m c : ℕ) where
   -- known as the next session starts: by default what was, else scramble's alone
   abbrev pub knownNext : Bool → Bool
   knownNext known = pick (eqb m byDefault) known (scrambles c)
+
+  -- so a session counts as reached where it was announced, and by default also where the one before was known
+  pub known-by : (before a : Bool) → (knownNext (isReached c before) || a) ≡ isReached c (a || (eqb m byDefault && before))
+  known-by before a = go (eqb m byDefault) (scrambles c)
+    where
+      go : (r u : Bool) → (pick r (u || before) u || a) ≡ (u || (a || (r && before)))
+      go true true = refl
+      go true false = or-comm before a
+      go false u = ap (λ (z : Bool). u || z) (sym (or-false a))
 
   abbrev pub sessionsBy : Bool → List Session → List Notice
   sessionsBy known [] = []

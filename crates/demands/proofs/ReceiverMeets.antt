@@ -10,9 +10,10 @@ use native.Mathlib.Numerals.{add-one}
 use native.Mathlib.Omega.{arith}
 use lib.Dec.{eqb}
 use lib.ListN.{length, drop, length-drop}
-use borrow.Author.Tests.{eqb-true}
+use borrow.Author.Tests.{eqb-true, not-true}
 use Rattle.octets.specs.Tests.{pick}
 use Rattle.octets.specs.Lists.{Each}
+use Rattle.octets.proofs.TestLaws.{and-left, and-right}
 use Rattle.answers.specs.declared.Answer.the-variants.{Done, Held}
 use Rattle.answers.specs.Numbers.{numberOf}
 use Rattle.generator.specs.Generator.{nextVector}
@@ -40,12 +41,12 @@ use Rattle.demands.proofs.Marking.{knownNext, sessionsBy, firstBy, stri
 use Rattle.demands.proofs.ToldSlots.{told-slot, since-told}
 use Rattle.demands.proofs.Standing.{key-ranged, slots-some, fresh, place, place-end, place-lost, place-voice, place-on, same-slot, place-opened, opened-stands, place-joined, joined-stands, place-announced, announced-stands, place-untold, place-counts}
 
-each-drop : {A : Type 0} (P : A → Type 0) (n : ℕ) (xs : List A) → Each P xs → Each P (drop n xs)
+pub each-drop : {A : Type 0} (P : A → Type 0) (n : ℕ) (xs : List A) → Each P xs → Each P (drop n xs)
 each-drop P zero xs h = h
 each-drop P (suc n) [] h = h
 each-drop P (suc n) (x ∷ xs) h = each-drop P n xs (h .1)
 
-slots-drop : (l : Layout) (ks : ℕ → ℕ) (n p : ℕ) (xs : List Slot) → SlotsKept l ks p xs → SlotsKept l ks (p + n) (drop n xs)
+pub slots-drop : (l : Layout) (ks : ℕ → ℕ) (n p : ℕ) (xs : List Slot) → SlotsKept l ks p xs → SlotsKept l ks (p + n) (drop n xs)
 slots-drop l ks zero p xs h = rw add-zero h
 slots-drop l ks (suc n) p [] h = tt
 slots-drop l ks (suc n) p (x ∷ xs) h =
@@ -56,7 +57,7 @@ full-tail : (c : ℕ) (x : Session) (xs : List Session) → Full c (slotCounts (
 full-tail c x [] f = tt
 full-tail c x (y ∷ ys) f = f .1
 
-full-drop : (c n : ℕ) (xs : List Session) → Full c (slotCounts xs) → Full c (slotCounts (drop n xs))
+pub full-drop : (c n : ℕ) (xs : List Session) → Full c (slotCounts xs) → Full c (slotCounts (drop n xs))
 full-drop c zero xs f = f
 full-drop c (suc n) [] f = f
 full-drop c (suc n) (x ∷ xs) f = full-drop c n xs (full-tail c x xs f)
@@ -114,7 +115,7 @@ module _ (b : List ℕ) (c i : ℕ) (key : List ℕ) (h : HasKey b c i key) (lon
       (pick r Done Held, (written (plus (d .counts) (arrivedWords (x .mask) (isKnown k))) (place t k (p + 1)), pick r (inSlot streamOf (x .mask) (x .sent) (written (d .counts) (receiving t p k))) (x .sent))))
       (n .known)
 
-  slot-steps : (reached : Bool) (v : List ℕ) (k : Known) → Knowing reached v k → (p : ℕ) → p < sessionSlots c → (x : Slot) → SlotKept its (stream c key v) p x
+  pub slot-steps : (reached : Bool) (v : List ℕ) (k : Known) → Knowing reached v k → (p : ℕ) → p < sessionSlots c → (x : Slot) → SlotKept its (stream c key v) p x
       → (d : Call) → standing d ≡ place t k p → total (d .counts) < mostWords → (arrived : Bool) → Steps k p d (event (oursIn m) b c i rt (slotNotice reached arrived x) d)
   slot-steps true v k n p l x s d e room true =
       let w = arrived-fits (x .mask) (isKnown k) in
@@ -165,7 +166,7 @@ module _ (b : List ℕ) (c i : ℕ) (key : List ℕ) (h : HasKey b c i key) (lon
   known-on false true false v s = refl
   known-on false false n v s = refl
 
-  told-on : (u d n : Bool) (v : List ℕ) → isTold (pick (not u && (d && n)) (carried v) (pick u (told noVector) unknown)) ≡ u
+  pub told-on : (u d n : Bool) (v : List ℕ) → isTold (pick (not u && (d && n)) (carried v) (pick u (told noVector) unknown)) ≡ u
   told-on true d n v = refl
   told-on false true true v = refl
   told-on false true false v = refl
@@ -179,7 +180,7 @@ module _ (b : List ℕ) (c i : ℕ) (key : List ℕ) (h : HasKey b c i key) (lon
   vector-on false true false w v f k = absurd (true≢false (sym k))
   vector-on false false n w v f k = absurd (true≢false (sym k))
 
-  ready-next : (reached : Bool) (x : Session) (k : Known) → Knowing reached (x .vector) k → (scrambles c ≡ true → reached ≡ true) → (y : Session)
+  pub ready-next : (reached : Bool) (x : Session) (k : Known) → Knowing reached (x .vector) k → (scrambles c ≡ true → reached ≡ true) → (y : Session)
       → (m ≡ byDefault → scrambles c ≡ false → GeneratedOrAnnounced x y) → Ready (knownNext m c reached) (ridden t k) y
   ready-next reached x k n s y link =
       record {
@@ -205,30 +206,35 @@ module _ (b : List ℕ) (c i : ℕ) (key : List ℕ) (h : HasKey b c i key) (lon
   some-known true k x r e a = refl
   some-known false k x r e a = absurd (true≢false (sym (told-known k (r .untold ∙ e)) ∙ r .knows))
 
+  -- told nothing as it starts, it knows of its vector what it was ready with
+  pub start-knows : (known : Bool) (k : Known) (x : Session) → Ready known k x → (not (scrambles c) && x .announced) ≡ false
+      → Knowing (known || x .announced) (x .vector) k
+  start-knows known k x r a =
+      let e = same (scrambles c) (x .announced) refl a in
+      record { known = r .knows ∙ sym e; vector = λ z. r .vector a (sym e ∙ z) }
+    where
+      same : (u a : Bool) → scrambles c ≡ u → (not u && a) ≡ false → (known || a) ≡ known
+      same true a e z = some-known known k x r e a
+      same false true e z = absurd (true≢false z)
+      same false false e z = or-false known
+
   -- told of the vector as the session starts, if the announcement arrived
   start-right : (known : Bool) (k : Known) (x : Session) → Ready known k x → length (x .vector) ≡ vectorOctets → (ns : List Notice)
       → ((k′ : Known) → Knowing (known || x .announced) (x .vector) k′ → RightFrom (place t k′ 0) ns)
       → RightFrom (receiving t 0 k) (startNotices (not (scrambles c) && x .announced) (x .vector) ++ ns)
-  start-right known k x r l ns next d q = go (scrambles c) (x .announced) refl refl
+  start-right known k x r l ns next d q = go (not (scrambles c) && x .announced) refl
     where
-      go : (u a : Bool) → scrambles c ≡ u → x .announced ≡ a → Room d (startNotices (not u && a) (x .vector) ++ ns) → Each Right (log d (startNotices (not u && a) (x .vector) ++ ns))
-      go true a e f room =
-          next k
-          (record { known = r .knows ∙ sym (some-known known k x r e (x .announced)); vector = λ z. r .vector (rw e) (sym (r .knows) ∙ told-known k (r .untold ∙ e)) }) d
-          (place-untold b c i key h rt m right d k q) room
-      go false true e f room =
-          rw (place-announced b c i key h rt m right d k q (x .vector) l e (r .untold ∙ e)) (
+      go : (a : Bool) → (not (scrambles c) && x .announced) ≡ a → Room d (startNotices a (x .vector) ++ ns)
+          → Each Right (log d (startNotices a (x .vector) ++ ns))
+      go false a room = next k (start-knows known k x r a) d (place-untold b c i key h rt m right d k q) room
+      go true a room =
+          let u = not-true (scrambles c) (and-left (not (scrambles c)) (x .announced) a) in
+          let f = and-right (not (scrambles c)) (x .announced) a in
+          rw (place-announced b c i key h rt m right d k q (x .vector) l u (r .untold ∙ u)) (
             refl,
-            next (told (x .vector))
-                (record { known = sym (or-true known) ∙ ap (λ (a : Bool). known || a) (sym f); vector = λ z. sym (ap (λ (u : Bool). pick u noVector (x .vector)) e) }) _
-                (announced-stands b c i key h rt m right d k q (x .vector) l e (r .untold ∙ e)) room,
+            next (told (x .vector)) (record { known = rw (f, or-true known); vector = λ z. rw u }) _
+                (announced-stands b c i key h rt m right d k q (x .vector) l u (r .untold ∙ u)) room,
           )
-      go false false e f room =
-          next k
-          (record {
-            known = r .knows ∙ sym (or-false known) ∙ ap (λ (a : Bool). known || a) (sym f);
-            vector = λ z. r .vector (rw (e, f)) (sym (or-false known) ∙ ap (λ (a : Bool). known || a) (sym f) ∙ z);
-          }) d (place-untold b c i key h rt m right d k q) room
 
   -- ---- the sessions
 

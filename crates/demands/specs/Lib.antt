@@ -6,9 +6,12 @@ pub mod Log
 pub mod Arrivals
 pub mod Demand3
 pub mod Demand3Default
+pub mod ToldWhenHeard
+pub mod OtherHearings
 pub mod Others
 pub mod OurSender
 pub mod Device
+pub mod Host
 pub mod Refusals
 pub mod Demand1
 pub mod Names
