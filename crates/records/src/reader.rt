@@ -4,7 +4,7 @@ ghost use mathlib.Core.List.{_++_};
 ghost use Prim.Native.Nat.{_≤_};
 ghost use lib.ListN.{length, take};
 ghost use Rattle.text.specs.Responded.{Responded};
-ghost use Rattle.records.specs.Lent.{Cached};
+ghost use Rattle.sessions.specs.Session.{Cached};
 ghost use Rattle.records.specs.Answered.{answerRoom, recorder};
 ghost use Rattle.records.specs.Reader.{keptOctets, lineReader, reading, carried, started, takeFrom, takeOf, closeFrom, closeOf};
 use crate::respond::Response;

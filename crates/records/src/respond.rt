@@ -2,7 +2,7 @@
 ghost use Prim.Native.Nat.{_≤_};
 ghost use lib.ListN.{length};
 ghost use Rattle.text.specs.Responded.{Responded};
-ghost use Rattle.records.specs.Lent.{Cached};
+ghost use Rattle.sessions.specs.Session.{Cached};
 ghost use Rattle.records.specs.Answered.{answerRoom, recorder};
 ghost use Rattle.records.specs.Reader.{lineReader};
 use crate::output::put_answer;

@@ -1,38 +1,31 @@
 // What a record does to the book and the call.
 ghost use mathlib.Core.Path.{_≡_};
-ghost use mathlib.Core.Bool.{true, false};
-ghost use Prim.Native.Nat.{_≤_};
+ghost use mathlib.Core.Bool.{true};
+ghost use mathlib.Core.List.{List};
+ghost use Prim.Native.Nat.{ℕ, _≤_};
 ghost use lib.ListN.{length, take};
 ghost use Rattle.octets.specs.Tests.{pick};
 ghost use Rattle.answers.specs.Numbers.{numberOf, isDone};
-ghost use Rattle.sizes.specs.Ciphers.{scrambles};
 ghost use Rattle.keyentry.specs.Name.{noName};
 ghost use Rattle.keybook.specs.Operations.{loadOf};
-ghost use Rattle.voice.specs.Call.{standing, knows, endOf};
-ghost use Rattle.sizes.specs.Frame.{halfRate};
+ghost use Rattle.voice.specs.Call.{endOf};
 ghost use Rattle.voice.specs.Slot.{lostOf, voiceOf};
 ghost use Rattle.lines.specs.Record.{recordFrame, recordRoom, recordIn, keyCount};
 ghost use Rattle.records.specs.Step.{withoutCounts, asEffect, stepOf};
-ghost use Rattle.records.specs.Lent.{Cached};
+ghost use Rattle.sessions.specs.Session.{Cached};
 use answers::Answer;
 use keybook::load;
 use keyentry::names::NAME_OCTETS;
 use lines::record::Parsed;
-use sizes::cipher::Scramble;
 use sizes::cipher::VECTOR_OCTETS;
 use sizes::frame::HALF_FRAME_OCTETS;
 use sizes::frame::Half;
 use voice::call::Call;
 use voice::call::STRICT;
 use voice::call::Stepped;
-use voice::call::UNKNOWN;
 use voice::call::end;
-use voice::call::good_call;
 use voice::opening::join;
 use voice::opening::open;
-use voice::slot::lost;
-use voice::slot::session_stream;
-use voice::slot::voice_by;
 use voice::vector::announce;
 
 // The answer, the call after it, how many octets of the frame are shown, and whether the lent session is the call's.
@@ -41,36 +34,6 @@ pub struct Outcome {
     pub call: Call,
     pub shown: usize,
     pub made: bool,
-}
-
-// ---- the session's keystream, made once
-
-// Whether the call has a session whose vector is known, at half rate: the lent octets are too few for one at full rate. If so, they hold it afterwards.
-fn hold_session(call: Call, session: &mut [u8], made: bool) -> bool
-    requires { ⌜ Cached made call (now session) ⌝ }
-    ensures { λ r. ⌜ (call .terms .rate ≡ halfRate → r ≡ knows (standing call)) × Cached r call (now (session .exit)) ⌝ }
-{
-    if made {
-        return true;
-    }
-    if call.known == UNKNOWN {
-        return false;
-    }
-    if call.terms.rate != Half::RATE {
-        return false;
-    }
-    session_stream(call, session);
-    good_call(call)
-}
-
-// Whether a call of this cipher at this position is in the session that it was in a slot ago. Every session of scramble is the same.
-fn goes_on(cipher: u8, position: u8) -> bool
-    ensures { λ r. ⌜ (r ≡ true → position ≡ 0 → scrambles cipher ≡ true) ⌝ }
-{
-    if cipher == Scramble::TYPE {
-        return true;
-    }
-    position != 0
 }
 
 // ---- the kinds of records
@@ -100,57 +63,42 @@ fn anew(stepped: Stepped, made: bool) -> Outcome
     ensures { λ r. ⌜ (r .answer ≡ stepped .answer) × (r .call ≡ stepped .call) × (r .shown ≡ 0) ⌝ }
     ensures { λ r. ⌜ (r .made ≡ true → (made ≡ true) × (2 ≤ numberOf (stepped .answer))) ⌝ }
 {
-    let answer = stepped.answer;
-    let call = stepped.call;
-    if answer.number() > 1 {
-        return no_frame(answer, call, made);
-    }
-    no_frame(answer, call, false)
+    let slot = sessions::anew(stepped, made);
+    let answer = slot.answer;
+    let call = slot.call;
+    no_frame(answer, call, slot.made)
 }
 
+// A held slot's frame is not shown.
 fn voice_slot(call: Call, mask: u8, frame: &mut [u8], session: &mut [u8], made: bool) -> Outcome
     requires { ⌜ (length (now frame) ≡ recordFrame) × Cached made call (now session) ⌝ }
     ensures { λ r. ⌜ (r .answer, (r .call, now (frame .exit))) ≡ voiceOf call mask (now (frame .entry)) ⌝ }
     ensures { λ r. ⌜ r .shown ≡ pick (isDone (r .answer)) recordFrame 0 ⌝ }
     ensures { λ r. ⌜ Cached (r .made) (r .call) (now (session .exit)) ⌝ }
 {
-    let held = hold_session(call, session, made);
-    let stepped = voice_by(call, mask, frame, session);
-    let answer = stepped.answer;
+    let slot = sessions::voice_slot(call, mask, frame, session, made);
+    let answer = slot.answer;
+    let after = slot.call;
     if answer.number() != 0 {
-        return anew(stepped, held);
+        return no_frame(answer, after, slot.made);
     }
-    let after = stepped.call;
     Outcome {
         answer,
         call: after,
         shown: HALF_FRAME_OCTETS,
-        made: goes_on(call.terms.cipher, after.position),
+        made: slot.made,
     }
 }
 
 fn lost_slot(call: Call, made: bool) -> Outcome
     ensures { λ r. ⌜ (r .answer, r .call) ≡ lostOf call ⌝ }
     ensures { λ r. ⌜ r .shown ≡ 0 ⌝ }
-    ensures { λ r. ⌜ (r .made ≡ true → (made ≡ true) × (r .call .position ≡ 0 → scrambles (call .terms .cipher) ≡ true)) ⌝ }
+    ensures { λ r. ⌜ ((session : List ℕ) → Cached made call session → Cached (r .made) (r .call) session) ⌝ }
 {
-    let stepped = lost(call);
-    let answer = stepped.answer;
-    let after = stepped.call;
-    if made {
-        return Outcome {
-            answer,
-            call: after,
-            shown: 0,
-            made: goes_on(call.terms.cipher, after.position),
-        };
-    }
-    Outcome {
-        answer,
-        call: after,
-        shown: 0,
-        made,
-    }
+    let slot = sessions::lost_slot(call, made);
+    let answer = slot.answer;
+    let after = slot.call;
+    no_frame(answer, after, slot.made)
 }
 
 // The program prints no counts.

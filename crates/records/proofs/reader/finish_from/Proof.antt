@@ -3,7 +3,7 @@ use mathlib.Core.Path.{refl, sym, _∙_}
 use native.Mathlib.Omega.{arith}
 use lib.ListN.{length-take}
 use lib.Seq.{length-take-le}
-use Rattle.records.proofs.StepLaws.{unmade}
+use Rattle.sessions.proofs.SessionLaws.{unmade}
 use Rattle.text.proofs.TakeLaws.{closing-none, closing-empty, closing-line}
 use Rattle.records.specs.Reader.{lineReader}
 use Rattle.records.proofs.ReaderLaws.{as-closing}
@@ -21,7 +21,7 @@ slice-aggregate-respond : tie.Need-slice-aggregate-respond
 slice-aggregate-respond c = simp length-take (search needs)
 
 respond-requires : tie.Need-respond-requires
-respond-requires c κs = (search needs, unmade _ _ refl)
+respond-requires c κs = (search needs, unmade _ _)
 
 returns-3 : tie.Need-returns-3
 returns-3 c = rw (c .carry-on3 .ensures) (as-closing _ _ (closing-line lineReader _ _ (c .before .before .before .before .before .before .before .before .before .before .before .before .before .if1 .left) (λ e. c .before .before .before .before .before .before .before .before .before .before .before .before .if2 .left (sym (length-take-le (c .before .before .before .before .before .before .before .before .before .before .before .before .before .before .before .before .args .count) (c .before .before .before .before .before .before .before .before .before .before .before .before .before .before .before .before .args .t1) (omega (arith, c .before .before .before .before .before .before .before .before .before .before .before .before .before .before .before .before .good, c .before .before .before .before .before .before .before .before .before .before .before .before .before .before .before .before .pre))) ∙ e)) (c .before .before .before .before .before .before .before .respond .ensures .0)))

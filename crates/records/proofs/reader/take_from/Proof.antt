@@ -5,9 +5,10 @@ use native.Mathlib.Omega.{arith}
 use lib.ListN.{length, length-take, length-drop}
 use Rattle.text.proofs.CarryLaws.{take-short}
 use Rattle.text.proofs.TakeLaws.{Taken, taken-none, taken-on, took-some, took-all}
-use Rattle.records.specs.Lent.{Cached}
+use Rattle.sizes.specs.Frame.{halfRate, width, sessionOctets}
+use Rattle.sessions.specs.Session.{Cached}
 use Rattle.records.specs.Reader.{keptOctets, lineReader, reading}
-use Rattle.records.proofs.StepLaws.{unmade}
+use Rattle.sessions.proofs.SessionLaws.{unmade}
 use Rattle.records.proofs.ReaderLaws.{enough, as-taken}
 use borrow.Author.Needs.{needs}
 use Rattle.records.proofs.reader.take_from.Statement.{statement}
@@ -17,12 +18,13 @@ abbrev Inv-loop : tie.InvT-loop
 Inv-loop count₀ call₀ piece book₀ out₀ kept₀ session₀ made₀ used₀ wrote₀ count call book out kept session made used wrote =
     Taken lineReader piece out₀ (reading kept₀ count₀ call₀ book₀) used wrote (reading kept count call book) out
     × (length kept ≡ keptOctets) × (count ≤ keptOctets) × Cached made call session × (length book ≡ length book₀)
+    × (length session ≡ sessionOctets (width halfRate))
 
 abbrev μ-loop : tie.MeasureT-loop
 μ-loop count₀ call₀ piece book₀ out₀ kept₀ session₀ made₀ used₀ wrote₀ count call book out kept session made used wrote = length piece - used
 
 loop-holds : tie.Need-loop-holds Inv-loop μ-loop
-loop-holds c = (taken-none lineReader enough _ _ _ (take-short _ _ _ (c .before .before .before .pre)), search needs, c .before .before .before .pre, unmade _ _ refl, refl)
+loop-holds c = (taken-none lineReader enough _ _ _ (take-short _ _ _ (c .before .before .before .pre)), search needs, c .before .before .before .pre, unmade _ _, refl, refl)
 
 returns : tie.Need-returns Inv-loop μ-loop
 returns c = rw (c .carry-on .ensures) (as-taken _ _ _ (took-some lineReader enough _ _ _ (c .before .before .loop .inv .0) (c .before .if1 .taken)))
@@ -40,7 +42,7 @@ add-used : tie.Need-add-used Inv-loop μ-loop
 add-used c = omega (arith, c .before .before .before .before .before .before .before .before .before .before .before .before .before .before .before .before .before .before .before .before .before .good .1, c .before .before .before .before .before .before .before .before .before .before .before .before .before .before .before .part-end .ensures .2, c .before .before .before .before .before .before .before .before .before .before .before .before .before .if2 .left)
 
 loop-again : tie.Need-loop-again Inv-loop μ-loop
-loop-again c = (taken-on lineReader enough _ _ _ (c .before .before .before .before .before .before .before .before .before .before .before .before .before .before .before .before .before .loop .inv .0) _ (c .before .before .before .before .before .before .before .before .before .before .before .before .before .before .before .part-end .ensures .0) (omega (arith, c .before .before .before .before .before .before .before .before .before .before .before .before .before .before .before .part-end .ensures .2, c .before .before .before .before .before .before .before .before .before .before .before .before .before .if2 .left)) (c .before .before .before .before .before .before .before .before .before .before .before .before .before .before .before .before .if1 .left) (c .before .before .before .before .before .before .before .before .end-line .ensures .0), search needs, omega arith, c .before .before .before .before .before .before .before .before .end-line .ensures .1, search needs)
+loop-again c = (taken-on lineReader enough _ _ _ (c .before .before .before .before .before .before .before .before .before .before .before .before .before .before .before .before .before .loop .inv .0) _ (c .before .before .before .before .before .before .before .before .before .before .before .before .before .before .before .part-end .ensures .0) (omega (arith, c .before .before .before .before .before .before .before .before .before .before .before .before .before .before .before .part-end .ensures .2, c .before .before .before .before .before .before .before .before .before .before .before .before .before .if2 .left)) (c .before .before .before .before .before .before .before .before .before .before .before .before .before .before .before .before .if1 .left) (c .before .before .before .before .before .before .before .before .end-line .ensures .0), search needs, omega arith, c .before .before .before .before .before .before .before .before .end-line .ensures .1, search needs, search needs)
 
 pub take-from-spec : {M : Type 1} → statement M
 take-from-spec =

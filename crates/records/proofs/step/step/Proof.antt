@@ -6,9 +6,10 @@ use denote.Ref.{now}
 use Rattle.voice.proofs.Settled.{open-keeps, join-keeps, announce-keeps, end-keeps}
 use Rattle.voice.specs.declared.counts.Counts.{Counts}
 use Rattle.voice.specs.declared.call.Call.{Call}
+use Rattle.sessions.proofs.SessionLaws.{refused-cached}
 use Rattle.lines.specs.Record.{recordFrame}
 use Rattle.records.specs.Step.{bookStep, callStep}
-use Rattle.records.proofs.StepLaws.{lost-cached, refused-cached, load-is, open-is, join-is, voice-is, announce-is, lost-is, end-is, malformed-is, count-fits, comes, slot-comes, shown-fits}
+use Rattle.records.proofs.StepLaws.{load-is, open-is, join-is, voice-is, announce-is, lost-is, end-is, malformed-is, count-fits, comes, slot-comes, shown-fits}
 use borrow.Author.Needs.{needs}
 use Rattle.records.proofs.step.step.Statement.{statement}
 use Rattle.records.proofs.step.step.Tie as tie
@@ -47,7 +48,7 @@ returns-5 : tie.Need-returns-5
 returns-5 c = (comes (c .anew3 .result) _ _ (c .anew3 .ensures .0 .0) (c .anew3 .ensures .0 .1) (c .anew3 .ensures .0 .2) (announce-is _ _ _ _ (c .before .before .before .enum-told .given .1) ∙ ap (callStep (now (c .before .before .before .before .before .before .before .before .args .book))) (sym (c .before .announce .ensures))), (rw (c .anew3 .ensures .0 .2) (omega arith), refused-cached _ _ (c .before .before .before .before .before .before .before .before .pre .2) (c .before .announce .ensures) (announce-keeps _ _) (c .anew3 .ensures .0 .1) (c .anew3 .ensures .1)))
 
 returns-6 : tie.Need-returns-6
-returns-6 c = (comes (c .lost-slot .result) _ _ refl refl (c .lost-slot .ensures .1 .0) (lost-is _ _ _ _ (c .before .enum-told2 .given .1) ∙ ap (callStep (now (c .before .before .before .before .before .before .args .book))) (sym (c .lost-slot .ensures .0))), (rw (c .lost-slot .ensures .1 .0) (omega arith), lost-cached _ _ (c .before .before .before .before .before .before .pre .2) (c .lost-slot .ensures .0) (c .lost-slot .ensures .1 .1)))
+returns-6 c = (comes (c .lost-slot .result) _ _ refl refl (c .lost-slot .ensures .1 .0) (lost-is _ _ _ _ (c .before .enum-told2 .given .1) ∙ ap (callStep (now (c .before .before .before .before .before .before .args .book))) (sym (c .lost-slot .ensures .0))), (rw (c .lost-slot .ensures .1 .0) (omega arith), c .lost-slot .ensures .1 .1 _ (c .before .before .before .before .before .before .pre .2)))
 
 returns-7 : tie.Need-returns-7
 returns-7 c = (comes (c .anew4 .result) _ _ (c .anew4 .ensures .0 .0) (c .anew4 .ensures .0 .1) (c .anew4 .ensures .0 .2) (end-is _ _ _ _ (c .before .before .enum-told3 .given .1) ∙ ap (callStep (now (c .before .before .before .before .before .before .before .args .book))) (sym (c .before .ended .ensures))), (rw (c .anew4 .ensures .0 .2) (omega arith), refused-cached _ _ (c .before .before .before .before .before .before .before .pre .2) (c .before .ended .ensures) (λ r. ap (λ (d : Call × Counts). d .0) (end-keeps _ r)) (c .anew4 .ensures .0 .1) (c .anew4 .ensures .1)))
