@@ -49,6 +49,7 @@ enum nxdn_size {
     NXDN_VECTOR = 8,
     NXDN_FRAME_HALF = 28, /* a voice slot's frame at half rate: four words of 7 octets */
     NXDN_FRAME_FULL = 36, /* and at full rate: four of 9 */
+    NXDN_STEP = 38,       /* a step of nxdn_batch */
     NXDN_MOST_KEY = 32    /* the longest key */
 };
 
@@ -66,6 +67,9 @@ enum nxdn_kind { NXDN_DCALL = 1, NXDN_SDCALL_INBOUND = 2, NXDN_SDCALL_OUTBOUND =
 
 /* What nxdn_show says of a call's end. */
 enum nxdn_end_of_call { NXDN_NO_CALL = 0, NXDN_SENDING = 1, NXDN_RECEIVING = 2 };
+
+/* What a step of nxdn_batch is: octet 0 of it. */
+enum nxdn_step { NXDN_STEP_VOICE = 1, NXDN_STEP_LOST = 2, NXDN_STEP_ANNOUNCE = 3, NXDN_STEP_HEARD = 4 };
 
 /* ---- answers */
 
@@ -142,6 +146,15 @@ uint8_t nxdn_announce(uint8_t *call, size_t call_len, const uint8_t *vector, siz
 
 /* The next session's vector of a DES or AES call that is sent, for its announcement. Refuses 2, 4, 9. */
 uint8_t nxdn_next_vector(const uint8_t *call, size_t call_len, uint8_t *vector, size_t vector_len);
+
+/* Slots, losses and vectors of a recording at once: exactly what nxdn_voice, nxdn_lost, nxdn_announce and nxdn_heard do
+   in turn, and faster, since the keystream of a session is made once. A step is NXDN_STEP octets: 0 what it is (enum
+   nxdn_step), 1 the mask, and from 2 on the frame, as long as the call's rate says, or the vector; a frame is turned
+   where it stands. answers takes the number of each step's answer, one octet to a step: 3 where octet 0 is no number of
+   enum nxdn_step. A step that is not answered 0 or 1 changed nothing, and the next one is taken all the same. Refuses 2
+   (call, or steps_len is not NXDN_STEP times answers_len), and then no step is taken. */
+uint8_t nxdn_batch(uint8_t *call, size_t call_len, uint8_t *steps, size_t steps_len, uint8_t *answers,
+                   size_t answers_len);
 
 /* Ends a call: its octets are zeros afterwards. Of a call that was received it hands out four counts of words: opened,
    held, replaced (not in the mask), lost; of one that was sent zeros. Refuses 2, 4, 9 (no call). */

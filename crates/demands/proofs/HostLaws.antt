@@ -39,7 +39,7 @@ use Rattle.demands.specs.Device.{Device, Operation, OfScreen, OfCall, wi
 use Rattle.demands.specs.Demand1.{Same}
 use Rattle.demands.specs.Host.{Host, zeros, Function, Keys, Screen, OnCall, LookAt, OnPacket, hostStep, Calls, hostAfter, startsNext, comesTo, operationsOf, Holds, SameOctets, handing, ifFits}
 use Rattle.demands.proofs.DeviceLaws.{book-settles, call-settles, packet-settles, by-number, same-number}
-use Rattle.demands.proofs.RoomLaws.{CallSized, no-call-sized, announced-sized, call-sized, no-packet-sized, packet-sized}
+use Rattle.nxdn.proofs.RoomLaws.{CallSized, no-call-sized, announced-sized, call-sized, no-packet-sized, packet-sized}
 
 -- ---- a refusal
 

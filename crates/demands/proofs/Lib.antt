@@ -43,6 +43,5 @@ pub mod Instance1
 pub mod CountsThrownOut
 pub mod NightReport
 pub mod ThrownOut2
-pub mod RoomLaws
 pub mod HostLaws
 pub mod HostAnswers

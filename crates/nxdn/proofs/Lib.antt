@@ -1,3 +1,6 @@
 pub mod LentLaws
 pub mod InterfaceLaws
 pub mod CallLaws
+pub mod RoomLaws
+pub mod SizedLaws
+pub mod InTurnLaws

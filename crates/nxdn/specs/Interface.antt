@@ -1,10 +1,12 @@
 -- The interface for C and Rust, by what each function is lent: the octets of a book, a call or a packet, and the elements for what it hands out or turns.
 use mathlib.Core.Bool.{Bool, true, _&&_}
 use mathlib.Core.List.{List, []}
-use Prim.Native.Nat.{ℕ}
+use Prim.Native.Nat.{ℕ, _*_}
 use lib.Dec.{eqb}
 use lib.ListN.{length}
+use Rattle.octets.specs.Tests.{pick}
 use Rattle.answers.specs.declared.Answer.{Answer}
+use Rattle.answers.specs.declared.Answer.the-variants.{Done, WrongLength}
 use Rattle.answers.specs.Numbers.{numberOf}
 use Rattle.keybook.specs.History as book
 use Rattle.voice.specs.declared.call.Call.{Call}
@@ -12,6 +14,7 @@ use Rattle.voice.specs.Vector.{nextVectorOf}
 use Rattle.hearing.specs.declared.Hearing.{Hearing}
 use Rattle.hearing.specs.Hearing.{callOf}
 use Rattle.hearing.specs.Heard.{carried, heardOf}
+use Rattle.batch.specs.Batch.{stepOctets, batchOf}
 use Rattle.report.specs.Report.{reportOf}
 use Rattle.held.specs.Call as call
 use Rattle.held.specs.Packet as packet
@@ -60,6 +63,14 @@ fits (Heard w) lent = true
 
 unfoldable pub onCall : List ℕ → Asked → List ℕ → List ℕ → ℕ × (List ℕ × List ℕ)
 onCall b a x lent = onLent call.callOctets call.hearingIn call.octetsOf (fits a lent) (askedStep b a) x lent
+
+-- steps of a recording, as many as the answers that are lent for them: each has its own answer. 2, before all else, where any of them is of another length
+unfoldable pub onBatch : List ℕ → List ℕ → List ℕ → ℕ × (List ℕ × (List ℕ × List ℕ))
+onBatch x steps answers =
+    let r = batchOf (length answers) (call.hearingIn x) steps in
+    pick (eqb (length x) call.callOctets && eqb (length steps) (stepOctets * length answers))
+    (numberOf Done, (call.octetsOf (r .1 .0), (r .1 .1, r .0)))
+    (numberOf WrongLength, (x, (steps, answers)))
 
 -- what only looks: the next vector of a sender, and what a screen shows
 pub data Look : Type 0 where

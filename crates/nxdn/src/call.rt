@@ -4,13 +4,15 @@ ghost use mathlib.Core.List.{[]};
 ghost use lib.ListN.{length};
 ghost use Rattle.nxdn.specs.Operations.{Open, Start, Join, Voice, Lost, End, Announce, handedOut};
 ghost use Rattle.nxdn.specs.Lent.{outAfter};
-ghost use Rattle.nxdn.specs.Interface.{Of, Heard, onCall, Next, onLook};
+ghost use Rattle.nxdn.specs.Interface.{Of, Heard, onCall, onBatch, Next, onLook};
 use crate::WRONG_LENGTH;
 use crate::lent::keep_call;
+use batch::STEP_OCTETS;
 use hearing::call_of;
 use hearing::carry;
 use held::call::CALL_OCTETS;
 use held::call::read;
+use held::call::write;
 use voice::call::Ended;
 use voice::call::Stepped;
 
@@ -134,6 +136,27 @@ pub extern "C" fn nxdn_next_vector(call: &[u8], vector: &mut [u8]) -> u8
     }
     let answer = voice::vector::next_vector(call_of(read(call)), vector);
     answer.number()
+}
+
+// ---- a recording of these
+
+// The steps have STEP_OCTETS octets to an answer. (A product of lengths may be more than a number holds, so they are divided.)
+#[no_mangle]
+pub extern "C" fn nxdn_batch(call: &mut [u8], steps: &mut [u8], answers: &mut [u8]) -> u8
+    ensures { λ r. ⌜ (r, (now (call .exit), (now (steps .exit), now (answers .exit)))) ≡ onBatch (now (call .entry)) (now (steps .entry)) (now (answers .entry)) ⌝ }
+{
+    if call.len() != CALL_OCTETS {
+        return WRONG_LENGTH;
+    }
+    if steps.len() / STEP_OCTETS != answers.len() {
+        return WRONG_LENGTH;
+    }
+    if steps.len() % STEP_OCTETS != 0 {
+        return WRONG_LENGTH;
+    }
+    let after = batch::batch(read(call), steps, answers);
+    write(call, after);
+    0
 }
 
 // ---- its end
