@@ -11,12 +11,13 @@
 void timed_slots(const uint8_t *book, size_t book_len, uint8_t cipher, uint8_t id, uint8_t rate, const uint8_t *vector,
                  size_t vector_len, uint8_t *frame, size_t frame_len, size_t n);
 
-enum { TIMES = 4000, STACK = 1 << 18, PAINT = 0xA5 };
+enum { TIMES = 4000, STEPS = 80, STACK = 1 << 18, PAINT = 0xA5 };
 
 static uint8_t book[NXDN_BOOK], call[NXDN_CALL], packet[NXDN_PACKET], frame[NXDN_FRAME_FULL], message[22];
 static uint8_t vector[NXDN_VECTOR] = {0xAB, 0xCD, 0xEF, 0x12, 0x34, 0x56, 0x78, 0x90}, next[NXDN_VECTOR];
 static uint8_t shown[NXDN_SHOWN_KEY], shown_call[NXDN_SHOWN_CALL];
 static const uint8_t name[NXDN_NAME] = "WARD FOUR";
+static uint8_t steps[NXDN_STEP * STEPS], answers[STEPS];
 static uint32_t counts[4], night[4 * 1000];
 static uint64_t sums[6];
 static uint8_t cipher, rate;
@@ -57,6 +58,10 @@ static void a_packet(void) {
 static void a_message(void) { expect(nxdn_message(packet, sizeof packet, message, sizeof message)); }
 static void a_packet_end(void) { expect(nxdn_packet_end(packet, sizeof packet)); }
 static void a_report(void) { expect(nxdn_report(night, 4 * 1000, sums, 6)); }
+static void a_batch(void) {
+    for (int i = 0; i < STEPS; i++) steps[NXDN_STEP * i] = NXDN_STEP_VOICE, steps[NXDN_STEP * i + 1] = 15;
+    expect(nxdn_batch(call, sizeof call, steps, sizeof steps, answers, sizeof answers));
+}
 static void slots_by_value(void) {
     timed_slots(book, sizeof book, cipher, 5, rate, vector, sizeof vector, frame, frame_octets[rate], TIMES);
 }
@@ -105,8 +110,8 @@ static double least(void (*f)(void), int times, int per) {
     return best;
 }
 
-static void row(const char *what, void (*f)(void), int times) {
-    double took = least(f, times, 1);
+static void row(const char *what, void (*f)(void), int times, int per) {
+    double took = least(f, times, per);
     printf("%-44s %8.0f ns  stack %5zu octets\n", what, took, depth(f));
 }
 
@@ -121,29 +126,29 @@ int main(void) {
         for (rate = 0; rate <= 1; rate++) {
             an_open();
             snprintf(what, sizeof what, "nxdn_voice, %s, %s rate", ciphers[cipher], rates[rate]);
-            row(what, a_voice, TIMES);
+            row(what, a_voice, TIMES, 1);
+            printf("%-44s %8.0f ns\n", "  the same by value", least(slots_by_value, 1, TIMES));
+            row("  a slot of 80 in nxdn_batch", a_batch, TIMES / STEPS, STEPS);
             an_end();
-            double by_value = least(slots_by_value, 1, TIMES);
-            printf("%-44s %8.0f ns\n", "  the same by value", by_value);
         }
         rate = 0;
         snprintf(what, sizeof what, "nxdn_open and nxdn_end, %s", ciphers[cipher]);
-        row(what, open_and_end, TIMES);
+        row(what, open_and_end, TIMES, 1);
     }
     cipher = NXDN_AES;
     an_open();
-    row("nxdn_lost, AES", a_lost, TIMES);
-    row("nxdn_heard, AES", a_heard, TIMES);
-    row("nxdn_show, AES", a_show, TIMES);
+    row("nxdn_lost, AES", a_lost, TIMES, 1);
+    row("nxdn_heard, AES", a_heard, TIMES, 1);
+    row("nxdn_show, AES", a_show, TIMES, 1);
     an_end();
-    row("nxdn_start and nxdn_end, AES", start_and_end, TIMES);
+    row("nxdn_start and nxdn_end, AES", start_and_end, TIMES, 1);
     a_start();
-    row("nxdn_next_vector, AES", a_next, TIMES);
+    row("nxdn_next_vector, AES", a_next, TIMES, 1);
     an_end();
-    row("nxdn_packet_open and _end, AES", packet_and_end, TIMES);
+    row("nxdn_packet_open and _end, AES", packet_and_end, TIMES, 1);
     a_packet();
-    row("nxdn_message, AES, of a packet's first 150", a_message, 29);
-    row("nxdn_inventory, one entry", an_inventory, TIMES);
-    row("nxdn_report, 1,000 calls", a_report, TIMES);
+    row("nxdn_message, AES, of a packet's first 150", a_message, 29, 1);
+    row("nxdn_inventory, one entry", an_inventory, TIMES, 1);
+    row("nxdn_report, 1,000 calls", a_report, TIMES, 1);
     return 0;
 }

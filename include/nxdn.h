@@ -147,12 +147,13 @@ uint8_t nxdn_announce(uint8_t *call, size_t call_len, const uint8_t *vector, siz
 /* The next session's vector of a DES or AES call that is sent, for its announcement. Refuses 2, 4, 9. */
 uint8_t nxdn_next_vector(const uint8_t *call, size_t call_len, uint8_t *vector, size_t vector_len);
 
-/* Slots, losses and vectors of a recording at once: exactly what nxdn_voice, nxdn_lost, nxdn_announce and nxdn_heard do
-   in turn, and faster, since the keystream of a session is made once. A step is NXDN_STEP octets: 0 what it is (enum
-   nxdn_step), 1 the mask, and from 2 on the frame, as long as the call's rate says, or the vector; a frame is turned
-   where it stands. answers takes the number of each step's answer, one octet to a step: 3 where octet 0 is no number of
-   enum nxdn_step. A step that is not answered 0 or 1 changed nothing, and the next one is taken all the same. Refuses 2
-   (call, or steps_len is not NXDN_STEP times answers_len), and then no step is taken. */
+/* Slots, losses and vectors of a recording at once: exactly what nxdn_voice, nxdn_lost, nxdn_announce and nxdn_heard
+   do in turn, and faster where most slots of a session are in one batch: its keystream is made once. A step is
+   NXDN_STEP octets: 0 what it is (enum nxdn_step), 1 the mask, and from 2 on the frame, as long as the call's rate
+   says, or the vector; a frame is turned where it stands. answers takes the number of each step's answer, one octet
+   to a step: 3 where octet 0 is no number of enum nxdn_step. A step that is not answered 0 or 1 changed nothing, and
+   the next one is taken all the same. Refuses 2 (call, or steps_len is not NXDN_STEP times answers_len), and then no
+   step is taken. */
 uint8_t nxdn_batch(uint8_t *call, size_t call_len, uint8_t *steps, size_t steps_len, uint8_t *answers,
                    size_t answers_len);
 

@@ -20,7 +20,7 @@ SENDING, RECEIVING = 1, 2
 UNKNOWN, TOLD, CARRIED = 0, 1, 2
 MOST_WORDS = model.WORDS * model.MOST_SLOTS
 SCRAMBLE = 1
-SHOWN_KEY, SHOWN_CALL, NAME = 20, 5, 16
+SHOWN_KEY, SHOWN_CALL, NAME, STEP = 20, 5, 16, 38
 
 
 class Refused(Exception):
@@ -223,6 +223,31 @@ def next_vector(call, out):
     return 0, call, model.following(kept.call[3])
 
 
+def taken(call, step):
+    """A step of a batch: its answer, and the call and the step afterwards."""
+    kind, mask, lent = step[0], step[1], step[2:]
+    octets = model.WORDS * model.word_octets(call[2] == 1) if kind == 1 else VECTOR
+    given = lent[:octets]
+    try:
+        refuse(kind not in (1, 2, 3, 4), 3)
+        if kind == 2:
+            return lost(call) + (step,)
+        answer, call, given = voice(mask, call, given) if kind == 1 else (announce, heard)[kind - 3](call, given)
+        return answer, call, step[:2] + given + lent[octets:]
+    except Refused as refused:
+        return refused.args[0], call, step
+
+
+def batch(call, steps, answers):
+    refuse(len(call) != CALL.size or len(steps) != STEP * len(answers), 2)
+    numbers, after = [], []
+    for at in range(0, len(steps), STEP):
+        answer, call, step = taken(call, steps[at:at + STEP])
+        numbers.append(answer)
+        after.append(step)
+    return 0, call, b"".join(after), bytes(numbers)
+
+
 def end(call, out):
     kept = Call(call)
     refuse(len(out) != 16, 2)
@@ -305,8 +330,8 @@ def report(counts, out):
 # ---- the log
 
 FUNCTIONS = {f.__name__.rstrip("_"): f for f in (
-    begin, add, finish, erase, name, inventory, open_, start, join, voice, lost, heard, announce, next_vector, end,
-    show, packet_open, message, packet_lost, packet_end, report)}
+    begin, add, finish, erase, name, inventory, open_, start, join, voice, lost, heard, announce, next_vector, batch,
+    end, show, packet_open, message, packet_lost, packet_end, report)}
 
 
 def octets_of(text):

@@ -492,6 +492,29 @@ uint8_t model_next_vector(const uint8_t *call, size_t call_len, uint8_t *vector,
     return NXDN_DONE;
 }
 
+/* A step, by the function that it stands for. The rate of a call does not change. */
+static uint8_t take_step(uint8_t *call, uint8_t *step) {
+    uint8_t *lent = step + IN_STEP_LENT;
+    switch (step[IN_STEP_KIND]) {
+    case NXDN_STEP_VOICE:
+        return model_voice(call, NXDN_CALL, step[IN_STEP_MASK], lent,
+                           call[IN_CALL_RATE] == NXDN_FULL_RATE ? NXDN_FRAME_FULL : NXDN_FRAME_HALF);
+    case NXDN_STEP_LOST: return model_lost(call, NXDN_CALL);
+    case NXDN_STEP_ANNOUNCE: return model_announce(call, NXDN_CALL, lent, NXDN_VECTOR);
+    case NXDN_STEP_HEARD: return model_heard(call, NXDN_CALL, lent, NXDN_VECTOR);
+    default: return NXDN_OUT_OF_RANGE;
+    }
+}
+
+uint8_t model_batch(uint8_t *call, size_t call_len, uint8_t *steps, size_t steps_len, uint8_t *answers,
+                    size_t answers_len) {
+    if (call_len != NXDN_CALL || steps_len != NXDN_STEP * answers_len)
+        return NXDN_WRONG_LENGTH;
+    for (size_t i = 0; i < answers_len; i++)
+        answers[i] = take_step(call, steps + NXDN_STEP * i);
+    return NXDN_DONE;
+}
+
 uint8_t model_end(uint8_t *call, size_t call_len, uint32_t *counts, size_t counts_len) {
     if (call_len != NXDN_CALL || counts_len != COUNTS)
         return NXDN_WRONG_LENGTH;

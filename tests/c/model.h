@@ -23,6 +23,8 @@ uint8_t model_lost(uint8_t *call, size_t call_len);
 uint8_t model_heard(uint8_t *call, size_t call_len, const uint8_t *vector, size_t vector_len);
 uint8_t model_announce(uint8_t *call, size_t call_len, const uint8_t *vector, size_t vector_len);
 uint8_t model_next_vector(const uint8_t *call, size_t call_len, uint8_t *vector, size_t vector_len);
+uint8_t model_batch(uint8_t *call, size_t call_len, uint8_t *steps, size_t steps_len, uint8_t *answers,
+                    size_t answers_len);
 uint8_t model_end(uint8_t *call, size_t call_len, uint32_t *counts, size_t counts_len);
 uint8_t model_show(const uint8_t *call, size_t call_len, uint8_t *shown, size_t shown_len);
 
@@ -45,6 +47,8 @@ enum {
 };
 enum { UNKNOWN = 0, TOLD = 1, CARRIED = 2 };
 enum { OPENED, HELD, REPLACED, LOST, COUNTS };
+
+enum { IN_STEP_KIND, IN_STEP_MASK, IN_STEP_LENT }; /* last the frame or the vector */
 
 enum { IN_PACKET_KIND, IN_PACKET_CIPHER, IN_PACKET_COUNT, IN_PACKET_VECTOR = 4, IN_PACKET_KEY = 12 };
 

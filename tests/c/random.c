@@ -38,16 +38,17 @@ static void any_octets(uint8_t *octets, size_t len) {
 /* ---- the functions */
 
 enum function {
-    BEGIN, ADD, FINISH, ERASE, NAME, INVENTORY, OPEN, START, JOIN, VOICE, LOST_SLOT, HEARD, ANNOUNCE, NEXT_VECTOR, END,
-    SHOW, PACKET_OPEN, MESSAGE, PACKET_LOST, PACKET_END, REPORT, FUNCTIONS
+    BEGIN, ADD, FINISH, ERASE, NAME, INVENTORY, OPEN, START, JOIN, VOICE, LOST_SLOT, HEARD, ANNOUNCE, NEXT_VECTOR,
+    BATCH, END, SHOW, PACKET_OPEN, MESSAGE, PACKET_LOST, PACKET_END, REPORT, FUNCTIONS
 };
 
 enum { MOST_BUFFERS = 3, MOST_NUMBERS = 4, MOST_ANSWERS = 10, ANSWERS = 18 };
 
 /* What a function is lent and given, in its order. Buffers that live on: B book, C call, P packet; given: n name,
-   a octets to add, v vector, f frame, m message, c counts; handed out: N name, K key shown, V vector, 4 counts, S call
-   shown, 6 sums. Each is w, written, or r, const. Numbers: c cipher, i key ID, r rate, s strictness, m mask, e entry,
-   u use, k kind. Then its answers: done, held, and the refusals as nxdn.h has them; and how often it is drawn. */
+   a octets to add, v vector, f frame, t steps, m message, c counts; handed out: N name, K key shown, V vector,
+   A answers, 4 counts, S call shown, 6 sums. Each is w, written, or r, const. Numbers: c cipher, i key ID, r rate,
+   s strictness, m mask, e entry, u use, k kind. Then its answers: done, held, and the refusals as nxdn.h has them; and
+   how often it is drawn. */
 static const struct shape {
     const char *name, *buffers, *access, *numbers;
     uint8_t answers[MOST_ANSWERS]; /* 0 behind them: done, which each has */
@@ -67,6 +68,7 @@ static const struct shape {
     [HEARD] = {"heard", "Cv", "wr", "", {0, 2, 4, 9}, 7},
     [ANNOUNCE] = {"announce", "Cv", "wr", "", {0, 2, 4, 9}, 5},
     [NEXT_VECTOR] = {"next_vector", "CV", "rw", "", {0, 2, 4, 9}, 3},
+    [BATCH] = {"batch", "CtA", "www", "", {0, 2}, 3},
     [END] = {"end", "C4", "ww", "", {0, 2, 4, 9}, 1},
     [SHOW] = {"show", "CS", "rw", "", {0, 2, 4}, 4},
     [PACKET_OPEN] = {"packet_open", "PvB", "wrr", "ukci", {0, 2, 3, 4, 9, 5, 6, 8}, 5},
@@ -75,6 +77,9 @@ static const struct shape {
     [PACKET_END] = {"packet_end", "P", "w", "", {0, 2, 4, 9}, 2},
     [REPORT] = {"report", "c6", "rw", "", {0, 2, 16}, 2},
 };
+
+/* The answers to the steps of a batch: those of voice, lost, heard and announce, where lengths are right, and 3. */
+static const uint8_t answers_to_steps[MOST_ANSWERS] = {0, 1, 3, 10, 4, 9, 16};
 
 struct buffer {
     uint8_t *octets;
@@ -110,6 +115,7 @@ static uint8_t answer_of(const struct operation *o, int by_model, const struct b
     case HEARD: DO(heard, OCTETS(0), OCTETS(1));
     case ANNOUNCE: DO(announce, OCTETS(0), OCTETS(1));
     case NEXT_VECTOR: DO(next_vector, OCTETS(0), OCTETS(1));
+    case BATCH: DO(batch, OCTETS(0), OCTETS(1), OCTETS(2));
     case END: DO(end, OCTETS(0), COUNTS_OF(1));
     case SHOW: DO(show, OCTETS(0), OCTETS(1));
     case PACKET_OPEN: DO(packet_open, OCTETS(0), N(0), N(1), N(2), N(3), OCTETS(1), OCTETS(2));
@@ -329,6 +335,7 @@ static size_t right_length(char letter, const struct operation *o) {
     case 'v': case 'V': return NXDN_VECTOR;
     case 'f': return first[IN_CALL_RATE] == NXDN_FULL_RATE ? NXDN_FRAME_FULL : NXDN_FRAME_HALF;
     case 'm': return model_message_octets(first[IN_PACKET_KIND]) ? model_message_octets(first[IN_PACKET_KIND]) : 22;
+    case 'A': return o->before[1].len / NXDN_STEP; /* of as many steps as were drawn */
     case '4': return 4 * sizeof(uint32_t);
     case 'S': return NXDN_SHOWN_CALL;
     case '6': return 6 * sizeof(uint64_t);
@@ -343,7 +350,7 @@ static size_t wrong_length(char letter, size_t right) {
         return right == NXDN_FRAME_FULL ? NXDN_FRAME_HALF : NXDN_FRAME_FULL;
     switch (below(6)) {
     case 0: return 0;
-    case 1: return right - element;
+    case 1: return right == 0 ? element : right - element;
     case 2: return right + element;
     case 3: return 2 * right;
     default: return element * below(64);
@@ -454,12 +461,32 @@ static size_t draw_counts(uint8_t *octets) {
     return n * sizeof(uint32_t);
 }
 
+/* Mostly slots, and few of them; sometimes so many that a batch goes through dozens of sessions. */
+static size_t draw_steps(uint8_t *octets) {
+    static const uint8_t kinds[] = {
+        NXDN_STEP_VOICE, NXDN_STEP_VOICE, NXDN_STEP_VOICE, NXDN_STEP_VOICE, NXDN_STEP_VOICE, NXDN_STEP_LOST,
+        NXDN_STEP_LOST, NXDN_STEP_ANNOUNCE, NXDN_STEP_HEARD,
+    };
+    size_t n = one_in(40) ? 300 : below(21);
+    for (size_t i = 0; i < n; i++) {
+        uint8_t *step = octets + NXDN_STEP * i;
+        any_octets(step, NXDN_STEP);
+        step[IN_STEP_KIND] = one_in(40) ? (uint8_t)any() : kinds[below(sizeof kinds)];
+        step[IN_STEP_MASK] = (uint8_t)draw_number('m');
+        if (step[IN_STEP_KIND] == NXDN_STEP_ANNOUNCE || step[IN_STEP_KIND] == NXDN_STEP_HEARD)
+            make_vector(step + IN_STEP_LENT);
+    }
+    return NXDN_STEP * n;
+}
+
 static size_t draw_given(const struct operation *o, char letter, uint8_t *octets) {
     size_t right = right_length(letter, o);
     if (letter == 'a')
         return draw_key_octets(o, octets);
     if (letter == 'c')
         return draw_counts(octets);
+    if (letter == 't')
+        return draw_steps(octets);
     any_octets(octets, right); /* what is handed out is written over something */
     if (letter == 'v')
         make_vector(octets);
@@ -510,7 +537,7 @@ static void draw(struct operation *o) {
 
 /* ---- done twice, and compared */
 
-static uint64_t seed, done, wrong, seen[FUNCTIONS][ANSWERS];
+static uint64_t seed, done, wrong, seen[FUNCTIONS][ANSWERS], seen_of_steps[ANSWERS];
 static struct operation now;
 
 static void print_octets(FILE *to, const uint8_t *octets, size_t len) {
@@ -627,6 +654,9 @@ static void operate(FILE *log) {
         seen[now.function][answer]++;
     else
         complain("an answer that is none");
+    for (size_t i = 0; now.function == BATCH && answer == NXDN_DONE && i < now.before[2].len; i++)
+        if (lent_now(2)[i] < ANSWERS)
+            seen_of_steps[lent_now(2)[i]]++;
     if (log)
         write_log(log, answer);
     for (int k = 0; k < buffers; k++)
@@ -634,23 +664,30 @@ static void operate(FILE *log) {
     done++;
 }
 
-/* Each answer that nxdn.h has for a function was seen, and no other: how many. */
-static unsigned check_answers(int complete) {
+/* Each answer that is listed was seen, where all must be, and no other: how many. */
+static unsigned check_list(const char *name, const uint8_t *answers, const uint64_t *counts, int complete) {
     unsigned kinds = 0;
-    for (int f = 0; f < FUNCTIONS; f++) {
-        uint64_t listed = 0;
-        for (int i = 0; i < MOST_ANSWERS; i++)
-            listed |= (uint64_t)1 << shapes[f].answers[i];
-        for (int a = 0; a < ANSWERS; a++) {
-            int is_listed = (int)(listed >> a & 1);
-            kinds += seen[f][a] > 0;
-            if ((seen[f][a] > 0 && !is_listed) || (complete && seen[f][a] == 0 && is_listed)) {
-                wrong++;
-                fprintf(stderr, "wrong: seed %llu, nxdn_%s %s answered %d\n", (unsigned long long)seed, shapes[f].name,
-                        is_listed ? "never" : "also", a);
-            }
+    uint64_t listed = 0;
+    for (int i = 0; i < MOST_ANSWERS; i++)
+        listed |= (uint64_t)1 << answers[i];
+    for (int a = 0; a < ANSWERS; a++) {
+        int is_listed = (int)(listed >> a & 1);
+        kinds += counts[a] > 0;
+        if ((counts[a] > 0 && !is_listed) || (complete && counts[a] == 0 && is_listed)) {
+            wrong++;
+            fprintf(stderr, "wrong: seed %llu, nxdn_%s %s answered %d\n", (unsigned long long)seed, name,
+                    is_listed ? "never" : "also", a);
         }
     }
+    return kinds;
+}
+
+/* How many answers the functions gave; those to the steps of a batch are held to their list, and not counted. */
+static unsigned check_answers(int complete) {
+    unsigned kinds = 0;
+    for (int f = 0; f < FUNCTIONS; f++)
+        kinds += check_list(shapes[f].name, shapes[f].answers, seen[f], complete);
+    check_list("batch, of a step,", answers_to_steps, seen_of_steps, complete);
     return kinds;
 }
 

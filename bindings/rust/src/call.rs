@@ -1,6 +1,7 @@
-use crate::answer::{done, refused};
+use crate::answer::done;
 use crate::kept::kept;
-use crate::{ffi, Answer, Book, Cipher, Counts, End, Rate, Strictness, Vector, CALL, VECTOR};
+use crate::{answered, ffi, Answer, Book, Cipher, Counts, End, Rate, Step, Strictness, Vector};
+use crate::{CALL, VECTOR};
 use core::fmt;
 
 kept! {
@@ -70,11 +71,7 @@ impl Call {
     ///
     /// Refuses `BadMask`, `Bad`, `NotNow` (no call), `PastLimit`, `WrongLength` (the frame).
     pub fn voice(&mut self, mask: u8, frame: &mut [u8]) -> Result<Slot, Answer> {
-        match ffi::voice(&mut self.octets, mask, frame) {
-            0 => Ok(Slot::Turned),
-            1 => Ok(Slot::Held),
-            number => Err(refused(number)),
-        }
+        answered(ffi::voice(&mut self.octets, mask, frame))
     }
 
     /// A slot that did not arrive.
@@ -111,6 +108,39 @@ impl Call {
         let mut vector = [0; VECTOR];
         done(ffi::next_vector(&self.octets, &mut vector))?;
         Ok(vector)
+    }
+
+    /// Slots, losses and vectors of a recording at once: what [`voice`](Call::voice),
+    /// [`lost`](Call::lost), [`announce`](Call::announce) and [`heard`](Call::heard) do in turn,
+    /// and faster where a batch has most slots of a session: it makes a session's keystream once,
+    /// and whole. Each step gets the number of its answer, for [`answered`]; one that is refused
+    /// changed nothing, and the next is taken all the same. Frames are turned in their steps.
+    ///
+    /// Refuses `WrongLength` (not one answer to a step), and then no step is taken.
+    ///
+    /// ```
+    /// # use nxdn::{Answer, Book, Call, Cipher, Name, Rate, Slot, Strictness};
+    /// use nxdn::{answered, Step};
+    ///
+    /// # let mut book = Book::new();
+    /// # book.begin(Cipher::Scramble, 7, Name::default())?;
+    /// # book.add(Cipher::Scramble, 7, &[0x5A, 0x3C])?;
+    /// # book.finish(Cipher::Scramble, 7)?;
+    /// # let (mut sender, mut call) = (Call::new(), Call::new());
+    /// # sender.start(Cipher::Scramble, 7, Rate::Half, [0; 8], &book)?;
+    /// # call.open(Cipher::Scramble, 7, Rate::Half, Strictness::Recorder, [0; 8], &book)?;
+    /// # let mut frame = *b"CAFFEINE 20 MG PER KG, NOW..";
+    /// # assert_eq!(sender.voice(15, &mut frame)?, Slot::Turned);
+    /// let mut steps = [Step::voice(15, &frame)?, Step::lost()];
+    /// let mut answers = [0; 2];
+    /// call.batch(&mut steps, &mut answers)?;
+    /// assert_eq!(answered(answers[0])?, Slot::Turned);
+    /// assert_eq!(steps[0].frame(Rate::Half), b"CAFFEINE 20 MG PER KG, NOW..");
+    /// # assert_eq!(call.end()?.lost, 4);
+    /// # Ok::<(), Answer>(())
+    /// ```
+    pub fn batch(&mut self, steps: &mut [Step], answers: &mut [u8]) -> Result<(), Answer> {
+        done(ffi::batch(&mut self.octets, steps, answers))
     }
 
     /// Ends a call: its octets are zeros afterwards, and it can be opened again. Of a call that

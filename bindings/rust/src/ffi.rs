@@ -5,8 +5,8 @@
 //! was taken from. That is borrowed while the call lasts, mutably where the function writes, so
 //! none overlap and nobody else has them meanwhile; and the library keeps no pointer. It asks for
 //! nothing else: every function answers, whatever octets and numbers it is given.
-use crate::{Cipher, Counts, Kind, Rate, Strictness, Use, Vector};
-use crate::{BOOK, CALL, NAME, PACKET, VECTOR};
+use crate::{Cipher, Counts, Kind, Rate, Step, Strictness, Use, Vector};
+use crate::{BOOK, CALL, NAME, PACKET, STEP, VECTOR};
 use core::sync::atomic::{compiler_fence, Ordering};
 
 /// The octets that `inventory` hands out.
@@ -21,6 +21,8 @@ pub const SUMS: usize = 6;
 // Counts are lent to the report as they lie: four numbers to a call, and nothing between them.
 const _: () = assert!(size_of::<Counts>() == COUNTS * size_of::<u32>());
 const _: () = assert!(align_of::<Counts>() == align_of::<u32>());
+// And so are steps, as octets.
+const _: () = assert!(size_of::<Step>() == STEP);
 
 #[rustfmt::skip] // wrapped as in nxdn.h, to be read beside it
 unsafe extern "C" {
@@ -48,6 +50,8 @@ unsafe extern "C" {
     fn nxdn_announce(call: *mut u8, call_len: usize, vector: *const u8, vector_len: usize) -> u8;
     fn nxdn_next_vector(call: *const u8, call_len: usize, vector: *mut u8,
                         vector_len: usize) -> u8;
+    fn nxdn_batch(call: *mut u8, call_len: usize, steps: *mut u8, steps_len: usize,
+                  answers: *mut u8, answers_len: usize) -> u8;
     fn nxdn_end(call: *mut u8, call_len: usize, counts: *mut u32, counts_len: usize) -> u8;
     fn nxdn_show(call: *const u8, call_len: usize, shown: *mut u8, shown_len: usize) -> u8;
 
@@ -149,6 +153,13 @@ pub fn announce(call: &mut [u8; CALL], vector: &Vector) -> u8 {
 
 pub fn next_vector(call: &[u8; CALL], vector: &mut Vector) -> u8 {
     unsafe { nxdn_next_vector(call.as_ptr(), CALL, vector.as_mut_ptr(), VECTOR) }
+}
+
+pub fn batch(call: &mut [u8; CALL], steps: &mut [Step], answers: &mut [u8]) -> u8 {
+    // No overflow: the octets of a slice are no more than isize::MAX.
+    let (steps, steps_len) = (steps.as_mut_ptr().cast::<u8>(), STEP * steps.len());
+    let (answers, answers_len) = (answers.as_mut_ptr(), answers.len());
+    unsafe { nxdn_batch(call.as_mut_ptr(), CALL, steps, steps_len, answers, answers_len) }
 }
 
 pub fn end(call: &mut [u8; CALL], counts: &mut [u32; COUNTS]) -> u8 {

@@ -77,6 +77,7 @@ mod kept;
 mod numbers;
 mod packet;
 mod report;
+mod step;
 
 pub use answer::Answer;
 pub use book::{Book, Entry, Name};
@@ -84,11 +85,14 @@ pub use call::{Call, Shown, Slot};
 pub use numbers::{Cipher, End, Kind, Rate, Strictness, Use};
 pub use packet::Packet;
 pub use report::{report, Counts, Report};
+pub use step::{answered, Step};
 
 /// The octets of a book.
 pub const BOOK: usize = 832;
 /// The octets of a call.
 pub const CALL: usize = 71;
+/// The octets of a step.
+pub const STEP: usize = 38;
 /// The octets of a packet.
 pub const PACKET: usize = 44;
 /// The octets of a key's name.

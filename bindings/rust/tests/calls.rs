@@ -1,8 +1,8 @@
 //! Calls and packets between two ends.
 mod given;
 use given::{book, hex, load, Dice, CIPHERS, ID, RATES, VECTOR};
-use nxdn::{report, Answer, Call, Cipher, Counts, End, Kind, Packet, Rate, Slot, Strictness};
-use nxdn::{Shown, Use};
+use nxdn::{answered, report, Answer, Call, Cipher, Counts, End, Kind, Packet, Rate, Slot};
+use nxdn::{Shown, Step, Strictness, Use};
 
 /// When a receiver is told of a vector that reached it: after the slot in which it was heard, or as
 /// its session starts.
@@ -77,6 +77,60 @@ fn a_recorder_holds_what_was_not_announced() {
             let counts = talk(cipher, rate, Strictness::Recorder, telling);
             assert!(counts.opened > 0 && counts.lost > 0, "{counts:?}");
             assert_eq!(counts.held == 0, cipher == Cipher::Scramble);
+        }
+    }
+}
+
+/// Three sessions with losses, of which the third is not announced; the last step is refused.
+fn recorded(cipher: Cipher, rate: Rate, strictness: Strictness, telling: Telling) {
+    let (book, mut dice) = (book(), Dice(5));
+    let (mut sender, mut one, mut all) = (Call::new(), Call::new(), Call::new());
+    sender.start(cipher, ID, rate, VECTOR, &book).unwrap();
+    one.open(cipher, ID, rate, strictness, VECTOR, &book).unwrap();
+    all.open(cipher, ID, rate, strictness, VECTOR, &book).unwrap();
+    let (mut steps, mut answers, mut frames) = (vec![], vec![], vec![]);
+    let done = |answer: Result<(), Answer>| answer.map(|()| Slot::Turned);
+    for slot in 0..24 {
+        let mut frame = dice.octets(rate.frame_octets());
+        let next = sender.next_vector();
+        assert_eq!(sender.voice(15, &mut frame), Ok(Slot::Turned));
+        if slot % 5 == 3 {
+            steps.push(Step::lost());
+            answers.push(done(one.lost()));
+        } else {
+            steps.push(Step::voice(15, &frame).unwrap());
+            answers.push(one.voice(15, &mut frame));
+            frames.push((steps.len() - 1, frame));
+        }
+        if let (Ok(vector), 5, Telling::AsHeard) = (next, slot, telling) {
+            steps.push(Step::heard(vector));
+            answers.push(done(one.heard(vector)));
+        }
+        if let (Ok(vector), 7, Telling::AsItsSessionStarts) = (next, slot, telling) {
+            steps.push(Step::announce(vector));
+            answers.push(done(one.announce(vector)));
+        }
+    }
+    steps.push(Step::voice(16, &vec![0; rate.frame_octets()]).unwrap());
+    answers.push(Err(Answer::BadMask));
+
+    let mut numbers = vec![255; steps.len()];
+    all.batch(&mut steps, &mut numbers).unwrap();
+    assert_eq!(numbers.into_iter().map(answered).collect::<Vec<_>>(), answers);
+    for (step, frame) in frames {
+        assert_eq!(steps[step].frame(rate), frame);
+    }
+    assert_eq!(all.octets(), one.octets());
+    let holds = cipher != Cipher::Scramble && strictness == Strictness::Recorder;
+    assert_eq!(answers.contains(&Ok(Slot::Held)), holds);
+}
+
+#[test]
+fn a_batch_is_its_steps_in_turn() {
+    for (cipher, rate) in CIPHERS.into_iter().flat_map(|c| RATES.map(|r| (c, r))) {
+        for telling in [Telling::AsHeard, Telling::AsItsSessionStarts] {
+            recorded(cipher, rate, Strictness::Handset, telling);
+            recorded(cipher, rate, Strictness::Recorder, telling);
         }
     }
 }

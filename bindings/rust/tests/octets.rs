@@ -2,8 +2,8 @@
 //! stands for them in Rust: names, numbers and answers.
 mod given;
 use given::{book, hex, key, CIPHERS, ID, VECTOR};
-use nxdn::{Answer, Book, Call, Cipher, Entry, Kind, Name, Packet, Rate, Slot, Strictness, Use};
-use nxdn::{BOOK, CALL, ENTRIES, PACKET};
+use nxdn::{Answer, Book, Call, Cipher, Entry, Kind, Name, Packet, Rate, Slot, Step, Strictness};
+use nxdn::{Use, BOOK, CALL, ENTRIES, PACKET, STEP};
 use std::mem::MaybeUninit;
 
 #[test]
@@ -146,6 +146,7 @@ fn answers_have_the_headers_numbers() {
 fn sizes_are_the_headers() {
     assert_eq!(CIPHERS.map(Cipher::key_octets), [2, 8, 32]);
     assert_eq!([Rate::Half, Rate::Full].map(Rate::frame_octets), [28, 36]);
+    assert_eq!((size_of::<Step>(), STEP), (38, 38));
     let kinds = [Kind::Dcall, Kind::SdcallInbound, Kind::SdcallOutbound, Kind::Facch1];
     assert_eq!(kinds.map(Kind::message_octets), [22, 16, 18, 10]);
 }

@@ -2,7 +2,7 @@
 mod given;
 use given::{book, key, CIPHERS, ID, VECTOR};
 use nxdn::{
-    report, Answer, Book, Call, Cipher, Counts, Kind, Name, Packet, Rate, Slot, Strictness,
+    report, Answer, Book, Call, Cipher, Counts, Kind, Name, Packet, Rate, Slot, Step, Strictness,
 };
 use nxdn::{Use, BOOK, CALL, PACKET};
 
@@ -159,6 +159,25 @@ fn of_a_slot() {
             assert_eq!(frame, vec![0x5A; octets]);
         }
         assert_eq!(call.voice(15, &mut frame), Ok(Slot::Turned));
+    }
+}
+
+#[test]
+fn of_a_batch() {
+    for octets in [0, 27, 29, 35, 37] {
+        assert_eq!(Step::voice(15, &vec![0; octets]), Err(Answer::WrongLength));
+    }
+    let before = [Step::voice(15, &[0x5A; 28]).unwrap(), Step::lost()];
+    let (mut call, mut steps) = (receiver(Cipher::Aes), before);
+    for count in [0, 1, 3] {
+        let mut answers = vec![0x5A; count];
+        refused!(call.batch(&mut steps, &mut answers), WrongLength);
+        assert_eq!((steps, answers), (before, vec![0x5A; count]));
+    }
+    for (mut call, number) in [(Call::new(), 9), (bad_call(), 4)] {
+        let (octets, mut answers) = (*call.octets(), [0x5A; 2]);
+        call.batch(&mut steps, &mut answers).unwrap();
+        assert_eq!((steps, answers, *call.octets()), (before, [number; 2], octets));
     }
 }
 

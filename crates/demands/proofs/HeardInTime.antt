@@ -2,6 +2,7 @@
 use mathlib.Core.Path.{_≡_, refl, sym, ap, _∙_}
 use mathlib.Core.Bool.{Bool, true, false, or-true, or-false}
 use mathlib.Core.List.{List, [], _∷_, _++_, append-nil}
+use mathlib.Core.Logic.{inr}
 use Prim.Native.Nat.{ℕ, zero, suc, _≤_}
 use native.Mathlib.Omega.{arith}
 use lib.Dec.{eqb}
@@ -12,8 +13,8 @@ use Rattle.demands.specs.Talk.{Slot, Session, Talk, WayIn, opening, join
 use Rattle.demands.specs.Notices.{Notice, hear, join, isReached, slotNotice, slotNotices, firstNotices, openingNotices, noticesOf}
 use Rattle.demands.specs.Log.{Receiver}
 use Rattle.demands.specs.Demand3.{Meets3}
-use Rattle.demands.specs.Demand3Default.{sinceKnown, defaultNotices, Meets3Announced}
-use Rattle.demands.specs.ToldWhenHeard.{nextTold, heardAfter, knownIn, laterNotices, firstHeard, openingHeard, heardNotices, AnyPlace, Meets3Heard, Meets3HeardDefault}
+use Rattle.demands.specs.Demand3Default.{sinceKnown, defaultNotices, heardFrom, Meets3Announced}
+use Rattle.demands.specs.ToldWhenHeard.{nextTold, heardAfter, knownIn, laterNotices, firstHeard, openingHeard, heardNotices, LaterPlaces, AnyPlace, Meets3Heard, Meets3HeardDefault}
 use Rattle.demands.proofs.Standing.{key-ranged, slots-some}
 use Rattle.demands.proofs.Marking.{knownNext, known-by, sessionsBy, firstBy, strict-first, default-first}
 use Rattle.demands.proofs.ReceiverMeets.{full-drop}
@@ -84,16 +85,21 @@ module _ (t : Talk) (k : Kept t) (b : List ℕ) (i : ℕ) (h : HasKey b (t .ciph
   abbrev last : ℕ → ℕ
   last n = sessionSlots (t .cipher)
 
-  last-any : AnyPlace last
-  last-any n = omega (arith, slots-some (t .cipher) (key-ranged b (t .cipher) i (t .key) h))
+  last-later : (xs : List Session) → LaterPlaces last xs
+  last-later [] = tt
+  last-later (x ∷ xs) = (inr (omega (arith, slots-some (t .cipher) (key-ranged b (t .cipher) i (t .key) h))), last-later xs)
+
+  last-any : (xs : List Session) → AnyPlace last xs
+  last-any [] = tt
+  last-any (x ∷ xs) = last-later xs
 
   same-notices : (heardNotices false t e last ≡ noticesOf t e) × (heardNotices true t e last ≡ defaultNotices t e)
   same-notices = heard-in-time t k e last (λ n. omega arith)
 
 pub heard-meets-3 : (R : Receiver) → Meets3Heard R → Meets3 R
 heard-meets-3 R m t k b i h e few =
-    rw (same-notices t k b i h e .0) at (m t k b i h e few (last t k b i h e) (last-any t k b i h e))
+    rw (same-notices t k b i h e .0) at (m t k b i h e few (last t k b i h e) (last-any t k b i h e (heardFrom e (t .sessions))))
 
 pub heard-meets-announced : (R : Receiver) → Meets3HeardDefault R → Meets3Announced R
 heard-meets-announced R m t k e link few b i h =
-    rw (same-notices t k b i h e .1) at (m t k e link few b i h (last t k b i h e) (last-any t k b i h e))
+    rw (same-notices t k b i h e .1) at (m t k e link few b i h (last t k b i h e) (last-any t k b i h e (heardFrom e (t .sessions))))

@@ -2,6 +2,7 @@
 use mathlib.Core.Path.{_≡_, refl, sym, ap, _∙_}
 use mathlib.Core.Bool.{Bool, true, false, _&&_, not, or-true, true≢false}
 use mathlib.Core.List.{List, [], _∷_, _++_}
+use mathlib.Core.Logic.{_⊎_, inl, inr}
 use Prim.Native.Nat.{ℕ, zero, suc, _+_, _*_, _≤_, _<_}
 use native.Mathlib.Nat.{add-zero, zero-add}
 use native.Mathlib.Numerals.{add-one}
@@ -39,7 +40,7 @@ use Rattle.demands.specs.Notices.{Notice, join, announce, isReached, slo
 use Rattle.demands.specs.Log.{Event, event, events}
 use Rattle.demands.specs.Demand3.{Right, oursIn}
 use Rattle.demands.specs.Demand3Default.{heardFrom, Successive, GeneratedOrAnnounced}
-use Rattle.demands.specs.ToldWhenHeard.{heardAfter, knownIn, laterNotices, firstHeard, openingHeard, AnyPlace, heardLog, Meets3Heard, Meets3HeardDefault, hearingIn, hearingRecorder, hearingHandset}
+use Rattle.demands.specs.ToldWhenHeard.{heardAfter, knownIn, laterNotices, firstHeard, openingHeard, LaterPlaces, AnyPlace, heardLog, Meets3Heard, Meets3HeardDefault, hearingWith, hearingRecorder, hearingHandset}
 use Rattle.demands.proofs.Layouts.{layoutBy, layout-is, ways-right}
 use Rattle.demands.proofs.Standing.{key-ranged, slots-some, fresh, place, place-in, place-end, place-opened, opened-stands, place-joined, joined-stands, place-announced, announced-stands, place-untold}
 use Rattle.demands.proofs.Marking.{knownNext, known-by}
@@ -59,14 +60,14 @@ module _ (b : List ℕ) (c i : ℕ) (key : List ℕ) (h : HasKey b c i key) (lon
   Knows = Knowing b c i key h long rt m right
 
   abbrev toldOf : Notice → Hearing → Event × Hearing
-  toldOf = event (hearingIn m) b c i rt
+  toldOf = event (hearingWith m) b c i rt
 
   -- of its call alone
   abbrev toldCall : Notice → Call → Event × Call
   toldCall = event (oursIn m) b c i rt
 
   abbrev log : Hearing → List Notice → List Event
-  log = events (hearingIn m) b c i rt
+  log = events (hearingWith m) b c i rt
 
   -- from wherever its call stands so, with so many slots to come below the limit, what it is told is answered right
   abbrev RightFrom : (Call → Hearing) → Standing → ℕ → List Notice → Type 0
@@ -198,17 +199,33 @@ module _ (b : List ℕ) (c i : ℕ) (key : List ℕ) (h : HasKey b c i key) (lon
   slots-from : (p : ℕ) (x : Session) → SessionKept its c key x → SlotsKept its (stream c key (x .vector)) p (drop p (x .slots))
   slots-from p x kept = rw zero-add at (slots-drop its (stream c key (x .vector)) p 0 (x .slots) (kept .slots))
 
+  scrambling : (u f : Bool) → (not u && f) ≡ false → f ≡ true → u ≡ true
+  scrambling true f a e = refl
+  scrambling false f a e = absurd (true≢false (sym e ∙ a))
+
+  -- what was told at place 0 was told of a session under way
+  placed : {a : Bool} {n : ℕ} (k : Known) → (a ≡ true → isTold k ≡ true) → (a ≡ true) ⊎ (1 ≤ n) → n ≡ 0 → (eqb 0 0 && not (isTold k)) ≡ false
+  placed k its (inl e) z = ap not (its e)
+  placed k its (inr l) z = absurd (omega arith)
+
   -- a whole session from slot p on, in which the next one's vector is heard after so many slots, if it is
   session-right : (known : Bool) (k : Known) (p : ℕ) → p ≤ sessionSlots c → (x y : Session) → Knows (isReached c known) (x .vector) k → SessionKept its c key x
       → length (x .slots) ≡ sessionSlots c → length (y .vector) ≡ vectorOctets → (m ≡ byDefault → scrambles c ≡ false → GeneratedOrAnnounced x y)
       → (after : ℕ) → (after ≡ 0 → (eqb p 0 && not (isTold k)) ≡ false) → (left : ℕ) (ns : List Notice)
-      → ((k′ : Known) → Knows (isReached c (knownIn rides known y)) (y .vector) k′ → RightFrom alone (place t k′ 0) left ns)
+      → ((k′ : Known) → Knows (isReached c (knownIn rides known y)) (y .vector) k′ → (y .announced ≡ true → isTold k′ ≡ true)
+      → RightFrom alone (place t k′ 0) left ns)
       → RightFrom alone (place t k p) (length (drop p (x .slots)) + left)
       (heardAfter after (startNotices (not (scrambles c) && y .announced) (y .vector)) (slotNotices (isReached c known) (drop p (x .slots))) ++ ns)
   session-right known k p l x y n kept whole sized link after z left ns next = go (not (scrambles c) && y .announced) refl
     where
       ends : p + length (drop p (x .slots)) ≡ sessionSlots c
       ends = omega (arith, length-drop p (x .slots))
+
+      -- one that is announced, and yet not told, is scramble's, which is told all
+      told-all : (not (scrambles c) && y .announced) ≡ false → y .announced ≡ true → isTold (ridden t k) ≡ true
+      told-all a e =
+          told-on b c i key h long rt m right (scrambles c) (eqb m byDefault) (isKnown k) (nextVector (knownVector k))
+          ∙ scrambling (scrambles c) (y .announced) a e
 
       go : (a : Bool) → (not (scrambles c) && y .announced) ≡ a
           → RightFrom alone (place t k p) (length (drop p (x .slots)) + left)
@@ -217,7 +234,7 @@ module _ (b : List ℕ) (c i : ℕ) (key : List ℕ) (h : HasKey b c i key) (lon
           let u = not-true (scrambles c) (and-left (not (scrambles c)) (y .announced) a) in
           let f = and-right (not (scrambles c)) (y .announced) a in
           heard-right (isReached c known) (x .vector) k n (y .vector) sized u left ns
-          (next (told (y .vector)) (record { known = rw (u, f); vector = λ e. rw u })) after p (drop p (x .slots)) ends z
+          (next (told (y .vector)) (record { known = rw (u, f); vector = λ e. rw u }) (λ e. refl)) after p (drop p (x .slots)) ends z
           (slots-from p x kept)
       go false a =
           let r = ready-next b c i key h long rt m right (isReached c known) x k n (λ u. rw u) y link in
@@ -225,7 +242,7 @@ module _ (b : List ℕ) (c i : ℕ) (key : List ℕ) (h : HasKey b c i key) (lon
           rw (take-append-drop after (slotNotices (isReached c known) (drop p (x .slots))))
           (alone-right (isReached c known) (x .vector) k n p (drop p (x .slots)) (omega (arith, ends)) (slots-from p x kept) left ns
           (λ d q.
-          next (ridden t k) (rw (known-by m c known (y .announced)) at o) d
+          next (ridden t k) (rw (known-by m c known (y .announced)) at o) (told-all a) d
           (place-untold b c i key h rt m right d (ridden t k) (q ∙ place-end t k (p + length (drop p (x .slots))) ends))))
 
   -- by default, and with DES or AES, each next vector is the generator's or its announcement arrived
@@ -235,7 +252,7 @@ module _ (b : List ℕ) (c i : ℕ) (key : List ℕ) (h : HasKey b c i key) (lon
   -- the first session that is heard, from slot p on, and those after it
   first-right : (known : Bool) (k : Known) (p : ℕ) → p ≤ sessionSlots c → (x : Session) (ys : List Session) → Knows (isReached c known) (x .vector) k
       → Each (SessionKept its c key) (x ∷ ys) → Full c (slotCounts (x ∷ ys)) → Linked (x ∷ ys)
-      → (places : ℕ → ℕ) → AnyPlace places → (places 0 ≡ 0 → (eqb p 0 && not (isTold k)) ≡ false)
+      → (places : ℕ → ℕ) → LaterPlaces (λ n. places (suc n)) ys → (places 0 ≡ 0 → (eqb p 0 && not (isTold k)) ≡ false)
       → RightFrom alone (place t k p) (length (slotsFrom p (x ∷ ys))) (firstHeard c rides known p places (x ∷ ys))
   first-right known k p l x [] n kept f link places any z d q room =
       rw (take-append-drop (places 0) (slotNotices (isReached c known) (drop p (x .slots))))
@@ -244,9 +261,9 @@ module _ (b : List ℕ) (c i : ℕ) (key : List ℕ) (h : HasKey b c i key) (lon
   first-right known k p l x (y ∷ zs) n kept f link places any z d q room =
       session-right known k p l x y n (kept .0) (f .0) (kept .1 .0 .vector) (λ d u. link d u .0) (places 0) z (length (allSlots (y ∷ zs)))
       (laterNotices c rides known (λ n. places (suc n)) (y ∷ zs))
-      (λ k′ o.
-      first-right (knownIn rides known y) k′ 0 (omega arith) y zs o (kept .1) (f .1) (λ d u. link d u .1) (λ n. places (suc n)) (λ n. any (suc n))
-      (λ e. absurd (omega (arith, any 0)))) d q (omega (arith, length-append (drop p (x .slots)) (allSlots (y ∷ zs))))
+      (λ k′ o its.
+      first-right (knownIn rides known y) k′ 0 (omega arith) y zs o (kept .1) (f .1) (λ d u. link d u .1) (λ n. places (suc n)) (any .1)
+      (placed k′ its (any .0))) d q (omega (arith, length-append (drop p (x .slots)) (allSlots (y ∷ zs))))
 
   -- ---- how it comes in
 
@@ -255,12 +272,12 @@ module _ (b : List ℕ) (c i : ℕ) (key : List ℕ) (h : HasKey b c i key) (lon
       carried-alone (λ e. callStep b e o) noCall (λ r. let z = ap (λ (r : Answer × (Call × List ℕ)). numberOf (r .0)) q in absurd (omega arith))
       ∙ ap (λ (r : Answer × (Call × List ℕ)). (r .0, (alone (r .1 .0), r .1 .1))) q
 
-  module _ (places : ℕ → ℕ) (any : AnyPlace places) where
-    opened-right : (xs : List Session) → Each (SessionKept its c key) xs → Full c (slotCounts xs) → Linked xs → length (allSlots xs) ≤ 1000000
+  module _ (places : ℕ → ℕ) where
+    opened-right : (xs : List Session) → Each (SessionKept its c key) xs → Full c (slotCounts xs) → Linked xs → length (allSlots xs) ≤ 1000000 → AnyPlace places xs
         → Each Right (log noHearing (openingHeard c rides places xs))
     unfolding callStep
-    opened-right [] kept f link few = tt
-    opened-right (x ∷ xs) kept f link few =
+    opened-right [] kept f link few any = tt
+    opened-right (x ∷ xs) kept f link few any =
         let o = ap withNone (place-opened b c i key h rt m right (x .vector) (kept .0 .vector)) in
         rw (came-in (Open c i rt m (x .vector)) _ o) (
           refl,
@@ -270,10 +287,11 @@ module _ (b : List ℕ) (c i : ℕ) (key : List ℕ) (h : HasKey b c i key) (lon
         )
 
     joined-right : (xs : List Session) → Each (SessionKept its c key) xs → Full c (slotCounts xs) → Linked xs → length (slotsFrom superframeSlots xs) ≤ 1000000
+        → AnyPlace places xs
         → Each Right (log noHearing (join ∷ firstHeard c rides false superframeSlots places xs))
     unfolding callStep
-    joined-right [] kept f link few = rw (came-in (Join c i rt m) _ (ap withNone (place-joined b c i key h rt m right))) (refl, tt)
-    joined-right (x ∷ xs) kept f link few =
+    joined-right [] kept f link few any = rw (came-in (Join c i rt m) _ (ap withNone (place-joined b c i key h rt m right))) (refl, tt)
+    joined-right (x ∷ xs) kept f link few any =
         rw (came-in (Join c i rt m) _ (ap withNone (place-joined b c i key h rt m right))) (
           refl,
           first-right false (untold c) superframeSlots (slots-some c (key-ranged b c i key h)) x xs (nothing (scrambles c) refl) kept f link
@@ -287,22 +305,23 @@ module _ (b : List ℕ) (c i : ℕ) (key : List ℕ) (h : HasKey b c i key) (lon
 -- ---- the two demands
 
 module _ (m : ℕ) (t : Talk) (k : Kept t) (b : List ℕ) (i : ℕ) (h : HasKey b (t .cipher) i (t .key)) (right : termsRight receivingEnd (t .rate) m ≡ true)
-    (places : ℕ → ℕ) (any : AnyPlace places) where
+    (places : ℕ → ℕ) where
   kept-by : Each (SessionKept (layoutBy (width (t .rate))) (t .cipher) (t .key)) (t .sessions)
   kept-by = rw (layout-is (t .rate)) at (k .each)
 
   either-right : (e : WayIn) → (m ≡ byDefault → scrambles (t .cipher) ≡ false → Successive GeneratedOrAnnounced (heardFrom e (t .sessions))) → WithinLimit t e
-      → Each Right (heardLog (eqb m byDefault) (hearingIn m) b i t e places)
-  either-right opening link few =
-      opened-right b (t .cipher) i (t .key) h (k .key) (t .rate) m right places any (t .sessions) kept-by (k .full) link (omega (arith, told-after t opening))
-  either-right (joining n) link few =
-      joined-right b (t .cipher) i (t .key) h (k .key) (t .rate) m right places any (drop n (t .sessions)) (each-drop _ n (t .sessions) kept-by)
-      (full-drop (t .cipher) n (t .sessions) (k .full)) link (omega (arith, told-after t (joining n)))
+      → AnyPlace places (heardFrom e (t .sessions)) → Each Right (heardLog (eqb m byDefault) (hearingWith m) b i t e places)
+  either-right opening link few any =
+      opened-right b (t .cipher) i (t .key) h (k .key) (t .rate) m right places (t .sessions) kept-by (k .full) link (omega (arith, told-after t opening))
+      any
+  either-right (joining n) link few any =
+      joined-right b (t .cipher) i (t .key) h (k .key) (t .rate) m right places (drop n (t .sessions)) (each-drop _ n (t .sessions) kept-by)
+      (full-drop (t .cipher) n (t .sessions) (k .full)) link (omega (arith, told-after t (joining n))) any
 
 pub recorder-meets-heard : Meets3Heard hearingRecorder
 recorder-meets-heard t k b i h e few places any =
-    either-right strict t k b i h (ways-right (t .rate) strict (k .rate) (omega arith)) places any e (λ z. absurd (omega arith)) few
+    either-right strict t k b i h (ways-right (t .rate) strict (k .rate) (omega arith)) places e (λ z. absurd (omega arith)) few any
 
 pub handset-meets-heard : Meets3HeardDefault hearingHandset
 handset-meets-heard t k e link few b i h places any =
-    either-right byDefault t k b i h (ways-right (t .rate) byDefault (k .rate) (omega arith)) places any e (λ z. link) few
+    either-right byDefault t k b i h (ways-right (t .rate) byDefault (k .rate) (omega arith)) places e (λ z. link) few any

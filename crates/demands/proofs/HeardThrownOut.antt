@@ -3,6 +3,7 @@
 use mathlib.Core.Path.{_≡_, refl, sym, ap, subst, _∙_}
 use mathlib.Core.Bool.{Bool, true, false, _&&_, not}
 use mathlib.Core.List.{List, [], _∷_, _++_}
+use mathlib.Core.Logic.{inr}
 use Prim.Native.Nat.{ℕ, zero, suc, _+_, _*_, _≤_, _<_}
 use native.Mathlib.Numerals.{add-one}
 use native.Mathlib.Omega.{arith}
@@ -104,7 +105,7 @@ module _ (rt : ℕ) (lt : rt ≤ 1) where
     Heard R = Each Right (heardLog false R bookOfThree 0 (talk fifth announced first) (joining 0) (λ n. n))
 
     heard : (R : Receiver) → Meets3Heard R → Heard R
-    heard R m = m (talk fifth announced first) talk-kept bookOfThree 0 key (joining 0) few (λ n. n) (λ n. omega arith)
+    heard R m = m (talk fifth announced first) talk-kept bookOfThree 0 key (joining 0) few (λ n. n) (inr (omega arith), (inr (omega arith), tt))
 
   -- ---- the call as it is joined
 

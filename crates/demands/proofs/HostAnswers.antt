@@ -30,11 +30,11 @@ use Rattle.nxdn.proofs.LentLaws.{out-done}
 use Rattle.demands.specs.Device.{Device, OfCall, OfPacket, step, deviceAfter}
 use Rattle.demands.specs.Host.{Host, Function, Keys, Screen, OnCall, LookAt, OnPacket, hostStep, Calls, hostAfter, operationsOf, Holds, handing, ifFits, answerBy, HostDemand1}
 use Rattle.demands.proofs.Meets1.{ours-meets-1}
-use Rattle.demands.proofs.HostLaws.{answered-as, Kept, always-kept, host-holds}
+use Rattle.demands.proofs.HostLaws.{answered-as, RightHost, always-kept, host-holds}
 
 -- ---- the answer
 
-module _ (h : Host) (d : Device) (k : Kept h) (p : Holds h d) (l : List ℕ) where
+module _ (h : Host) (d : Device) (k : RightHost h) (p : Holds h d) (l : List ℕ) where
   answers-as : (f : Function) → (hostStep h f l .0, hostStep h f l .1 .1) ≡ answerBy d f l
   unfolding hostStep step onBook onScreen onCall onLook onPacket handedInto carried heardOf callStep
   answers-as (Keys o) = ap (λ (b : List ℕ). (numberOf (book.step o b .0), l)) (p .book)

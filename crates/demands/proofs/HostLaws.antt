@@ -43,7 +43,7 @@ use Rattle.nxdn.proofs.RoomLaws.{CallSized, no-call-sized, announced-sized, cal
 
 -- ---- a refusal
 
-handed-leaves : (fit : Bool) (l : List ℕ) (r : Answer × List ℕ) → 2 ≤ handedInto fit l r .0 → handedInto fit l r .1 ≡ l
+pub handed-leaves : (fit : Bool) (l : List ℕ) (r : Answer × List ℕ) → 2 ≤ handedInto fit l r .0 → handedInto fit l r .1 ≡ l
 unfolding handedInto
 handed-leaves true l r h = out-not l (r .0) (r .1) (λ z. absurd (omega arith))
 handed-leaves false l r h = refl
@@ -237,7 +237,7 @@ pub record PacketIn (x : List ℕ) : Type 0 where
   pub sized : PacketSized (packet.packetIn x)
 
 module _ (b : List ℕ) (a : Asked) (x l : List ℕ) (i : CallIn x) where
-  asked-left : fits a l ≡ true
+  pub asked-left : fits a l ≡ true
       → (length (onCall b a x l .1 .0) ≡ call.callOctets) × (call.hearingIn (onCall b a x l .1 .0) ≡ askedStep b a (call.hearingIn x) .1 .0)
   unfolding onCall
   asked-left e =
@@ -246,12 +246,12 @@ module _ (b : List ℕ) (a : Asked) (x l : List ℕ) (i : CallIn x) where
       left-in call.callOctets call.hearingIn call.octetsOf (fits a l) (askedStep b a) x l (i .long) e (asked-keeps b a h)
       (length-of (askedStep b a h .1 .0) (w .sized), read-written (askedStep b a h .1 .0) (w .sized))
 
-  asked-unfit : fits a l ≡ false → onCall b a x l .1 .0 ≡ x
+  pub asked-unfit : fits a l ≡ false → onCall b a x l .1 .0 ≡ x
   unfolding onCall
   asked-unfit e =
       sym (ap (λ (y : ℕ × (List ℕ × List ℕ)). y .1 .0) (unfit-in call.callOctets call.hearingIn call.octetsOf (fits a l) (askedStep b a) x l (i .long) e))
 
-  call-in : CallIn (onCall b a x l .1 .0)
+  pub call-in : CallIn (onCall b a x l .1 .0)
   call-in = go (fits a l) refl
     where
       go : (t : Bool) → fits a l ≡ t → CallIn (onCall b a x l .1 .0)
@@ -275,7 +275,7 @@ module _ (b : List ℕ) (o : PacketOperation) (x l : List ℕ) (i : PacketIn x) 
 
 -- ---- a host
 
-pub record Kept (h : Host) : Type 0 where
+pub record RightHost (h : Host) : Type 0 where
   pub calls : (n : ℕ) → CallIn (h .calls n)
   pub packets : (n : ℕ) → PacketIn (h .packets n)
 
@@ -283,7 +283,7 @@ pub record Kept (h : Host) : Type 0 where
 each-number : {A : Type 0} (P : A → Type 0) (m : ℕ) (x : A) (f : ℕ → A) → P x → ((n : ℕ) → P (f n)) → (n : ℕ) → P (withNumber m x f n)
 each-number P m x f own others n = by-number P m x f n (λ e. own) (λ q. others n)
 
-host-kept : (h : Host) (f : Function) (l : List ℕ) → Kept h → Kept (hostStep h f l .1 .0)
+host-kept : (h : Host) (f : Function) (l : List ℕ) → RightHost h → RightHost (hostStep h f l .1 .0)
 unfolding hostStep
 host-kept h (Keys o) l k = record { calls = k .calls; packets = k .packets }
 host-kept h (Screen o) l k = k
@@ -293,7 +293,7 @@ host-kept h (LookAt m a) l k = k
 host-kept h (OnPacket m o) l k =
     record { calls = k .calls; packets = each-number PacketIn m _ (h .packets) (packet-in (h .book) o (h .packets m) l (k .packets m)) (k .packets) }
 
-none-kept : Kept zeros
+none-kept : RightHost zeros
 none-kept =
     record {
       calls = λ n. record { long = refl; whole = subst Whole (sym none-read) (alone-whole noCall no-call-sized) };
@@ -324,7 +324,7 @@ put-twice {A} n x y f m = go (eqb m n)
     go true = refl
     go false = refl
 
-own-number : {A : Type 0} (n : ℕ) (x : A) (f : ℕ → A) → withNumber n x f n ≡ x
+pub own-number : {A : Type 0} (n : ℕ) (x : A) (f : ℕ → A) → withNumber n x f n ≡ x
 own-number n x f = rw (eq-eqb n n refl)
 
 module _ (d : Device) (n : ℕ) (w : List ℕ) where
@@ -362,7 +362,7 @@ both {A} {B} g n x y f e own others m = go (eqb m n)
     go true = own
     go false = others m
 
-module _ (h : Host) (d : Device) (k : Kept h) (p : Holds h d) (l : List ℕ) where
+module _ (h : Host) (d : Device) (k : RightHost h) (p : Holds h d) (l : List ℕ) where
   abbrev its : ℕ → Hearing
   its n = call.hearingIn (h .calls n)
 
@@ -431,7 +431,7 @@ module _ (h : Host) (d : Device) (k : Kept h) (p : Holds h d) (l : List ℕ) whe
 
 -- ---- any history from zeros
 
-pub always-kept : (fs : Calls) → Kept (hostAfter fs)
+pub always-kept : (fs : Calls) → RightHost (hostAfter fs)
 unfolding hostAfter
 always-kept [] = none-kept
 always-kept (f ∷ fs) = host-kept (hostAfter fs) (f .0) (f .1) (always-kept fs)

@@ -45,3 +45,8 @@ pub mod NightReport
 pub mod ThrownOut2
 pub mod HostLaws
 pub mod HostAnswers
+pub mod HostMeets
+pub mod HostEnds
+pub mod HostHears
+pub mod HostKeeps
+pub mod HeardInstance

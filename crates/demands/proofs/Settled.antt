@@ -42,7 +42,7 @@ module _ (R : Receiver) (b : List ℕ) (c i r : ℕ) where
   right-event lost s h = h
   right-event (voice reached x) s h = right-slot _ h
 
-  right-events : (s : R .State) (ns : List Notice) → Each Right (events R b c i r s ns) → answers (events R b c i r s ns) ≡ map due ns
+  pub right-events : (s : R .State) (ns : List Notice) → Each Right (events R b c i r s ns) → answers (events R b c i r s ns) ≡ map due ns
   right-events s [] h = refl
   right-events s (n ∷ ns) h = ap₂ _∷_ (right-event n s (h .0)) (right-events (event R b c i r n s .1) ns (h .1))
 

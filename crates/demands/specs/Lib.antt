@@ -12,6 +12,8 @@ pub mod Others
 pub mod OurSender
 pub mod Device
 pub mod Host
+pub mod HostDemands
+pub mod HostKeeps
 pub mod Refusals
 pub mod Demand1
 pub mod Names

@@ -3,6 +3,7 @@
 use mathlib.Core.Path.{_≡_}
 use mathlib.Core.List.{List, [], _∷_, _++_}
 use mathlib.Core.Bool.{Bool, true, false, _&&_, _||_, not}
+use mathlib.Core.Logic.{_⊎_}
 use Prim.Native.Nat.{ℕ, suc, _≤_}
 use lib.ListN.{take, drop}
 use Rattle.octets.specs.Lists.{Each}
@@ -55,10 +56,15 @@ abbrev pub heardNotices : Bool → Talk → WayIn → (ℕ → ℕ) → List Not
 heardNotices rides t opening places = openingHeard (t .cipher) rides places (t .sessions)
 heardNotices rides t (joining n) places = join ∷ firstHeard (t .cipher) rides false superframeSlots places (drop n (t .sessions))
 
--- in the first session that is heard also right after the opening, or joining; in a later one after its first slot at the soonest: before that it could as
--- well be that session's own
-abbrev pub AnyPlace : (ℕ → ℕ) → Type 0
-AnyPlace places = (n : ℕ) → 1 ≤ places (suc n)
+-- in the first session that is heard also right after the opening, or joining; and so in a later one whose own vector was told. Where it wasn't, after its
+-- first slot at the soonest: before that it could as well be that session's own
+abbrev pub LaterPlaces : (ℕ → ℕ) → List Session → Type 0
+LaterPlaces places [] = Unit {0}
+LaterPlaces places (x ∷ xs) = ((x .announced ≡ true) ⊎ (1 ≤ places 0)) × LaterPlaces (λ n. places (suc n)) xs
+
+abbrev pub AnyPlace : (ℕ → ℕ) → List Session → Type 0
+AnyPlace places [] = Unit {0}
+AnyPlace places (x ∷ xs) = LaterPlaces (λ n. places (suc n)) xs
 
 -- ---- the demand
 
@@ -67,13 +73,15 @@ heardLog rides R b i t e places = events R b (t .cipher) i (t .rate) (R .idle) (
 
 -- what a right log is, is demand 3's, and so is what is asked of the sender
 abbrev pub Meets3Heard : Receiver → Type 0
-Meets3Heard R = (t : Talk) → Kept t → (b : List ℕ) (i : ℕ) → HasKey b (t .cipher) i (t .key) → (e : WayIn) → WithinLimit t e → (places : ℕ → ℕ) → AnyPlace places
+Meets3Heard R = (t : Talk) → Kept t → (b : List ℕ) (i : ℕ) → HasKey b (t .cipher) i (t .key) → (e : WayIn) → WithinLimit t e → (places : ℕ → ℕ)
+    → AnyPlace places (heardFrom e (t .sessions))
     → Each Right (heardLog false R b i t e places)
 
 -- and in the default way
 abbrev pub Meets3HeardDefault : Receiver → Type 0
 Meets3HeardDefault R = (t : Talk) → Kept t → (e : WayIn) → (scrambles (t .cipher) ≡ false → Successive GeneratedOrAnnounced (heardFrom e (t .sessions)))
-    → WithinLimit t e → (b : List ℕ) (i : ℕ) → HasKey b (t .cipher) i (t .key) → (places : ℕ → ℕ) → AnyPlace places
+    → WithinLimit t e → (b : List ℕ) (i : ℕ) → HasKey b (t .cipher) i (t .key) → (places : ℕ → ℕ)
+    → AnyPlace places (heardFrom e (t .sessions))
     → Each Right (heardLog true R b i t e places)
 
 -- ---- ours
@@ -81,8 +89,8 @@ Meets3HeardDefault R = (t : Talk) → Kept t → (e : WayIn) → (scrambles (t .
 abbrev left : Answer × (Hearing × List ℕ) → Answer × Hearing
 left r = (r .0, r .1 .0)
 
-abbrev pub hearingIn : ℕ → Receiver
-hearingIn strictness =
+abbrev pub hearingWith : ℕ → Receiver
+hearingWith strictness =
     record {
       State = Hearing;
       idle = noHearing;
@@ -95,7 +103,7 @@ hearingIn strictness =
 
 -- 1 is strict, 0 the default
 abbrev pub hearingRecorder : Receiver
-hearingRecorder = hearingIn 1
+hearingRecorder = hearingWith 1
 
 abbrev pub hearingHandset : Receiver
-hearingHandset = hearingIn 0
+hearingHandset = hearingWith 0
