@@ -23,7 +23,8 @@
  *   - every slot is reported in turn, arrived or lost, each with the mask that the sender had;
  *   - a call is joined only at the end of a first superframe;
  *   - each vector that is announced is told once: by nxdn_heard right after the slot with which it was heard, or by
- *     nxdn_announce as its session starts. Before that slot, or a second time, it would be taken for another session's.
+ *     nxdn_announce as its session starts. Before that slot, or again past its session's start, it would be taken for
+ *     another session's, and that one opened as noise.
  *
  * Keys are in the book and in each call and packet that stands. nxdn_erase, nxdn_end and nxdn_packet_end zero them
  * there; docs/LIBRARY.md says what may stay on the stack. */
@@ -53,6 +54,13 @@ enum nxdn_size {
     NXDN_MOST_KEY = 32    /* the longest key */
 };
 
+/* ---- and in numbers */
+
+enum nxdn_numbers {
+    NXDN_COUNTS = 4, /* what nxdn_end hands out */
+    NXDN_SUMS = 6    /* what nxdn_report hands out */
+};
+
 /* ---- numbers that are given */
 
 enum nxdn_cipher { NXDN_SCRAMBLE = 1, NXDN_DES = 2, NXDN_AES = 3 }; /* keys of 2, 8 and 32 octets */
@@ -63,7 +71,9 @@ enum nxdn_rate { NXDN_HALF_RATE = 0, NXDN_FULL_RATE = 1 };
 enum nxdn_strictness { NXDN_HANDSET = 0, NXDN_RECORDER = 1 };
 
 enum nxdn_packet_use { NXDN_TO_RECEIVE = 0, NXDN_TO_SEND = 1 };
-enum nxdn_kind { NXDN_DCALL = 1, NXDN_SDCALL_INBOUND = 2, NXDN_SDCALL_OUTBOUND = 3, NXDN_FACCH1 = 4 }; /* 22, 16, 18, 10 octets */
+
+/* Message kinds: of 22, 16, 18 and 10 octets. */
+enum nxdn_kind { NXDN_DCALL = 1, NXDN_SDCALL_INBOUND = 2, NXDN_SDCALL_OUTBOUND = 3, NXDN_FACCH1 = 4 };
 
 /* What nxdn_show says of a call's end. */
 enum nxdn_end_of_call { NXDN_NO_CALL = 0, NXDN_SENDING = 1, NXDN_RECEIVING = 2 };
@@ -94,7 +104,7 @@ enum nxdn_answer {
 
 /* ---- the book of keys */
 
-/* Begins a key under a name: up to 16 octets of printable ASCII, zeros behind. Refuses 2, 3, 17, 4, 11, 12. */
+/* Begins a key under a name of NXDN_NAME octets: printable ASCII, and zeros behind it. Refuses 2, 3, 17, 4, 11, 12. */
 uint8_t nxdn_begin(uint8_t *book, size_t book_len, uint8_t cipher, uint8_t id, const uint8_t *name, size_t name_len);
 
 /* Adds octets to a key that was begun, up to its length. Refuses 2, 3, 4, 5, 11, 13. */

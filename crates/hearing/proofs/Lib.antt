@@ -1,2 +1,3 @@
 pub mod HearingLaws
 pub mod HeardLaws
+pub mod KeepingLaws

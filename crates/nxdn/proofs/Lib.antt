@@ -4,3 +4,4 @@ pub mod CallLaws
 pub mod RoomLaws
 pub mod SizedLaws
 pub mod InTurnLaws
+pub mod ShownLaws
