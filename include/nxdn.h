@@ -87,7 +87,7 @@ enum nxdn_answer {
     NXDN_DONE = 0,           /* done */
     NXDN_HELD = 1,           /* a slot whose session's vector is not known: counted, and its frame as it came */
     NXDN_WRONG_LENGTH = 2,   /* a lent buffer has the wrong length, or add is given more than 32 octets */
-    NXDN_OUT_OF_RANGE = 3,   /* cipher, key ID (0 to 63), rate, strictness, kind, use or entry number */
+    NXDN_OUT_OF_RANGE = 3,   /* cipher, key ID (0 to 63), rate, strictness, kind, use, entry number, kind of a step */
     NXDN_BAD = 4,            /* the octets are no good book, call or packet */
     NXDN_NO_ENTRY = 5,       /* the book has no key of this cipher and key ID */
     NXDN_NOT_READY = 6,      /* the key is not finished, or finish finds too few octets */
@@ -160,10 +160,10 @@ uint8_t nxdn_next_vector(const uint8_t *call, size_t call_len, uint8_t *vector, 
 /* Slots, losses and vectors of a recording at once: exactly what nxdn_voice, nxdn_lost, nxdn_announce and nxdn_heard
    do in turn, and faster where most slots of a session are in one batch: its keystream is made once. A step is
    NXDN_STEP octets: 0 what it is (enum nxdn_step), 1 the mask, and from 2 on the frame, as long as the call's rate
-   says, or the vector; a frame is turned where it stands. answers takes the number of each step's answer, one octet
-   to a step: 3 where octet 0 is no number of enum nxdn_step. A step that is not answered 0 or 1 changed nothing, and
-   the next one is taken all the same. Refuses 2 (call, or steps_len is not NXDN_STEP times answers_len), and then no
-   step is taken. */
+   says (one of the other rate is not refused here, but turned to noise), or the vector; a frame is turned where it
+   stands. answers takes the number of each step's answer, one octet to a step: 3 where octet 0 is no number of enum
+   nxdn_step. A step that is not answered 0 or 1 changed nothing, and the next one is taken all the same. Refuses 2
+   (call, or steps_len is not NXDN_STEP times answers_len), and then no step is taken. */
 uint8_t nxdn_batch(uint8_t *call, size_t call_len, uint8_t *steps, size_t steps_len, uint8_t *answers,
                    size_t answers_len);
 

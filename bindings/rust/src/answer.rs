@@ -8,7 +8,8 @@ use core::fmt;
 #[derive(Clone, Copy, Debug, PartialEq, Eq, Hash)]
 #[repr(u8)]
 pub enum Answer {
-    /// A frame or message has the wrong length, or more than 32 octets of a key are added.
+    /// A frame or message has the wrong length, more than 32 octets of a key are added, or a batch
+    /// has not one answer to a step.
     WrongLength = 2,
     /// A key ID above 63, or an entry number above 15.
     OutOfRange = 3,

@@ -15,7 +15,8 @@ pub struct Step([u8; STEP]);
 
 impl Step {
     /// A slot, as [`Call::voice`](crate::Call::voice). The frame is as long as the call's rate
-    /// says: a step does not know the call, so that one of the other rate is not answered.
+    /// says. A step does not know the call: a frame of the other rate is not refused, but answered
+    /// as turned, and what comes out is noise.
     ///
     /// Refuses `WrongLength` (a frame of neither rate).
     pub fn voice(mask: u8, frame: &[u8]) -> Result<Step, Answer> {

@@ -2,36 +2,34 @@
 use mathlib.Core.Path.{_≡_, refl, sym, ap, ap₂, _∙_}
 use mathlib.Core.Bool.{Bool, true, false, not}
 use mathlib.Core.List.{List, [], _∷_, _++_, append-nil, append-assoc}
-use Prim.Native.Nat.{ℕ, zero, suc, _+_, _-_, _*_, _≤_, _<_}
+use Prim.Native.Nat.{ℕ, suc, _+_, _-_, _*_, _≤_, _<_}
 use native.Mathlib.Numerals.{add-one}
 use native.Mathlib.Decide.{decLt, ℕ-discrete}
 use native.Mathlib.Omega.{arith}
-use lib.Dec.{eqb}
 use lib.ListN.{length, getD, take, drop, set, take-append-drop, length-set, length-append, length-drop}
 use lib.Seq.{take-suc-set, take-all, take-at, drop-at, length-take-le, drop-drop}
-use borrow.Author.Tests.{eq-eqb, ne-eqb}
+use borrow.Author.Tests.{ne-eqb}
 use borrow.Rule.Slice.PartMut.{putMid}
-use Rattle.octets.specs.Tests.{pick}
 use Rattle.octets.specs.Lists.{replaced}
 use Rattle.octets.proofs.Parts.{put-replaced, replaced-length}
 use Rattle.answers.specs.declared.Answer.{Answer}
 use Rattle.answers.specs.declared.Answer.the-variants.{Done, OutOfRange}
 use Rattle.answers.specs.Numbers.{numberOf}
-use Rattle.answers.proofs.OutcomeLaws.{Refusal, NoneHolds, by-refusals}
+use Rattle.answers.proofs.OutcomeLaws.{Refusal, by-refusals}
 use Rattle.sizes.specs.Frame.{frameOctets, width}
 use Rattle.voice.specs.declared.call.Call.{Call}
-use Rattle.voice.specs.Call.{goodCall, standing}
+use Rattle.voice.specs.Call.{standing}
 use Rattle.voice.specs.Slot.{lostOf, voiceOf}
 use Rattle.voice.specs.Vector.{announceOf}
 use Rattle.voice.proofs.CallLaws.{good-by}
 use Rattle.voice.proofs.Settled.{lost-keeps, announce-keeps, voice-keeps}
 use Rattle.hearing.specs.declared.Hearing.{Hearing}
-use Rattle.hearing.specs.Hearing.{oneKept, underWay, keptRight, callOf, alone, keeping}
-use Rattle.hearing.specs.Heard.{handed, handedOn, carried, heardRefusals, heardOf}
+use Rattle.hearing.specs.Hearing.{oneKept, underWay, keptRight, callOf, keeping}
+use Rattle.hearing.specs.Heard.{handed, handedOn, heardRefusals, heardOf}
 use Rattle.hearing.proofs.HearingLaws.{good-of, good-call-of, alone-of}
 use Rattle.hearing.proofs.HeardLaws.{on-refused, on-none, on-one, handed-later, handed-now, carried-is, heard-keeps}
 use Rattle.sessions.specs.Session.{Cached}
-use Rattle.batch.specs.Batch.{Step, Voice, Lost, Announce, Heard, Unknown, stepOctets, lentAt, frameIn, slotIn, vectorIn, stepIn}
+use Rattle.batch.specs.Batch.{Voice, Lost, Announce, Heard, stepOctets, lentAt, frameIn, slotIn, vectorIn, stepIn}
 use Rattle.batch.specs.Batch.{framed, beside, taken, recorded, batchOf}
 
 -- ---- the session's octets

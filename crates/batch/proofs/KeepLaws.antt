@@ -1,5 +1,5 @@
 -- A step that is refused changes nothing, and so do steps that are all refused.
-use mathlib.Core.Path.{_≡_, refl, sym, ap, ap₂, _∙_}
+use mathlib.Core.Path.{_≡_, refl, ap, ap₂, _∙_}
 use mathlib.Core.Bool.{Bool, true, false}
 use mathlib.Core.List.{List, [], _∷_, _++_}
 use Prim.Native.Nat.{ℕ, zero, suc, _+_, _≤_}
@@ -16,7 +16,7 @@ use Rattle.voice.specs.Vector.{announceOf}
 use Rattle.voice.proofs.Settled.{voice-keeps}
 use Rattle.hearing.specs.declared.Hearing.{Hearing}
 use Rattle.hearing.specs.Hearing.{callOf}
-use Rattle.hearing.specs.Heard.{carried, heardOf}
+use Rattle.hearing.specs.Heard.{carried}
 use Rattle.hearing.proofs.HeardLaws.{carried-keeps, heard-keeps}
 use Rattle.batch.specs.Batch.{Step, Voice, Lost, Announce, Heard, Unknown, stepOctets, lentAt, frameIn, slotIn, vectorIn, stepIn}
 use Rattle.batch.specs.Batch.{framed, beside, taken, recorded, batchOf}

@@ -1,2 +1,3 @@
 pub mod BatchLaws
 pub mod KeepLaws
+pub mod StepLaws

@@ -44,9 +44,6 @@ module _ (w : List ℕ) (c : Call) where
   handed-good g kept =
       by-handed (λ h. goodHearing h ≡ true) kept (keeping-good c w g) (alone-good (announceOf c w .1) (announce-good c g w)) (alone-good c g)
 
-  pub handed-sized : length w ≡ vectorOctets → (kept : ℕ) → length (handed kept w c .next) ≡ vectorOctets
-  handed-sized l kept = by-handed (λ h. length (h .next) ≡ vectorOctets) kept (λ u. l) refl refl
-
   -- in the middle of a session it stays kept, and the call is as it was
   pub handed-later : underWay (standing c) ≡ true → handed oneKept w c ≡ keeping c w
   unfolding handed
@@ -128,12 +125,6 @@ module _ {X : Type 0} (f : Call → Answer × (Call × X)) (h : Hearing) where
       rw (good-call-of h good)
       (by-answer h (r .0) (r .1 .0) (λ s. goodHearing s ≡ true) (λ no. good) (λ l. handed-good (h .next) (r .1 .0) (left l) (h .kept)))
 
-  pub carried-sized : length (h .next) ≡ vectorOctets → length (carried f h .1 .0 .next) ≡ vectorOctets
-  unfolding carried
-  carried-sized l =
-      let r = f (callOf h) in
-      by-answer h (r .0) (r .1 .0) (λ s. length (s .next) ≡ vectorOctets) (λ no. l) (λ t. handed-sized (h .next) (r .1 .0) l (h .kept))
-
 module _ {X : Type 0} (f : Call → Answer × (Call × X)) (c : Call) where
   -- a call that keeps nothing goes exactly as the call itself, good or bad
   pub carried-alone : (Refusal (f c .0) → f c .1 .0 ≡ c) → carried f (alone c) ≡ (f c .0, (alone (f c .1 .0), f c .1 .1))
@@ -171,12 +162,6 @@ module _ (h : Hearing) (w : List ℕ) where
   by-heard : (P : Hearing → Type 0) → P h → (asked → P (handed oneKept w (h .call))) → P (heardOf h w .1)
   unfolding heardOf
   by-heard P = leaves P h (heardRefusals (standing (callOf h)) w) (Done, handed oneKept w (h .call))
-
-  pub heard-sized : length (h .next) ≡ vectorOctets → length (heardOf h w .1 .next) ≡ vectorOctets
-  unfolding heardRefusals
-  heard-sized l =
-      by-heard (λ s. length (s .next) ≡ vectorOctets) l
-      (λ n. handed-sized w (h .call) (eqb-true (length w) vectorOctets (not-false _ (n .0))) oneKept)
 
   module _ (good : goodHearing h ≡ true) where
     pub heard-good : goodHearing (heardOf h w .1) ≡ true

@@ -1,12 +1,11 @@
 -- What is kept and what is heard, by whether the call awaits a vector; and the order in which hearing refuses.
-use mathlib.Core.Path.{_≡_, refl, sym, ap, _∙_}
-use mathlib.Core.Bool.{Bool, true, false, _&&_, not, true≢false}
+use mathlib.Core.Path.{_≡_, refl, sym}
+use mathlib.Core.Bool.{Bool, true, false, _&&_, not}
 use mathlib.Core.List.{List, [], _∷_}
 use Prim.Native.Nat.{ℕ}
 use lib.Dec.{eqb}
 use lib.ListN.{length}
 use borrow.Author.Tests.{eqb-true, ne-eqb}
-use Rattle.octets.specs.Tests.{pick}
 use Rattle.octets.proofs.TestLaws.{and-left, and-right}
 use Rattle.sizes.specs.Ciphers.{vectorOctets}
 use Rattle.answers.specs.declared.Answer.the-variants.{Done}

@@ -1,5 +1,5 @@
 -- What a screen shows of a call: its fifth octet is 1 exactly where a slot is turned now, and its third is the rate that a slot's frame is by.
-use mathlib.Core.Path.{_≡_, refl, _∙_}
+use mathlib.Core.Path.{_≡_, refl}
 use mathlib.Core.Bool.{Bool, true, false, _&&_, not}
 use mathlib.Core.List.{List, [], _∷_}
 use Prim.Native.Nat.{ℕ, _≤_, _<_}

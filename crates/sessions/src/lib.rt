@@ -34,7 +34,7 @@ pub struct Slot {
 }
 
 // Makes the session's keystream where it isn't made. False where the call knows no vector, or the octets are too few for its rate.
-pub fn hold_session(call: Call, session: &mut [u8], made: bool) -> bool
+fn hold_session(call: Call, session: &mut [u8], made: bool) -> bool
     requires { ⌜ Cached made call (now session) ⌝ }
     ensures { λ r. ⌜ (r ≡ canHold call (now (session .entry))) × Cached r call (now (session .exit)) ⌝ }
 {
