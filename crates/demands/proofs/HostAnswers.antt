@@ -30,7 +30,8 @@ use Rattle.nxdn.proofs.LentLaws.{out-done}
 use Rattle.demands.specs.Device.{Device, OfCall, OfPacket, step, deviceAfter}
 use Rattle.demands.specs.Host.{Host, Function, Keys, Screen, OnCall, LookAt, OnPacket, hostStep, Calls, hostAfter, operationsOf, Holds, handing, ifFits, answerBy, HostDemand1}
 use Rattle.demands.proofs.Meets1.{ours-meets-1}
-use Rattle.demands.proofs.HostLaws.{answered-as, RightHost, always-kept, host-holds}
+use Rattle.demands.proofs.HostLaws.{answered-as, RightHost, always-kept}
+use Rattle.demands.proofs.HostKeeps.{host-holds}
 
 -- ---- the answer
 

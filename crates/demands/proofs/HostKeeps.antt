@@ -19,9 +19,9 @@ use Rattle.held.proofs.CallLaws.{none-read}
 use Rattle.nxdn.specs.Operations.{CallOperation, Announce, callStep}
 use Rattle.nxdn.specs.Interface.{Asked, Of, Heard, askedStep, fits, onCall, Next, Show}
 use Rattle.demands.specs.Device.{Device, Operation, OfCall, withNumber, step, deviceAfter}
-use Rattle.demands.specs.Host.{Host, Function, Keys, Screen, OnCall, LookAt, OnPacket, hostStep, Calls, hostAfter, kept, comesTo, operationsOf, Holds}
-use Rattle.demands.specs.HostKeeps.{Keeping, staysKept, heardBy, keptThen, startsBy, comesBy, madeBy, hearingOf}
-use Rattle.demands.proofs.HostLaws.{asked-left, asked-unfit, RightHost, always-kept, host-holds}
+use Rattle.demands.specs.Host.{Host, Function, Keys, Screen, OnCall, LookAt, OnPacket, hostStep, Calls, hostAfter, operationsOf, Holds, Keeping, staysKept, heardBy, keptThen, startsBy, comesBy, madeBy, hearingOf}
+use Rattle.demands.proofs.HostSteps.{kept, comesTo, readOperations}
+use Rattle.demands.proofs.HostLaws.{asked-left, asked-unfit, RightHost, always-kept, octets-hold}
 
 -- two outcomes of the same refusals
 together : {S T : Type 0} (P : S → T → Type 0) (x : S) (y : T) (rs : Refusals) (u : S) (v : T) → P x y → P u v → P (outcome x rs u .1) (outcome y rs v .1)
@@ -154,25 +154,29 @@ module _ (h : Host) (d : Device) (k : Keeping) (i : RightHost h) (p : Keeps h d 
 -- ---- any history from zeros
 
 -- the operations that it comes to are those that the device and what was heard say, and its calls keep what was heard and not yet announced
-made-keeps : (fs : Calls) → (operationsOf fs ≡ madeBy fs .0) × ((n : ℕ) → Shaped (madeBy fs .1 n) (call.hearingIn (hostAfter fs .calls n)))
-unfolding operationsOf madeBy hostAfter
+made-keeps : (fs : Calls) → (readOperations fs ≡ madeBy fs .0) × ((n : ℕ) → Shaped (madeBy fs .1 n) (call.hearingIn (hostAfter fs .calls n)))
+unfolding readOperations madeBy hostAfter
 made-keeps [] = (refl, λ n. subst (Shaped []) (sym none-read) refl)
 made-keeps (f ∷ fs) =
     let m = made-keeps fs in
     let d = deviceAfter step (madeBy fs .0) in
     let p : Keeps (hostAfter fs) d (madeBy fs .1) =
-    record { holds = subst (λ (os : List Operation). Holds (hostAfter fs) (deviceAfter step os)) (m .0) (host-holds fs); keeps = m .1 } in (
+    record { holds = subst (λ (os : List Operation). Holds (hostAfter fs) (deviceAfter step os)) (m .0) (octets-hold fs); keeps = m .1 } in (
       ap₂ (λ (os ps : List Operation). os ++ ps) (comes-same (hostAfter fs) d (madeBy fs .1) (always-kept fs) p (f .1) (f .0)) (m .0),
       then-keeps (hostAfter fs) d (madeBy fs .1) (always-kept fs) p (f .1) (f .0),
     )
 
-pub same-operations : (fs : Calls) → operationsOf fs ≡ madeBy fs .0
+same-operations : (fs : Calls) → readOperations fs ≡ operationsOf fs
 same-operations fs = made-keeps fs .0
 
+-- a host's octets hold the device after the operations that its calls come to
+pub host-holds : (fs : Calls) → Holds (hostAfter fs) (deviceAfter step (operationsOf fs))
+host-holds fs = subst (λ (os : List Operation). Holds (hostAfter fs) (deviceAfter step os)) (same-operations fs) (octets-hold fs)
+
 -- so a call's octets hold the device's call and what is kept by it, and nothing else
-pub host-keeps : (fs : Calls) (n : ℕ) → call.hearingIn (hostAfter fs .calls n) ≡ hearingOf (deviceAfter step (madeBy fs .0) .calls n) (madeBy fs .1 n)
+pub host-keeps : (fs : Calls) (n : ℕ) → call.hearingIn (hostAfter fs .calls n) ≡ hearingOf (deviceAfter step (operationsOf fs) .calls n) (madeBy fs .1 n)
 host-keeps fs n =
     let h = call.hearingIn (hostAfter fs .calls n) in
     made-keeps fs .1 n
     ∙ ap (λ (c : Call). hearingOf c (madeBy fs .1 n))
-    (sym (always-kept fs .calls n .whole .right) ∙ host-holds fs .calls n ∙ ap (λ (os : List Operation). deviceAfter step os .calls n) (same-operations fs))
+    (sym (always-kept fs .calls n .whole .right) ∙ host-holds fs .calls n)

@@ -37,7 +37,8 @@ use Rattle.nxdn.proofs.LentLaws as lent
 use Rattle.nxdn.proofs.LentLaws.{out-not, refusal-leaves}
 use Rattle.demands.specs.Device.{Device, Operation, OfScreen, OfCall, withNumber, step, deviceAfter}
 use Rattle.demands.specs.Demand1.{Same}
-use Rattle.demands.specs.Host.{Host, zeros, Function, Keys, Screen, OnCall, LookAt, OnPacket, hostStep, Calls, hostAfter, startsNext, comesTo, operationsOf, Holds, SameOctets, handing, ifFits}
+use Rattle.demands.specs.Host.{Host, zeros, Function, Keys, Screen, OnCall, LookAt, OnPacket, hostStep, Calls, hostAfter, Holds, SameOctets, handing, ifFits}
+use Rattle.demands.proofs.HostSteps.{startsNext, comesTo, readOperations}
 use Rattle.demands.proofs.DeviceLaws.{book-settles, call-settles, packet-settles, by-number, same-number}
 use Rattle.nxdn.proofs.RoomLaws.{CallSized, no-call-sized, announced-sized, call-sized, no-packet-sized, packet-sized}
 
@@ -437,9 +438,9 @@ always-kept [] = none-kept
 always-kept (f ∷ fs) = host-kept (hostAfter fs) (f .0) (f .1) (always-kept fs)
 
 -- is the history of the operations that its functions come to
-pub host-holds : (fs : Calls) → Holds (hostAfter fs) (deviceAfter step (operationsOf fs))
-unfolding hostAfter operationsOf deviceAfter
-host-holds [] = record { book = refl; calls = λ n. ap callOf none-read ∙ alone-of noCall; packets = λ n. no-packet-read }
-host-holds (f ∷ fs) =
-    subst (Holds (hostStep (hostAfter fs) (f .0) (f .1) .1 .0)) (sym (runs-after (comesTo (hostAfter fs) (f .0) (f .1)) (operationsOf fs)))
-    (function-held (hostAfter fs) (deviceAfter step (operationsOf fs)) (always-kept fs) (host-holds fs) (f .1) (f .0))
+pub octets-hold : (fs : Calls) → Holds (hostAfter fs) (deviceAfter step (readOperations fs))
+unfolding hostAfter readOperations deviceAfter
+octets-hold [] = record { book = refl; calls = λ n. ap callOf none-read ∙ alone-of noCall; packets = λ n. no-packet-read }
+octets-hold (f ∷ fs) =
+    subst (Holds (hostStep (hostAfter fs) (f .0) (f .1) .1 .0)) (sym (runs-after (comesTo (hostAfter fs) (f .0) (f .1)) (readOperations fs)))
+    (function-held (hostAfter fs) (deviceAfter step (readOperations fs)) (always-kept fs) (octets-hold fs) (f .1) (f .0))

@@ -43,6 +43,7 @@ pub mod Instance1
 pub mod CountsThrownOut
 pub mod NightReport
 pub mod ThrownOut2
+pub mod HostSteps
 pub mod HostLaws
 pub mod HostAnswers
 pub mod HostMeets

@@ -10,22 +10,22 @@ use Rattle.octets.specs.Tests.{pick}
 use Rattle.answers.specs.declared.Answer.{Answer}
 use Rattle.answers.specs.declared.Answer.the-variants.{Done}
 use Rattle.answers.specs.Numbers.{numberOf}
-use Rattle.answers.specs.Outcomes.{answered}
+use Rattle.answers.specs.Outcomes.{outcome, answered}
 use Rattle.keybook.specs.Book.{bookOctets}
 use Rattle.keybook.specs.History as book
 use Rattle.voice.specs.declared.call.Call.{Call}
 use Rattle.voice.specs.Call.{standing}
 use Rattle.voice.specs.Vector.{awaits}
 use Rattle.hearing.specs.declared.Hearing.{Hearing}
-use Rattle.hearing.specs.Hearing.{oneKept, callOf}
+use Rattle.hearing.specs.Hearing.{underWay, callOf, alone, keeping}
 use Rattle.hearing.specs.Heard.{heardRefusals}
 use Rattle.held.specs.Call.{callOctets, hearingIn}
 use Rattle.held.specs.Packet.{packetOctets, packetIn}
-use Rattle.nxdn.specs.Operations.{ScreenOperation, CallOperation, Voice, Announce, NextVector, callStep, PacketOperation, Message}
+use Rattle.nxdn.specs.Operations.{ScreenOperation, Voice, Announce, NextVector, callStep, PacketOperation, Message}
 use Rattle.nxdn.specs.Lent.{outAfter}
 use Rattle.nxdn.specs.Shown.{shownOctets, showOf}
 use Rattle.nxdn.specs.Interface.{onBook, screenRoom, onScreen, Asked, Of, Heard, fits, onCall, Look, Next, Show, onLook, onPacket}
-use Rattle.demands.specs.Device.{Device, Operation, OfBook, OfScreen, OfCall, OfPacket, withNumber, step, history}
+use Rattle.demands.specs.Device.{Device, Operation, OfBook, OfScreen, OfCall, OfPacket, withNumber, step, deviceAfter, history}
 use Rattle.demands.specs.Demand1.{WordsTurned, MessageTurned}
 
 -- ---- a host
@@ -67,32 +67,49 @@ unfoldable pub hostAfter : Calls → Host
 hostAfter [] = zeros
 hostAfter (f ∷ fs) = hostStep (hostAfter fs) (f .0) (f .1) .1 .0
 
--- ---- the operations that they come to
+-- ---- the operations that they come to, and what is kept between them: by what was asked and answered, and no octet is looked at
 
--- a kept vector is announced as its session starts, right after the slot that leads there
-abbrev pub startsNext : Hearing → Answer × (Call × List ℕ) → Bool
-startsNext h r = eqb (h .kept) oneKept && (ltb (numberOf (r .0)) 2 && awaits (standing (r .1 .0)))
+-- of each call's number no vector, or one
+abbrev pub Keeping : Type 0
+Keeping = ℕ → List (List ℕ)
 
-abbrev pub kept : List ℕ → ℕ → CallOperation → Hearing → List Operation
-kept b n o h = pick (startsNext h (callStep b (callOf h) o)) (OfCall n (Announce (h .next)) ∷ []) []
+-- after an operation: a refusal changes nothing, in the middle of a session it stays kept, and else it is kept no longer
+abbrev pub staysKept : List (List ℕ) → Answer × (Call × List ℕ) → List (List ℕ)
+staysKept ws r = pick (ltb 1 (numberOf (r .0))) ws (pick (underWay (standing (r .1 .0))) ws [])
 
--- and where the call awaits a vector it is announced as it is heard
-abbrev pub heardNow : ℕ → List ℕ → Hearing → List Operation
-heardNow n w h = pick (awaits (standing (callOf h))) (OfCall n (Announce w) ∷ []) []
+-- a vector that is heard in the middle of a session is kept, in place of any before it
+abbrev pub heardBy : Call → List ℕ → List (List ℕ) → List (List ℕ)
+heardBy c w ws = outcome ws (heardRefusals (standing c) w) (pick (underWay (standing c)) (w ∷ []) []) .1
 
--- of a function, the latest first. Where what is lent doesn't fit there is none; showing a call is none; and a vector that is kept is none yet
-abbrev pub comesTo : Host → Function → List ℕ → List Operation
-comesTo h (Keys o) lent = OfBook o ∷ []
-comesTo h (Screen o) lent = pick (eqb (length lent) (screenRoom o)) (OfScreen o ∷ []) []
-comesTo h (OnCall n (Of o)) lent = pick (fits (Of o) lent) (kept (h .book) n o (hearingIn (h .calls n)) ++ (OfCall n o ∷ [])) []
-comesTo h (OnCall n (Heard w)) lent = heardNow n w (hearingIn (h .calls n))
-comesTo h (LookAt n Next) lent = OfCall n (NextVector lent) ∷ []
-comesTo h (LookAt n Show) lent = []
-comesTo h (OnPacket n o) lent = OfPacket n o ∷ []
+abbrev pub keptThen : Device → Keeping → Function → List ℕ → Keeping
+keptThen d k (Keys o) lent = k
+keptThen d k (Screen o) lent = k
+keptThen d k (OnCall n (Of o)) lent = withNumber n (pick (fits (Of o) lent) (staysKept (k n) (callStep (d .book) (d .calls n) o)) (k n)) k
+keptThen d k (OnCall n (Heard w)) lent = withNumber n (heardBy (d .calls n) w (k n)) k
+keptThen d k (LookAt n l) lent = k
+keptThen d k (OnPacket n o) lent = k
 
-unfoldable pub operationsOf : Calls → List Operation
-operationsOf [] = []
-operationsOf (f ∷ fs) = comesTo (hostAfter fs) (f .0) (f .1) ++ operationsOf fs
+-- a kept vector is announced as its session starts
+abbrev pub startsBy : ℕ → List (List ℕ) → Answer × (Call × List ℕ) → List Operation
+startsBy n [] r = []
+startsBy n (w ∷ ws) r = pick (ltb (numberOf (r .0)) 2 && awaits (standing (r .1 .0))) (OfCall n (Announce w) ∷ []) []
+
+abbrev pub comesBy : Device → Keeping → Function → List ℕ → List Operation
+comesBy d k (Keys o) lent = OfBook o ∷ []
+comesBy d k (Screen o) lent = pick (eqb (length lent) (screenRoom o)) (OfScreen o ∷ []) []
+comesBy d k (OnCall n (Of o)) lent = pick (fits (Of o) lent) (startsBy n (k n) (callStep (d .book) (d .calls n) o) ++ (OfCall n o ∷ [])) []
+comesBy d k (OnCall n (Heard w)) lent = pick (awaits (standing (d .calls n))) (OfCall n (Announce w) ∷ []) []
+comesBy d k (LookAt n Next) lent = OfCall n (NextVector lent) ∷ []
+comesBy d k (LookAt n Show) lent = []
+comesBy d k (OnPacket n o) lent = OfPacket n o ∷ []
+
+-- of a history, the latest first: the operations, and what is kept after them
+unfoldable pub madeBy : Calls → List Operation × Keeping
+madeBy [] = ([], λ n. [])
+madeBy (f ∷ fs) = let m = madeBy fs in let d = deviceAfter step (m .0) in (comesBy d (m .1) (f .0) (f .1) ++ m .0, keptThen d (m .1) (f .0) (f .1))
+
+abbrev pub operationsOf : Calls → List Operation
+operationsOf fs = madeBy fs .0
 
 -- ---- what a host's octets hold
 
@@ -101,6 +118,11 @@ pub record Holds (h : Host) (d : Device) : Type 0 where
   pub book : h .book ≡ d .book
   pub calls : (n : ℕ) → callOf (hearingIn (h .calls n)) ≡ d .calls n
   pub packets : (n : ℕ) → packetIn (h .packets n) ≡ d .packets n
+
+-- a call, with what it keeps
+abbrev pub hearingOf : Call → List (List ℕ) → Hearing
+hearingOf c [] = alone c
+hearingOf c (w ∷ ws) = keeping c w
 
 -- the same octets
 pub record SameOctets (h g : Host) : Type 0 where

@@ -20,7 +20,7 @@ use Rattle.demands.specs.Log.{Receiver}
 use Rattle.demands.specs.Demand2.{OnSlot, OnMessage, VoiceBits, DataBits}
 use Rattle.demands.specs.Demand3.{Right}
 use Rattle.demands.specs.Demand3Default.{Successive, GeneratedOrAnnounced, heardFrom}
-use Rattle.demands.specs.ToldWhenHeard.{AnyPlace, heardLog}
+use Rattle.demands.specs.ToldWhenHeard.{AnyPlace, heardLog, left}
 use Rattle.demands.specs.Host.{Host, Function, Keys, Screen, OnCall, LookAt, OnPacket, hostStep, Calls}
 
 -- the answer with a number of the table; any other number is read as the program's, which no operation gives
@@ -61,9 +61,6 @@ goneOn h (f ∷ fs) = hostStep (goneOn h fs) (f .0) (f .1) .1 .0
 abbrev pub callOn : ℕ → (ℕ → Calls) → Asked → List ℕ → ℕ × Host → Answer × ((ℕ × Host) × List ℕ)
 callOn n between a l s =
     let r = hostStep (s .1) (OnCall n a) l in (numbered (r .0), ((suc (s .0), goneOn (r .1 .0) (between (s .0))), r .1 .1))
-
-abbrev left : {S : Type 0} → Answer × (S × List ℕ) → Answer × S
-left r = (r .0, r .1 .0)
 
 -- its own book is the one that an opening reads
 abbrev pub hostIn : ℕ → ℕ → (ℕ → Calls) → Host → Receiver

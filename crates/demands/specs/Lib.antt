@@ -13,7 +13,6 @@ pub mod OurSender
 pub mod Device
 pub mod Host
 pub mod HostDemands
-pub mod HostKeeps
 pub mod Refusals
 pub mod Demand1
 pub mod Names

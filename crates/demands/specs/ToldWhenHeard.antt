@@ -86,7 +86,8 @@ Meets3HeardDefault R = (t : Talk) → Kept t → (e : WayIn) → (scrambles (t .
 
 -- ---- ours
 
-abbrev left : Answer × (Hearing × List ℕ) → Answer × Hearing
+-- without what it may write
+abbrev pub left : {S : Type 0} → Answer × (S × List ℕ) → Answer × S
 left r = (r .0, r .1 .0)
 
 abbrev pub hearingWith : ℕ → Receiver

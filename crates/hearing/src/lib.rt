@@ -7,17 +7,14 @@ ghost use Rattle.hearing.specs.Heard.{handed, handedOn, heardOf};
 use answers::Answer;
 use octets::all_zero;
 use octets::copy;
-use sizes::cipher::KEY_ROOM;
 use sizes::cipher::Scramble;
 use sizes::cipher::VECTOR_OCTETS;
 use voice::call::Call;
 use voice::call::RECEIVING;
 use voice::call::Stepped;
 use voice::call::TOLD;
-use voice::call::Terms;
-use voice::call::UNKNOWN;
 use voice::call::good_call;
-use voice::counts::Counts;
+use voice::call::no_call;
 use voice::vector::announce;
 
 // What is kept.
@@ -83,28 +80,13 @@ fn kept_right(hearing: Hearing) -> bool
 
 // ---- the call that it is
 
-// A struct that stands for no call.
+// A struct that stands for no call: there is no such end.
 fn bad_call() -> Call
     ensures { λ r. ⌜ r ≡ badCall ⌝ }
 {
-    Call {
-        end: 255,
-        terms: Terms {
-            cipher: 0,
-            key: [0; KEY_ROOM],
-            rate: 0,
-            strictness: 0,
-        },
-        position: 0,
-        known: UNKNOWN,
-        vector: [0; VECTOR_OCTETS],
-        counts: Counts {
-            opened: 0,
-            held: 0,
-            replaced: 0,
-            lost: 0,
-        },
-    }
+    let mut call = no_call();
+    call.end = 255;
+    call
 }
 
 pub fn call_of(hearing: Hearing) -> Call

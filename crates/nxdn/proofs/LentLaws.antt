@@ -10,23 +10,16 @@ use borrow.Author.Tests.{eq-eqb, ne-eqb, lt-ltb, le-ltb}
 use Rattle.octets.specs.Tests.{pick}
 use Rattle.answers.specs.declared.Answer.{Answer}
 use Rattle.answers.specs.Numbers.{numberOf, isDone}
+use Rattle.held.proofs.NumberLaws.{writes-four}
 use Rattle.nxdn.specs.Lent.{lentAfter, answered, outAfter, handedInto, onLent}
 
 -- ---- so many stores make a list
-
-pub four-stored : (xs : List ℕ) (p q r s : ℕ) → length xs ≡ 4 → set (set (set (set xs 0 p) 1 q) 2 r) 3 s ≡ p ∷ q ∷ r ∷ s ∷ []
-four-stored [] p q r s h = absurd (omega arith)
-four-stored (a ∷ []) p q r s h = absurd (omega arith)
-four-stored (a ∷ b ∷ []) p q r s h = absurd (omega arith)
-four-stored (a ∷ b ∷ c ∷ []) p q r s h = absurd (omega arith)
-four-stored (a ∷ b ∷ c ∷ d ∷ []) p q r s h = refl
-four-stored (a ∷ b ∷ c ∷ d ∷ e ∷ xs) p q r s h = absurd (omega arith)
 
 pub six-stored : (xs : List ℕ) (p q r s t u : ℕ) → length xs ≡ 6
     → set (set (set (set (set (set xs 0 p) 1 q) 2 r) 3 s) 4 t) 5 u ≡ p ∷ q ∷ r ∷ s ∷ t ∷ u ∷ []
 six-stored [] p q r s t u h = absurd (omega arith)
 six-stored (a ∷ []) p q r s t u h = absurd (omega arith)
-six-stored (a ∷ b ∷ xs) p q r s t u h = ap (λ (ys : List ℕ). p ∷ q ∷ ys) (four-stored xs r s t u (omega arith))
+six-stored (a ∷ b ∷ xs) p q r s t u h = ap (λ (ys : List ℕ). p ∷ q ∷ ys) (writes-four xs r s t u (omega arith))
 
 -- ---- what is handed out
 

@@ -46,7 +46,8 @@ abbrev pub askedStep : List ℕ → Asked → Hearing → Answer × (Hearing × 
 askedStep b (Of o) h = carried (λ c. callStep b c o) h
 askedStep b (Heard w) h = withNone (heardOf h w)
 
--- end is lent four numbers for its counts; a frame and the octets for a next vector are the operation's own to judge
+-- end is lent four numbers for its counts; a frame and the octets for a next vector are the operation's own to judge; what hands out nothing is lent [],
+-- as the contracts have it
 abbrev pub endFits : CallOperation → List ℕ → Bool
 endFits (Open c i r s w) lent = true
 endFits (Start c i r w) lent = true

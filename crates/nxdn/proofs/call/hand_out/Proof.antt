@@ -1,7 +1,8 @@
 -- `nxdn::call::hand_out` meets its contract.
 use mathlib.Core.Path.{sym, _∙_}
 use lib.ListN.{length-set}
-use Rattle.nxdn.proofs.LentLaws.{four-stored, out-done, out-not}
+use Rattle.held.proofs.NumberLaws.{writes-four}
+use Rattle.nxdn.proofs.LentLaws.{out-done, out-not}
 use borrow.Author.Needs.{needs}
 use Rattle.nxdn.proofs.call.hand_out.Statement.{statement}
 use Rattle.nxdn.proofs.call.hand_out.Tie as tie
@@ -17,4 +18,4 @@ hand-out-spec =
     (λ c. search needs)
     (λ c. simp length-set (search needs))
     (λ c. search needs)
-    (λ c. four-stored (c .before .before .before .before .args .counts .now) _ _ _ _ (c .before .before .before .before .pre) ∙ sym (out-done _ _ _ (sym (c .before .before .number .ensures) ∙ c .before .if1 .left))))
+    (λ c. writes-four (c .before .before .before .before .args .counts .now) _ _ _ _ (c .before .before .before .before .pre) ∙ sym (out-done _ _ _ (sym (c .before .before .number .ensures) ∙ c .before .if1 .left))))
