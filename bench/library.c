@@ -1,54 +1,25 @@
 /* What a function of the library costs: nanoseconds of a call to it, the least of five, and how deep the stack went below its caller. A voice slot stands
    beside the same by value in the proved code (crate timed), without octets to read and write.
    bench/library builds and runs it. */
-#include "nxdn.h"
-#include <stdio.h>
-#include <stdlib.h>
-#include <string.h>
+#include "library.h"
 #include <time.h>
-#include <ucontext.h>
 
 void timed_slots(const uint8_t *book, size_t book_len, uint8_t cipher, uint8_t id, uint8_t rate, const uint8_t *vector,
                  size_t vector_len, uint8_t *frame, size_t frame_len, size_t n);
 
-enum { TIMES = 4000, STEPS = 80, STACK = 1 << 18, PAINT = 0xA5 };
+enum { TIMES = 4000, STEPS = 80 };
 
-static uint8_t book[NXDN_BOOK], call[NXDN_CALL], packet[NXDN_PACKET], frame[NXDN_FRAME_FULL], message[22];
-static uint8_t vector[NXDN_VECTOR] = {0xAB, 0xCD, 0xEF, 0x12, 0x34, 0x56, 0x78, 0x90}, next[NXDN_VECTOR];
+static uint8_t packet[NXDN_PACKET], message[22], next[NXDN_VECTOR];
 static uint8_t shown[NXDN_SHOWN_KEY], shown_call[NXDN_SHOWN_CALL];
-static const uint8_t name[NXDN_NAME] = "WARD FOUR";
 static uint8_t steps[NXDN_STEP * STEPS], answers[STEPS];
-static uint32_t counts[4], night[4 * 1000];
+static uint32_t night[4 * 1000];
 static uint64_t sums[6];
-static uint8_t cipher, rate;
-static const char *ciphers[] = {"", "scramble", "DES", "AES"}, *rates[] = {"half", "full"};
-static const size_t key_octets[] = {0, 2, 8, 32}, frame_octets[] = {NXDN_FRAME_HALF, NXDN_FRAME_FULL};
-
-static void expect(uint8_t answer) {
-    if (answer != NXDN_DONE) {
-        fprintf(stderr, "bench/library: answer %d\n", answer);
-        exit(1);
-    }
-}
-
-static void load(void) {
-    static const uint8_t octets[8] = {0xAB, 0xCD, 0xEF, 0x01, 0x23, 0x45, 0x67, 0x89};
-    uint8_t key[NXDN_MOST_KEY];
-    for (size_t i = 0; i < sizeof key; i++) key[i] = octets[i % 8];
-    if (cipher == NXDN_SCRAMBLE) key[0] = 0x23;
-    expect(nxdn_begin(book, sizeof book, cipher, 5, name, sizeof name));
-    expect(nxdn_add(book, sizeof book, cipher, 5, key, key_octets[cipher]));
-    expect(nxdn_finish(book, sizeof book, cipher, 5));
-}
 
 /* ---- what is measured, each as it is called */
 
-static void an_open(void) { expect(nxdn_open(call, sizeof call, cipher, 5, rate, NXDN_HANDSET, vector, sizeof vector, book, sizeof book)); }
-static void a_voice(void) { expect(nxdn_voice(call, sizeof call, 15, frame, frame_octets[rate])); }
 static void a_lost(void) { expect(nxdn_lost(call, sizeof call)); }
 static void a_heard(void) { expect(nxdn_heard(call, sizeof call, vector, sizeof vector)); }
 static void a_show(void) { expect(nxdn_show(call, sizeof call, shown_call, sizeof shown_call)); }
-static void an_end(void) { expect(nxdn_end(call, sizeof call, counts, 4)); }
 static void a_start(void) { expect(nxdn_start(call, sizeof call, cipher, 5, rate, vector, sizeof vector, book, sizeof book)); }
 static void a_next(void) { expect(nxdn_next_vector(call, sizeof call, next, sizeof next)); }
 static void an_inventory(void) { expect(nxdn_inventory(book, sizeof book, 0, shown, sizeof shown)); }
@@ -65,31 +36,6 @@ static void a_batch(void) {
 static void slots_by_value(void) {
     timed_slots(book, sizeof book, cipher, 5, rate, vector, sizeof vector, frame, frame_octets[rate], TIMES);
 }
-
-/* ---- how deep: the function runs on a stack of its own, painted before */
-
-static uint8_t stack[STACK];
-static ucontext_t here, there;
-static void (*deep)(void);
-
-static void run_deep(void) { deep(); }
-static void nothing(void) {}
-
-static size_t painted_over(void (*f)(void)) {
-    size_t left = 0;
-    memset(stack, PAINT, sizeof stack);
-    getcontext(&there);
-    there.uc_stack.ss_sp = stack;
-    there.uc_stack.ss_size = sizeof stack;
-    there.uc_link = &here;
-    deep = f;
-    makecontext(&there, run_deep, 0);
-    swapcontext(&here, &there);
-    while (left < sizeof stack && stack[left] == PAINT) left++;
-    return sizeof stack - left;
-}
-
-static size_t depth(void (*f)(void)) { return painted_over(f) - painted_over(nothing); }
 
 /* ---- how long */
 

@@ -1,5 +1,5 @@
 -- Lists of bits: what is made of bits is bits, how long it is, and what stands at a place.
-use mathlib.Core.Path.{_≡_, refl, sym, _∙_}
+use mathlib.Core.Path.{_≡_, refl, sym, ap, _∙_}
 use mathlib.Core.List.{List, [], _∷_, _++_}
 use Prim.Native.Nat.{ℕ, zero, suc, _+_, _-_, _*_, _/_, _%_, _^_, _<_}
 use native.Mathlib.Nat.{le-of-suc-le-suc, not-suc-le-zero}
@@ -7,7 +7,7 @@ use native.Mathlib.Decide.{decLt}
 use native.Mathlib.Omega.{arith}
 use lib.Bits.{bitXor}
 use lib.ListN.{length, getD, take, drop, length-map, List·getD-eq-default}
-use lib.Seq.{getD-drop}
+use lib.Seq.{getD-drop, ext-getD}
 use Rattle.octets.specs.Lists.{tab}
 use Rattle.octets.specs.Bits.{bit, flip, Bits}
 use Rattle.octets.proofs.ListLaws.{length-tab, getD-tab}
@@ -60,6 +60,18 @@ pub bits-permuted : (t l : List ℕ) → BitList l → BitList (permuted t l)
 unfolding permuted
 bits-permuted [] l b k = omega arith
 bits-permuted (x ∷ t) l b k = bits-cons _ (permuted t l) (b (x - 1)) (bits-permuted t l b) k
+
+pub permuted-append : (t u l : List ℕ) → permuted (t ++ u) l ≡ permuted t l ++ permuted u l
+unfolding permuted
+permuted-append [] u l = refl
+permuted-append (x ∷ t) u l = ap (λ (r : List ℕ). getD l (x - 1) 0 ∷ r) (permuted-append t u l)
+
+pub permuted-same : (t a b : List ℕ) → ((i : ℕ) → i < length t → getD a (getD t i 0 - 1) 0 ≡ getD b (getD t i 0 - 1) 0) → permuted t a ≡ permuted t b
+permuted-same t a b same =
+    ext-getD 0 (permuted t a) (permuted t b) (length-permuted t a ∙ sym (length-permuted t b))
+    (λ i h.
+    let inside : i < length t = omega (arith, length-permuted t a) in
+    getD-permuted t a i inside ∙ same i inside ∙ sym (getD-permuted t b i inside))
 
 -- added
 pub length-xor : (a b : List ℕ) → length (xorBits a b) ≡ length a

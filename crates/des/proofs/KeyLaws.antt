@@ -1,124 +1,155 @@
--- The key schedule: what the shifts do, and the round keys one after the other.
-use mathlib.Core.Path.{_≡_, sym, ap, _∙_}
-use mathlib.Core.List.{List, _++_}
-use Prim.Native.Nat.{ℕ, zero, suc, _+_, _-_, _*_, _/_, _%_, _≤_, _<_}
-use native.Mathlib.Decide.{decLt}
+-- The key schedule: shifts compose, a half that stands twice over has each of its shifts in it, so each round's C and D stand in what its key is read from.
+use mathlib.Core.Path.{_≡_, refl, sym, ap, ap₂, _∙_}
+use mathlib.Core.List.{List, _++_, append-assoc, append-nil}
+use Prim.Native.Nat.{ℕ, zero, suc, _+_, _-_, _≤_, _<_}
 use native.Mathlib.Omega.{arith}
-use borrow.Rule.Slice.PartMut.{putMid}
-use lib.ListN.{length, getD, take, drop, length-append, length-drop, List·getD-append}
-use lib.Seq.{getD-append-add, getD-drop, getD-take, length-take-le, ext-getD}
-use Rattle.octets.proofs.Front.{Front, front-to, front-part}
+use lib.Dec.{leb}
+use lib.ListN.{length, getD, take, drop, length-append, length-drop, take-append-drop, List·getD-append}
+use lib.Seq.{getD-append-add, getD-drop, length-take-le, drop-append-le, take-append-le, drop-drop, take-add, take-at, drop-at}
+use borrow.Author.Tests.{leb-true}
+use Rattle.octets.specs.Tests.{allBelow}
+use Rattle.octets.proofs.TestLaws.{all-at}
 use Rattle.octets.proofs.ListLaws.{length-tab, getD-tab}
 use Rattle.des.specs.Tables.{PC-1, PC-2, leftShifts}
-use Rattle.des.specs.Des.{rotated, keyState, roundKey}
-use Rattle.des.specs.Prepared.{roundKeys}
+use Rattle.des.specs.Des.{permuted, rotated, keyState, roundKey}
+use Rattle.des.specs.Prepared.{cOf, dOf, shiftsTo, shiftSums, scheduleOf}
 use Rattle.des.proofs.BitLists.{BitList, bits-append, bits-take, bits-drop, bits-permuted, length-permuted}
 
 -- ---- shifts
 
-module _ (s : ℕ) (l : List ℕ) (small : s ≤ 28) (long : length l ≡ 28) where
-  length-rotated : length (rotated s l) ≡ 28
+rotated-none : (l : List ℕ) → rotated 0 l ≡ l
+unfolding rotated
+rotated-none l = append-nil l
+
+module _ (s : ℕ) (l : List ℕ) (small : s ≤ length l) where
+  pub length-rotated : length (rotated s l) ≡ length l
   unfolding rotated
-  length-rotated = length-append (drop s l) (take s l) ∙ omega (arith, length-drop s l, length-take-le s l (omega arith))
+  length-rotated = length-append (drop s l) (take s l) ∙ omega (arith, length-drop s l, length-take-le s l small)
 
-  getD-rotated : (i : ℕ) → i < 28 → getD (rotated s l) i 0 ≡ getD l ((i + s) % 28) 0
+  -- a list twice over, from place s on, begins with the list shifted by s
+  pub around : (j : ℕ) → j < length l → getD (l ++ l) (s + j) 0 ≡ getD (rotated s l) j 0
   unfolding rotated
-  getD-rotated i h = go (decLt (i + s) 28)
-    where
-      go : Dec (i + s < 28) → getD (drop s l ++ take s l) i 0 ≡ getD l ((i + s) % 28) 0
-      go (yes b) =
-          List·getD-append (drop s l) (take s l) 0 i (omega (arith, length-drop s l))
-          ∙ getD-drop s l i 0
-          ∙ ap (λ (k : ℕ). getD l k 0) (omega arith)
-      go (no b) =
-          ap (λ (k : ℕ). getD (drop s l ++ take s l) k 0) (omega (arith, length-drop s l))
-          ∙ getD-append-add (drop s l) (take s l) (i + s - 28) 0
-          ∙ getD-take s l (i + s - 28) 0 (omega arith)
-          ∙ ap (λ (k : ℕ). getD l k 0) (omega arith)
+  around j h =
+      sym (getD-drop s (l ++ l) j 0)
+      ∙ ap (λ (x : List ℕ). getD x j 0)
+      (drop-append-le s l l small ∙ ap (λ (x : List ℕ). drop s l ++ x) (sym (take-append-drop s l)) ∙ sym (append-assoc (drop s l) (take s l) (drop s l)))
+      ∙ List·getD-append (rotated s l) (drop s l) 0 j (omega (arith, length-rotated))
 
--- both halves shifted
-abbrev pub shifted : ℕ → List ℕ → List ℕ
-shifted s l = rotated s (take 28 l) ++ rotated s (drop 28 l)
+-- shifts compose, up to once around
+pub shifts-compose : (a b : ℕ) (l : List ℕ) → a + b ≤ length l → rotated b (rotated a l) ≡ rotated (a + b) l
+unfolding rotated
+shifts-compose a b l h =
+    let short : b ≤ length (drop a l) = omega (arith, length-drop a l) in
+    ap₂ _++_ (drop-append-le b (drop a l) (take a l) short ∙ ap (λ (x : List ℕ). x ++ take a l) (drop-drop b a l)) (take-append-le b (drop a l) (take a l) short)
+    ∙ append-assoc (drop (a + b) l) (take a l) (take b (drop a l))
+    ∙ ap (λ (x : List ℕ). drop (a + b) l ++ x) (sym (take-add a b l))
 
-module _ (s : ℕ) (l : List ℕ) (small : s ≤ 28) (long : length l ≡ 56) where
-  c-long : length (take 28 l) ≡ 28
-  c-long = length-take-le 28 l (omega arith)
+-- ---- C and D after each round
 
-  d-long : length (drop 28 l) ≡ 28
-  d-long = length-drop 28 l ∙ omega arith
+-- in sixteen rounds they go around once, and never further
+pub shifts-within : (n : ℕ) → n ≤ 16 → shiftsTo n ≤ 28
+unfolding allBelow shiftsTo leftShifts
+shifts-within n h = leb-true (shiftsTo n) 28 (all-at (λ k. leb (shiftsTo k) 28) 17 n (omega arith) refl)
 
-  pub length-shifted : length (shifted s l) ≡ 56
-  length-shifted =
-      length-append (rotated s (take 28 l)) (rotated s (drop 28 l))
-      ∙ omega (arith, length-rotated s (take 28 l) small c-long, length-rotated s (drop 28 l) small d-long)
+pub length-sums : length shiftSums ≡ 16
+unfolding shiftSums
+length-sums = length-tab _ 16
 
-  pub getD-shifted : (i : ℕ) → i < 56 → getD l (28 * (i / 28) + (i + s) % 28) 0 ≡ getD (shifted s l) i 0
-  getD-shifted i h = sym (go (decLt i 28))
-    where
-      first : length (rotated s (take 28 l)) ≡ 28
-      first = length-rotated s (take 28 l) small c-long
+module _ (key : List ℕ) where
+  abbrev c : List ℕ
+  c = cOf key
 
-      go : Dec (i < 28) → getD (shifted s l) i 0 ≡ getD l (28 * (i / 28) + (i + s) % 28) 0
-      go (yes b) =
-          List·getD-append (rotated s (take 28 l)) (rotated s (drop 28 l)) 0 i (omega (arith, first))
-          ∙ getD-rotated s (take 28 l) small c-long i b
-          ∙ getD-take 28 l ((i + s) % 28) 0 (omega arith)
-          ∙ ap (λ (k : ℕ). getD l k 0) (omega arith)
-      go (no b) =
-          ap (λ (k : ℕ). getD (shifted s l) k 0) (omega (arith, first))
-          ∙ getD-append-add (rotated s (take 28 l)) (rotated s (drop 28 l)) (i - 28) 0
-          ∙ getD-rotated s (drop 28 l) small d-long (i - 28) (omega arith)
-          ∙ getD-drop 28 l ((i - 28 + s) % 28) 0
-          ∙ ap (λ (k : ℕ). getD l k 0) (omega arith)
+  abbrev d : List ℕ
+  d = dOf key
 
--- ---- the round keys
+  both : length (permuted PC-1 key) ≡ 56
+  unfolding PC-1
+  both = length-permuted PC-1 key
 
-pub length-roundKey : (key : List ℕ) (n : ℕ) → length (roundKey key n) ≡ 48
-unfolding roundKey PC-2
-length-roundKey key n = length-permuted PC-2 (keyState key (suc n))
+  pub length-c : length c ≡ 28
+  length-c = length-take-le 28 (permuted PC-1 key) (omega (arith, both))
 
-pub length-roundKeys : (key : List ℕ) → length (roundKeys key) ≡ 768
-unfolding roundKeys
-length-roundKeys key = length-tab _ 768
+  pub length-d : length d ≡ 28
+  length-d = length-drop 28 (permuted PC-1 key) ∙ omega (arith, both)
 
-pub getD-roundKeys : (key : List ℕ) (n r : ℕ) → n < 16 → r < 48 → getD (roundKeys key) (48 * n + r) 0 ≡ getD (roundKey key n) r 0
-unfolding roundKeys
-getD-roundKeys key n r h b =
-    let q : (48 * n + r) / 48 ≡ n = omega arith in
-    let m : (48 * n + r) % 48 ≡ r = omega arith in
-    getD-tab (λ k. getD (roundKey key (k / 48)) (k % 48) 0) 768 (48 * n + r) (omega arith) ∙ rw (q, m)
+  pub state-shifted : (n : ℕ) → n ≤ 16 → keyState key n ≡ rotated (shiftsTo n) c ++ rotated (shiftsTo n) d
+  unfolding keyState shiftsTo
+  state-shifted zero h = sym (ap₂ _++_ (rotated-none c) (rotated-none d) ∙ take-append-drop 28 (permuted PC-1 key))
+  state-shifted (suc n) h =
+      let s = getD leftShifts n 0 in
+      let before = state-shifted n (omega arith) in
+      let small : shiftsTo n + s ≤ 28 = shifts-within (suc n) h in
+      let x = rotated (shiftsTo n) c in
+      let y = rotated (shiftsTo n) d in
+      let long : length x ≡ 28 = length-rotated (shiftsTo n) c (omega (arith, length-c)) ∙ length-c in
+      ap₂ (λ (u v : List ℕ). rotated s u ++ rotated s v) (ap (take 28) before ∙ take-at x y 28 long) (ap (drop 28) before ∙ drop-at x y 28 long)
+      ∙ ap₂ _++_ (shifts-compose (shiftsTo n) s c (omega (arith, length-c))) (shifts-compose (shiftsTo n) s d (omega (arith, length-d)))
 
--- round n's key, put after those before it
-pub key-put : (key d₀ d p : List ℕ) (n : ℕ) → Front (roundKeys key) d₀ d (48 * n) → n < 16 → p ≡ roundKey key n
-    → Front (roundKeys key) d₀ (putMid (48 * n) (48 * n + 48 - 48 * n) d p) (48 * (n + 1))
-key-put key d₀ d p n f h e =
-    front-to (roundKeys key) d₀ _ (48 * n + 48) (48 * (n + 1)) (omega arith)
-    (front-part (roundKeys key) d₀ d p (48 * n) (48 * n + 48 - 48 * n) 48 f (omega arith) (ap length e ∙ length-roundKey key n) (omega (arith, length-roundKeys key))
-    (λ r b. ap (λ (x : List ℕ). getD x r 0) e ∙ sym (getD-roundKeys key n r h b)))
+  -- ---- and where they stand in what the keys of the rounds are read from
+
+  pub length-cc : length (c ++ c) ≡ 56
+  length-cc = length-append c c ∙ omega (arith, length-c)
+
+  pub length-dd : length (d ++ d) ≡ 56
+  length-dd = length-append d d ∙ omega (arith, length-d)
+
+  pub length-schedule : length (scheduleOf key) ≡ 128
+  unfolding scheduleOf
+  length-schedule = length-append (c ++ c) ((d ++ d) ++ shiftSums) ∙ omega (arith, length-cc, length-append (d ++ d) shiftSums, length-dd, length-sums)
+
+  module _ (n : ℕ) (h : n < 16) where
+    abbrev s : ℕ
+    s = shiftsTo (suc n)
+
+    pub sum-at : getD (scheduleOf key) (112 + n) 0 ≡ s
+    unfolding scheduleOf shiftSums
+    sum-at =
+        ap (λ (k : ℕ). getD (scheduleOf key) k 0) (omega (arith, length-cc, length-dd))
+        ∙ getD-append-add (c ++ c) ((d ++ d) ++ shiftSums) (length (d ++ d) + n) 0
+        ∙ getD-append-add (d ++ d) shiftSums n 0
+        ∙ getD-tab (λ k. shiftsTo (suc k)) 16 n h
+
+    small : s ≤ 28
+    small = shifts-within (suc n) h
+
+    long-c : length (rotated s c) ≡ 28
+    long-c = length-rotated s c (omega (arith, small, length-c)) ∙ length-c
+
+    pub c-at : (j : ℕ) → j < 28 → getD (scheduleOf key) (s + j) 0 ≡ getD (keyState key (suc n)) j 0
+    unfolding scheduleOf
+    c-at j b =
+        List·getD-append (c ++ c) ((d ++ d) ++ shiftSums) 0 (s + j) (omega (arith, small, length-cc))
+        ∙ around s c (omega (arith, small, length-c)) j (omega (arith, length-c))
+        ∙ sym (List·getD-append (rotated s c) (rotated s d) 0 j (omega (arith, long-c)))
+        ∙ ap (λ (x : List ℕ). getD x j 0) (sym (state-shifted (suc n) h))
+
+    -- D's places are 28 and more, and it stands 28 further on
+    pub d-at : (j : ℕ) → 28 ≤ j → j < 56 → getD (scheduleOf key) (s + 28 + j) 0 ≡ getD (keyState key (suc n)) j 0
+    unfolding scheduleOf
+    d-at j a b =
+        ap (λ (k : ℕ). getD (scheduleOf key) k 0) (omega (arith, length-cc))
+        ∙ getD-append-add (c ++ c) ((d ++ d) ++ shiftSums) (s + (j - 28)) 0
+        ∙ List·getD-append (d ++ d) shiftSums 0 (s + (j - 28)) (omega (arith, small, length-dd))
+        ∙ around s d (omega (arith, small, length-d)) (j - 28) (omega (arith, length-d))
+        ∙ sym (getD-append-add (rotated s c) (rotated s d) (j - 28) 0)
+        ∙ ap (λ (k : ℕ). getD (rotated s c ++ rotated s d) k 0) (omega (arith, long-c))
+        ∙ ap (λ (x : List ℕ). getD x j 0) (sym (state-shifted (suc n) h))
+
+-- ---- the keys
 
 bits-rotated : (s : ℕ) (l : List ℕ) → BitList l → BitList (rotated s l)
 unfolding rotated
 bits-rotated s l b = bits-append (drop s l) (take s l) (bits-drop s l b) (bits-take s l b)
 
-bits-shifted : (s : ℕ) (l : List ℕ) → BitList l → BitList (shifted s l)
-bits-shifted s l b =
-    bits-append (rotated s (take 28 l)) (rotated s (drop 28 l)) (bits-rotated s (take 28 l) (bits-take 28 l b)) (bits-rotated s (drop 28 l) (bits-drop 28 l b))
-
 bits-state : (key : List ℕ) (n : ℕ) → BitList key → BitList (keyState key n)
 unfolding keyState
 bits-state key zero b = bits-permuted PC-1 key b
-bits-state key (suc n) b = bits-shifted (getD leftShifts n 0) (keyState key n) (bits-state key n b)
+bits-state key (suc n) b =
+    let s = getD leftShifts n 0 in
+    let cd = keyState key n in
+    bits-append (rotated s (take 28 cd)) (rotated s (drop 28 cd)) (bits-rotated s (take 28 cd) (bits-take 28 cd (bits-state key n b)))
+    (bits-rotated s (drop 28 cd) (bits-drop 28 cd (bits-state key n b)))
 
 pub bits-roundKey : (key : List ℕ) (n : ℕ) → BitList key → BitList (roundKey key n)
 unfolding roundKey
 bits-roundKey key n b = bits-permuted PC-2 (keyState key (suc n)) (bits-state key (suc n) b)
-
--- ---- round n's key among them
-
-pub key-among : (key : List ℕ) (n : ℕ) → n < 16 → take 48 (drop (48 * n) (roundKeys key)) ≡ roundKey key n
-key-among key n h =
-    let l = length-take-le 48 (drop (48 * n) (roundKeys key)) (omega (arith, length-drop (48 * n) (roundKeys key), length-roundKeys key)) in
-    ext-getD 0 (take 48 (drop (48 * n) (roundKeys key))) (roundKey key n) (l ∙ sym (length-roundKey key n))
-    (λ r b.
-    let small : r < 48 = omega arith in
-    getD-take 48 (drop (48 * n) (roundKeys key)) r 0 small ∙ getD-drop (48 * n) (roundKeys key) r 0 ∙ getD-roundKeys key n r h small)

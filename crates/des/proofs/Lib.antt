@@ -1,9 +1,10 @@
 pub mod BitLists
 pub mod PlaceLaws
 pub mod TableLaws
+pub mod TableRules
 pub mod KeyLaws
 pub mod PreparedLaws
+pub mod RoundKeyLaws
 pub mod RoundLaws
 pub mod DesLaws
-pub mod TableRules
 pub mod WorkedBlocks

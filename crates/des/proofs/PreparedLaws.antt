@@ -1,93 +1,118 @@
--- A prepared key: its size, where the code looks for a round's key, and how `prepare` puts it together.
+-- A prepared key: its size, and how `prepare` puts it together.
 use mathlib.Core.Path.{_≡_, sym, ap, _∙_}
 use mathlib.Core.List.{List, _++_, append-assoc}
-use Prim.Native.Nat.{ℕ, _+_, _-_, _*_, _≤_, _<_}
-use native.Mathlib.Nat.{add-sub-cancel-left}
+use Prim.Native.Nat.{ℕ, _+_, _≤_}
 use native.Mathlib.Omega.{arith}
 use borrow.Rule.Slice.PartMut.{putMid}
-use lib.ListN.{length, take, drop, length-append, length-drop}
-use lib.Seq.{take-all, take-at, drop-at, drop-append-add, length-take-le}
+use lib.ListN.{length, getD, take, drop, length-append, length-drop}
+use lib.Seq.{getD-drop, take-all, take-at, drop-at, drop-drop, length-take-le}
 use Rattle.octets.specs.Lists.{tab}
 use Rattle.octets.specs.Bits.{bit}
 use Rattle.octets.proofs.Front.{Front, front-start, front-done, front-piece}
-use Rattle.des.specs.Prepared.{cipherTables, roundKeys, keyOf, keysOf, Prepared}
-use Rattle.des.proofs.BitLists.{BitList, bits-of}
-use Rattle.des.proofs.KeyLaws.{length-roundKey, length-roundKeys, bits-roundKey, key-among}
+use Rattle.des.specs.Tables.{PC-1}
+use Rattle.des.specs.Des.{permuted}
+use Rattle.des.specs.Prepared.{cipherTables, cOf, dOf, shiftSums, scheduleOf, keyOf, Prepared}
+use Rattle.des.proofs.KeyLaws.{length-d, length-cc, length-dd, length-sums, length-schedule}
 use Rattle.des.proofs.TableLaws.{length-cipherTables}
 
--- behind the tables and the key, m octets further on
-past : (a b c : List ℕ) (n m : ℕ) → length a + length b ≡ n → drop (n + m) (a ++ (b ++ c)) ≡ drop m c
-past a b c n m l =
-    ap (drop (n + m)) (sym (append-assoc a b c))
-    ∙ ap (λ (k : ℕ). drop (k + m) (a ++ b ++ c)) (sym (length-append a b ∙ l))
-    ∙ drop-append-add (a ++ b) c m
+-- behind two parts
+behind : (a b rest : List ℕ) (n : ℕ) → length a + length b ≡ n → drop n (a ++ (b ++ rest)) ≡ rest
+behind a b rest n l = ap (drop n) (sym (append-assoc a b rest)) ∙ drop-at (a ++ b) rest n (length-append a b ∙ l)
 
 module _ (p : List ℕ) (w : Prepared p) where
-  abbrev keys : List ℕ
-  keys = roundKeys (tab (bit (keyOf p)) 64)
+  abbrev key : List ℕ
+  key = tab (bit (keyOf p)) 64
 
-  sum : length p ≡ 1488 + length (keyOf p)
+  sum : length p ≡ 896 + length (keyOf p)
   sum =
-      ap length (w .parts) ∙ length-append cipherTables (keyOf p ++ keys)
-      ∙ omega (arith, length-cipherTables, length-append (keyOf p) keys, length-roundKeys (tab (bit (keyOf p)) 64))
+      ap length (w .parts) ∙ length-append cipherTables (keyOf p ++ scheduleOf key)
+      ∙ omega (arith, length-cipherTables, length-append (keyOf p) (scheduleOf key), length-schedule key)
 
   key-long : length (keyOf p) ≡ 8
   unfolding keyOf
-  key-long = length-take-le 8 (drop 720 p) (omega (arith, length-drop 720 p, sum))
+  key-long = length-take-le 8 (drop 768 p) (omega (arith, length-drop 768 p, sum))
 
-  -- no part ends past the last round key
-  pub within : {e : ℕ} → e ≤ 1496 → e ≤ length p
-  within h = omega (arith, sum, key-long)
+  pub length-prepared : length p ≡ 904
+  length-prepared = omega (arith, sum, key-long)
 
-  module _ (n : ℕ) (h : n < 16) where
-    -- as the code lends it
-    pub key-part : take (728 + 48 * n + 48 - (728 + 48 * n)) (drop (728 + 48 * n) p) ≡ keysOf p n
-    key-part =
-        ap (λ (k : ℕ). take k (drop (728 + 48 * n) p)) (add-sub-cancel-left (728 + 48 * n) 48)
-        ∙ ap (λ (x : List ℕ). take 48 (drop (728 + 48 * n) x)) (w .parts)
-        ∙ ap (take 48) (past cipherTables (keyOf p) keys 728 (48 * n) (omega (arith, length-cipherTables, key-long)))
-        ∙ key-among (tab (bit (keyOf p)) 64) n h
+  -- no part ends past the last sum
+  pub within : {e : ℕ} → e ≤ 904 → e ≤ length p
+  within h = omega (arith, length-prepared)
 
-    pub length-key : length (keysOf p n) ≡ 48
-    length-key = length-roundKey (tab (bit (keyOf p)) 64) n
+  -- what the keys of the rounds are read from stands behind the key
+  pub in-schedule : (m : ℕ) → getD p (776 + m) 0 ≡ getD (scheduleOf key) m 0
+  in-schedule m =
+      sym (getD-drop 776 p m 0)
+      ∙ ap (λ (x : List ℕ). getD x m 0) (ap (drop 776) (w .parts) ∙ behind cipherTables (keyOf p) (scheduleOf key) 776 (omega (arith, length-cipherTables, key-long)))
 
-    pub bits-key : BitList (keysOf p n)
-    bits-key = bits-roundKey (tab (bit (keyOf p)) 64) n (bits-of (keyOf p) 64)
+-- ---- the tables, a key and what its rounds' keys are read from, put one after the other
 
--- the tables, a key and its round keys, put one after the other
-module _ (d key : List ℕ) (long : length d ≡ 1496) (key-long : length key ≡ 8) where
+module _ (d key : List ℕ) (long : length d ≡ 904) (key-long : length key ≡ 8) where
   abbrev own : List ℕ
-  own = roundKeys (tab (bit key) 64)
+  own = scheduleOf (tab (bit key) 64)
 
   abbrev all : List ℕ
   all = cipherTables ++ (key ++ own)
 
-  pub all-long : length all ≡ 1496
+  pub all-long : length all ≡ 904
   all-long =
       length-append cipherTables (key ++ own)
-      ∙ omega (arith, length-cipherTables, length-append key own, length-roundKeys (tab (bit key) 64))
+      ∙ omega (arith, length-cipherTables, length-append key own, length-schedule (tab (bit key) 64))
 
-  put : (t x : List ℕ) (i n : ℕ) → Front all d t i → i + n ≤ 1496 → x ≡ take n (drop i all) → Front all d (putMid i n t x) (i + n)
+  put : (t x : List ℕ) (i n : ℕ) → Front all d t i → i + n ≤ 904 → x ≡ take n (drop i all) → Front all d (putMid i n t x) (i + n)
   put t x i n f h e = front-piece all d t x i n f (omega (arith, all-long)) e
 
-  key-stands : take 8 (drop 720 all) ≡ key
-  key-stands = ap (take 8) (drop-at cipherTables (key ++ own) 720 length-cipherTables) ∙ take-at key own 8 key-long
+  key-stands : take 8 (drop 768 all) ≡ key
+  key-stands = ap (take 8) (drop-at cipherTables (key ++ own) 768 length-cipherTables) ∙ take-at key own 8 key-long
 
-  keys-stand : take 768 (drop 728 all) ≡ own
-  keys-stand = ap (take 768) (past cipherTables key own 728 0 (omega (arith, length-cipherTables))) ∙ take-all 768 own (omega (arith, length-roundKeys (tab (bit key) 64)))
+  abbrev cc : List ℕ
+  cc = cOf (tab (bit key) 64) ++ cOf (tab (bit key) 64)
+
+  abbrev dd : List ℕ
+  dd = dOf (tab (bit key) 64) ++ dOf (tab (bit key) 64)
+
+  from-c : drop 776 all ≡ cc ++ (dd ++ shiftSums)
+  unfolding scheduleOf
+  from-c = behind cipherTables key own 776 (omega (arith, length-cipherTables))
+
+  from-d : drop 832 all ≡ dd ++ shiftSums
+  from-d = sym (drop-drop 56 776 all) ∙ ap (drop 56) from-c ∙ drop-at cc (dd ++ shiftSums) 56 (length-cc (tab (bit key) 64))
+
+  from-sums : drop 888 all ≡ shiftSums
+  from-sums = sym (drop-drop 56 832 all) ∙ ap (drop 56) from-d ∙ drop-at dd shiftSums 56 (length-dd (tab (bit key) 64))
+
+  -- as the code takes them from C and D
+  module _ (cd : List ℕ) (is-cd : cd ≡ permuted PC-1 (tab (bit key) 64)) where
+    pub twice-c : (x : List ℕ) → x ≡ take 28 cd ++ take 28 cd → x ≡ cc
+    twice-c x e = e ∙ ap (λ (l : List ℕ). take 28 l ++ take 28 l) is-cd
+
+    pub twice-d : (y : List ℕ) → y ≡ take 28 (drop 28 cd) ++ take 28 (drop 28 cd) → y ≡ dd
+    twice-d y e =
+        e ∙ ap (λ (l : List ℕ). take 28 (drop 28 l) ++ take 28 (drop 28 l)) is-cd
+        ∙ ap (λ (l : List ℕ). l ++ l) (take-all 28 (dOf (tab (bit key) 64)) (omega (arith, length-d (tab (bit key) 64))))
 
   module _ (t : List ℕ) (is-t : t ≡ cipherTables) where
-    pub put-t : Front all d (putMid 0 720 d t) 720
-    put-t = put d t 0 720 (front-start all d (long ∙ sym all-long)) (omega arith) (is-t ∙ sym (take-at cipherTables (key ++ own) 720 length-cipherTables))
+    pub put-t : Front all d (putMid 0 768 d t) 768
+    put-t = put d t 0 768 (front-start all d (long ∙ sym all-long)) (omega arith) (is-t ∙ sym (take-at cipherTables (key ++ own) 768 length-cipherTables))
 
     module _ (k : List ℕ) (is-k : k ≡ key) where
-      pub put-k : Front all d (putMid 720 8 (putMid 0 720 d t) k) 728
-      put-k = put (putMid 0 720 d t) k 720 8 put-t (omega arith) (is-k ∙ sym key-stands)
+      pub put-k : Front all d (putMid 768 8 (putMid 0 768 d t) k) 776
+      put-k = put (putMid 0 768 d t) k 768 8 put-t (omega arith) (is-k ∙ sym key-stands)
 
-      pub put-all : (r : List ℕ) → r ≡ own → (x : List ℕ) → x ≡ putMid 728 768 (putMid 720 8 (putMid 0 720 d t) k) r → Prepared x × (keyOf x ≡ key)
-      unfolding keyOf
-      put-all r is-r x is-x =
-          let e : x ≡ all =
-          is-x ∙ front-done all d _ 1496 (put (putMid 720 8 (putMid 0 720 d t) k) r 728 768 put-k (omega arith) (is-r ∙ sym keys-stand)) (omega (arith, all-long)) in
-          let f : keyOf x ≡ key = ap (λ (y : List ℕ). take 8 (drop 720 y)) e ∙ key-stands in
-          (record { parts = rw f e }, f)
+      module _ (x : List ℕ) (is-x : x ≡ cc) where
+        pub put-c : Front all d (putMid 776 56 (putMid 768 8 (putMid 0 768 d t) k) x) 832
+        put-c = put (putMid 768 8 (putMid 0 768 d t) k) x 776 56 put-k (omega arith) (is-x ∙ sym (ap (take 56) from-c ∙ take-at cc (dd ++ shiftSums) 56 (length-cc (tab (bit key) 64))))
+
+        module _ (y : List ℕ) (is-y : y ≡ dd) where
+          pub put-d : Front all d (putMid 832 56 (putMid 776 56 (putMid 768 8 (putMid 0 768 d t) k) x) y) 888
+          put-d = put (putMid 776 56 (putMid 768 8 (putMid 0 768 d t) k) x) y 832 56 put-c (omega arith) (is-y ∙ sym (ap (take 56) from-d ∙ take-at dd shiftSums 56 (length-dd (tab (bit key) 64))))
+
+          pub put-all : (z : List ℕ) → z ≡ shiftSums → (r : List ℕ) → r ≡ putMid 888 16 (putMid 832 56 (putMid 776 56 (putMid 768 8 (putMid 0 768 d t) k) x) y) z
+              → Prepared r × (keyOf r ≡ key)
+          unfolding keyOf
+          put-all z is-z r is-r =
+              let e : r ≡ all =
+              is-r ∙ front-done all d _ 904 (put (putMid 832 56 (putMid 776 56 (putMid 768 8 (putMid 0 768 d t) k) x) y) z 888 16 put-d (omega arith)
+              (is-z ∙ sym (ap (take 16) from-sums ∙ take-all 16 shiftSums (omega (arith, length-sums))))) (omega (arith, all-long)) in
+              let f : keyOf r ≡ key = ap (λ (l : List ℕ). take 8 (drop 768 l)) e ∙ key-stands in
+              (record { parts = rw f e }, f)

@@ -6,15 +6,15 @@ use native.Mathlib.Omega.{arith}
 use borrow.Rule.Slice.PartMut.{putMid}
 use lib.ListN.{length, take, drop}
 use Rattle.octets.proofs.Front.{Front, front-start, front-done, front-piece}
-use Rattle.des.specs.Tables.{IP, IP⁻¹, E, P, S}
+use Rattle.des.specs.Tables.{IP, IP⁻¹, E, P, PC-2, S}
 use Rattle.des.specs.Prepared.{cipherTables}
 
 pub length-boxes : length S ≡ 512
 unfolding S
 length-boxes = refl
 
-pub length-cipherTables : length cipherTables ≡ 720
-unfolding cipherTables IP E P S IP⁻¹
+pub length-cipherTables : length cipherTables ≡ 768
+unfolding cipherTables IP E P S IP⁻¹ PC-2
 length-cipherTables = refl
 
 -- where each is looked for, in a list that begins with them
@@ -39,30 +39,34 @@ module _ (t rest : List ℕ) (e : t ≡ cipherTables ++ rest) where
   unfolding cipherTables IP E P S IP⁻¹
   inverse-part = rw e
 
+  choice-part : take 48 (drop 720 t) ≡ PC-2
+  unfolding cipherTables IP E P S IP⁻¹ PC-2
+  choice-part = rw e
+
+  pub c-part : take 24 (drop 720 t) ≡ take 24 PC-2
+  unfolding cipherTables IP E P S IP⁻¹ PC-2
+  c-part = rw e
+
+  pub d-part : take 24 (drop 744 t) ≡ drop 24 PC-2
+  unfolding cipherTables IP E P S IP⁻¹ PC-2
+  d-part = rw e
+
 -- where each is put
 tables-alone : cipherTables ≡ cipherTables ++ []
 tables-alone = sym (append-nil cipherTables)
 
-put : (d t p : List ℕ) (i n : ℕ) → Front cipherTables d t i → i + n ≤ 720 → p ≡ take n (drop i cipherTables) → Front cipherTables d (putMid i n t p) (i + n)
-put d t p i n f h e = front-piece cipherTables d t p i n f (omega (arith, length-cipherTables)) e
+module _ (d ip e p s inverse choice : List ℕ) (long : length d ≡ 768) (is-ip : ip ≡ IP) (is-e : e ≡ E) (is-p : p ≡ P) (is-s : s ≡ S) (is-inverse : inverse ≡ IP⁻¹)
+    (is-choice : choice ≡ PC-2) where
+  put : (t x : List ℕ) (i n : ℕ) → Front cipherTables d t i → i + n ≤ 768 → x ≡ take n (drop i cipherTables) → Front cipherTables d (putMid i n t x) (i + n)
+  put t x i n f h q = front-piece cipherTables d t x i n f (omega (arith, length-cipherTables)) q
 
-module _ (d ip : List ℕ) (long : length d ≡ 720) (is-ip : ip ≡ IP) where
-  pub put-ip : Front cipherTables d (putMid 0 64 d ip) 64
-  put-ip = put d d ip 0 64 (front-start cipherTables d (long ∙ sym length-cipherTables)) (omega arith) (is-ip ∙ sym (ip-part cipherTables [] tables-alone))
-
-  module _ (e : List ℕ) (is-e : e ≡ E) where
-    pub put-e : Front cipherTables d (putMid 64 48 (putMid 0 64 d ip) e) 112
-    put-e = put d (putMid 0 64 d ip) e 64 48 put-ip (omega arith) (is-e ∙ sym (e-part cipherTables [] tables-alone))
-
-    module _ (p : List ℕ) (is-p : p ≡ P) where
-      pub put-p : Front cipherTables d (putMid 112 32 (putMid 64 48 (putMid 0 64 d ip) e) p) 144
-      put-p = put d (putMid 64 48 (putMid 0 64 d ip) e) p 112 32 put-e (omega arith) (is-p ∙ sym (p-part cipherTables [] tables-alone))
-
-      module _ (s : List ℕ) (is-s : s ≡ S) where
-        pub put-s : Front cipherTables d (putMid 144 512 (putMid 112 32 (putMid 64 48 (putMid 0 64 d ip) e) p) s) 656
-        put-s = put d (putMid 112 32 (putMid 64 48 (putMid 0 64 d ip) e) p) s 144 512 put-p (omega arith) (is-s ∙ sym (s-part cipherTables [] tables-alone))
-
-        pub all-put : (inverse : List ℕ) → inverse ≡ IP⁻¹ → putMid 656 64 (putMid 144 512 (putMid 112 32 (putMid 64 48 (putMid 0 64 d ip) e) p) s) inverse ≡ cipherTables
-        all-put inverse is-inverse =
-            front-done cipherTables d _ 720
-            (put d (putMid 144 512 (putMid 112 32 (putMid 64 48 (putMid 0 64 d ip) e) p) s) inverse 656 64 put-s (omega arith) (is-inverse ∙ sym (inverse-part cipherTables [] tables-alone))) (omega (arith, length-cipherTables))
+  pub all-put : putMid 720 48 (putMid 656 64 (putMid 144 512 (putMid 112 32 (putMid 64 48 (putMid 0 64 d ip) e) p) s) inverse) choice ≡ cipherTables
+  all-put =
+      let f₀ = front-start cipherTables d (long ∙ sym length-cipherTables) in
+      let f₁ = put d ip 0 64 f₀ (omega arith) (is-ip ∙ sym (ip-part cipherTables [] tables-alone)) in
+      let f₂ = put _ e 64 48 f₁ (omega arith) (is-e ∙ sym (e-part cipherTables [] tables-alone)) in
+      let f₃ = put _ p 112 32 f₂ (omega arith) (is-p ∙ sym (p-part cipherTables [] tables-alone)) in
+      let f₄ = put _ s 144 512 f₃ (omega arith) (is-s ∙ sym (s-part cipherTables [] tables-alone)) in
+      let f₅ = put _ inverse 656 64 f₄ (omega arith) (is-inverse ∙ sym (inverse-part cipherTables [] tables-alone)) in
+      let f₆ = put _ choice 720 48 f₅ (omega arith) (is-choice ∙ sym (choice-part cipherTables [] tables-alone)) in
+      front-done cipherTables d _ 768 f₆ (omega (arith, length-cipherTables))

@@ -15,6 +15,7 @@ use Rattle.octets.proofs.TestLaws.{and-left, and-right, all-at, agree}
 use Rattle.octets.proofs.ListLaws.{getD-tab}
 use Rattle.des.specs.Tables.{IP, IP⁻¹, E, P, PC-1, PC-2, leftShifts, S}
 use Rattle.des.specs.Des.{permuted}
+use Rattle.des.specs.Prepared.{shiftsTo}
 use Rattle.des.proofs.BitLists.{length-permuted, getD-permuted}
 use Rattle.des.proofs.PlaceLaws.{inverse-places}
 
@@ -113,11 +114,7 @@ choice-2 = (
   λ v h. leb-true (times (suc v) PC-2) 1 (all-at (λ k. leb (times (suc k) PC-2) 1) 56 v h refl),
 )
 
-unfoldable pub total : List ℕ → ℕ
-total [] = 0
-total (x ∷ xs) = x + total xs
-
 -- after the last round C and D have come around
-pub shifts-around : (length leftShifts ≡ 16) × (total leftShifts ≡ 28)
-unfolding total leftShifts
+pub shifts-around : (length leftShifts ≡ 16) × (shiftsTo 16 ≡ 28)
+unfolding shiftsTo leftShifts
 shifts-around = (refl, refl)

@@ -14,15 +14,16 @@ use tables::PC2;
 use tables::S;
 ghost use mathlib.Core.Path.{_≡_};
 ghost use mathlib.Core.List.{_++_};
-ghost use Prim.Native.Nat.{ℕ, _+_, _-_, _*_, _/_, _%_, _^_, _<_, _≤_};
+ghost use Prim.Native.Nat.{ℕ, suc, _+_, _-_, _*_, _/_, _%_, _^_, _<_, _≤_};
 ghost use lib.ListN.{length, getD, take, drop};
 ghost use Rattle.octets.specs.Bits.{bit, octetsFrom, Bits};
 ghost use Rattle.octets.specs.Lists.{tab};
-ghost use Rattle.des.specs.Tables.{IP, PC-1, PC-2, S, leftShifts};
-ghost use Rattle.des.specs.Des.{permuted, xorBits, boxInput, boxPlace, substituted, cipherF, rotated, rounds, halved, preoutput, enciphered, des};
-ghost use Rattle.des.specs.Prepared.{cipherTables, roundKeys, keyOf, keysOf, Prepared};
+ghost use Rattle.des.specs.Tables.{IP, PC-1, S};
+ghost use Rattle.des.specs.Des.{permuted, xorBits, boxInput, boxPlace, substituted, cipherF, rounds, halved, preoutput, enciphered, des};
+ghost use Rattle.des.specs.Prepared.{cipherTables, shiftsTo, shiftSums, keyOf, keysOf, Prepared};
 
-// Where the parts of a prepared key stand: the tables of a block, the key, and its round keys.
+// Where the parts of a prepared key stand: the tables of a block, of which permuted choice 2 comes last, its places of C and then of D; the key; C and D, each
+// twice over; and the shifts so far, for each round.
 const AT_IP: usize = 0;
 
 const AT_E: usize = AT_IP + 64;
@@ -33,14 +34,22 @@ const AT_S: usize = AT_P + 32;
 
 const AT_IP_INVERSE: usize = AT_S + 512;
 
-const AT_KEY: usize = AT_IP_INVERSE + 64;
+const AT_C_PLACES: usize = AT_IP_INVERSE + 64;
 
-const AT_ROUND_KEYS: usize = AT_KEY + 8;
+const AT_D_PLACES: usize = AT_C_PLACES + 24;
 
-const END: usize = AT_ROUND_KEYS + 16 * ROUND_KEY;
+const AT_KEY: usize = AT_D_PLACES + 24;
 
-// The bits of a round key.
-const ROUND_KEY: usize = 48;
+const AT_C: usize = AT_KEY + 8;
+
+const AT_D: usize = AT_C + 2 * HALF;
+
+const AT_SHIFTS: usize = AT_D + 2 * HALF;
+
+const END: usize = AT_SHIFTS + 16;
+
+// The bits of C, and of D.
+const HALF: usize = 28;
 
 // The bits at the places that a table has.
 fn permute(bits: &[u8], table: &[u8], out: &mut [u8])
@@ -157,17 +166,14 @@ fn substitute(boxes: &[u8], bits: &[u8]) -> [u8; 32]
     out
 }
 
-// What the boxes are given in round n, counted from 0: E(R) + K. The key is copied first: added from where it stands, it makes a block slower.
+// What the boxes are given in round n, counted from 0: E(R) + K.
 fn box_input(prepared: &[u8], right: &[u8], n: usize) -> [u8; 48]
     requires { ⌜ Prepared (now prepared) × (length (now right) ≡ 32) × Bits (λ k. getD (now right) k 0) × (n < 16) ⌝ }
     ensures { λ r. ⌜ r ≡ boxInput (now (right .entry)) (keysOf (now (prepared .entry)) n) ⌝ }
 {
-    let a = AT_ROUND_KEYS + ROUND_KEY * n;
-    let e = a + ROUND_KEY;
-    let mut key = [0u8; ROUND_KEY];
-    copy(&prepared[a..e], &mut key);
     let mut input = [0u8; 48];
     permute(right, &prepared[AT_E..AT_P], &mut input);
+    let key = round_key(prepared, n);
     add(&mut input, &key);
     input
 }
@@ -196,14 +202,13 @@ fn half(bits: &[u8], from: usize) -> [u8; 32]
 }
 
 // Two halves, one after the other.
-fn join(first: &[u8], second: &[u8]) -> [u8; 64]
-    requires { ⌜ (length (now first) ≡ 32) × (length (now second) ≡ 32) ⌝ }
-    ensures { λ r. ⌜ r ≡ now (first .entry) ++ now (second .entry) ⌝ }
+fn join(first: &[u8], second: &[u8], out: &mut [u8])
+    requires { ⌜ length (now out) ≡ length (now first) + length (now second) ⌝ }
+    ensures { λ _. ⌜ now (out .exit) ≡ now (first .entry) ++ now (second .entry) ⌝ }
 {
-    let mut out = [0u8; 64];
-    copy(first, &mut out[0..32]);
-    copy(second, &mut out[32..64]);
-    out
+    let n = first.len();
+    copy(first, &mut out[0..n]);
+    copy(second, &mut out[n..]);
 }
 
 // The first rounds, as many as asked, and the halves in the other order.
@@ -222,7 +227,9 @@ fn first_rounds(prepared: &[u8], bits: &[u8], count: usize) -> [u8; 64]
         right = next;
         n += 1;
     }
-    join(&right, &left)
+    let mut out = [0u8; 64];
+    join(&right, &left, &mut out);
+    out
 }
 
 // The initial permutation, into lent bits: an array given back makes a block slower by a quarter.
@@ -242,7 +249,7 @@ fn encipher_bits(prepared: &[u8], bits: &[u8]) -> [u8; 64]
     initial(prepared, bits, &mut first);
     let after = first_rounds(prepared, &first, 16);
     let mut last = [0u8; 64];
-    permute(&after, &prepared[AT_IP_INVERSE..AT_KEY], &mut last);
+    permute(&after, &prepared[AT_IP_INVERSE..AT_C_PLACES], &mut last);
     last
 }
 
@@ -258,34 +265,6 @@ pub fn encipher(prepared: &[u8], block: &mut [u8])
 
 // ---- the key schedule
 
-// Both halves of C and D, shifted left by s places, around.
-fn shift(cd: &[u8], s: usize) -> [u8; 56]
-    requires { ⌜ (length (now cd) ≡ 56) × (s ≤ 28) ⌝ }
-    ensures { λ r. ⌜ r ≡ rotated s (take 28 (now (cd .entry))) ++ rotated s (drop 28 (now (cd .entry))) ⌝ }
-{
-    let mut out = [0u8; 56];
-    let mut i = 0;
-    while i < 56 {
-        out[i] = cd[28 * (i / 28) + (i + s) % 28];
-        i += 1;
-    }
-    out
-}
-
-fn shift_table() -> [u8; 16]
-    ensures { λ r. ⌜ r ≡ leftShifts ⌝ }
-{
-    LEFT_SHIFTS
-}
-
-// How far C and D are shifted before round n.
-fn shift_before(table: &[u8], n: usize) -> usize
-    requires { ⌜ (now table ≡ leftShifts) × (n < 16) ⌝ }
-    ensures { λ r. ⌜ (r ≡ getD leftShifts n 0) × (r ≤ 28) ⌝ }
-{
-    wide(table[n])
-}
-
 // C and D before the first shift.
 fn first_state(key: &[u8]) -> [u8; 56]
     requires { ⌜ 8 ≤ length (now key) ⌝ }
@@ -298,43 +277,63 @@ fn first_state(key: &[u8]) -> [u8; 56]
     cd
 }
 
-fn choice_table() -> [u8; 48]
-    ensures { λ r. ⌜ r ≡ PC-2 ⌝ }
+// The sums of the shifts, up to each round.
+fn sum_shifts(sums: &mut [u8])
+    requires { ⌜ length (now sums) ≡ 16 ⌝ }
+    ensures { λ _. ⌜ now (sums .exit) ≡ shiftSums ⌝ }
 {
-    PC2
-}
-
-// The key that C and D make.
-fn choose(table: &[u8], cd: &[u8], key: &mut [u8])
-    requires { ⌜ (now table ≡ PC-2) × (length (now cd) ≡ 56) × (length (now key) ≡ 48) ⌝ }
-    ensures { λ _. ⌜ now (key .exit) ≡ permuted PC-2 (now (cd .entry)) ⌝ }
-{
-    permute(cd, table, key);
-}
-
-// The sixteen round keys of a key, one after the other.
-fn schedule(key: &[u8], keys: &mut [u8])
-    requires { ⌜ (length (now key) ≡ 8) × (length (now keys) ≡ 768) ⌝ }
-    ensures { λ _. ⌜ now (keys .exit) ≡ roundKeys (tab (bit (now (key .entry))) 64) ⌝ }
-{
-    let amounts = shift_table();
-    let choice = choice_table();
-    let mut cd = first_state(key);
-    let mut n = 0;
-    while n < 16 {
-        cd = shift(&cd, shift_before(&amounts, n));
-        let a = ROUND_KEY * n;
-        let e = a + ROUND_KEY;
-        choose(&choice, &cd, &mut keys[a..e]);
-        n += 1;
+    let shifts = LEFT_SHIFTS;
+    let mut sum = 0u8;
+    let mut round = 0;
+    while round < 16 {
+        sum += shifts[round];
+        sums[round] = sum;
+        round += 1;
     }
+}
+
+// C, or D, twice over.
+fn twice(half: &[u8], out: &mut [u8])
+    requires { ⌜ length (now out) ≡ length (now half) + length (now half) ⌝ }
+    ensures { λ _. ⌜ now (out .exit) ≡ now (half .entry) ++ now (half .entry) ⌝ }
+{
+    join(half, half, out);
+}
+
+// Where C begins as round n, counted from 0, has it: it stands twice over, so shifted left by s places, around, it is the 28 bits from place s on.
+fn c_in_round(prepared: &[u8], n: usize) -> usize
+    requires { ⌜ Prepared (now prepared) × (n < 16) ⌝ }
+    ensures { λ r. ⌜ (r ≡ 776 + shiftsTo (suc n)) × (r ≤ 804) ⌝ }
+{
+    AT_C + wide(prepared[AT_SHIFTS + n])
+}
+
+// The key of round n, counted from 0. D's places go on from C's, and D stands a half further on than they say, behind C's second time.
+fn round_key(prepared: &[u8], n: usize) -> [u8; 48]
+    requires { ⌜ Prepared (now prepared) × (n < 16) ⌝ }
+    ensures { λ r. ⌜ r ≡ keysOf (now (prepared .entry)) n ⌝ }
+{
+    let c = c_in_round(prepared, n);
+    let d = c + HALF;
+    let mut key = [0u8; 48];
+    permute(
+        &prepared[c..END],
+        &prepared[AT_C_PLACES..AT_D_PLACES],
+        &mut key[0..24],
+    );
+    permute(
+        &prepared[d..END],
+        &prepared[AT_D_PLACES..AT_KEY],
+        &mut key[24..48],
+    );
+    key
 }
 
 // ---- preparing
 
 // The tables of a block, one after the other. They are made once for a key: a constant is made anew wherever it is read.
 fn put_tables(all: &mut [u8])
-    requires { ⌜ length (now all) ≡ 720 ⌝ }
+    requires { ⌜ length (now all) ≡ 768 ⌝ }
     ensures { λ _. ⌜ now (all .exit) ≡ cipherTables ⌝ }
 {
     let ip = IP;
@@ -342,21 +341,27 @@ fn put_tables(all: &mut [u8])
     let p = P;
     let s = S;
     let inverse = IP_INVERSE;
+    let choice = PC2;
     copy(&ip, &mut all[AT_IP..AT_E]);
     copy(&e, &mut all[AT_E..AT_P]);
     copy(&p, &mut all[AT_P..AT_S]);
     copy(&s, &mut all[AT_S..AT_IP_INVERSE]);
-    copy(&inverse, &mut all[AT_IP_INVERSE..AT_KEY]);
+    copy(&inverse, &mut all[AT_IP_INVERSE..AT_C_PLACES]);
+    copy(&choice, &mut all[AT_C_PLACES..AT_KEY]);
 }
 
-// Prepares a key: all that depends on no block is made here, once.
+// Prepares a key: the tables, and what the keys of the rounds are read from. Those are worked out each just before its round, so that sixteen of them never
+// stand on the stack.
 pub fn prepare(key: &[u8]) -> [u8; END]
     requires { ⌜ length (now key) ≡ 8 ⌝ }
     ensures { λ r. ⌜ Prepared r × (keyOf r ≡ now (key .entry)) ⌝ }
 {
     let mut prepared = [0u8; END];
     put_tables(&mut prepared[AT_IP..AT_KEY]);
-    copy(key, &mut prepared[AT_KEY..AT_ROUND_KEYS]);
-    schedule(key, &mut prepared[AT_ROUND_KEYS..END]);
+    copy(key, &mut prepared[AT_KEY..AT_C]);
+    let cd = first_state(key);
+    twice(&cd[0..HALF], &mut prepared[AT_C..AT_D]);
+    twice(&cd[HALF..56], &mut prepared[AT_D..AT_SHIFTS]);
+    sum_shifts(&mut prepared[AT_SHIFTS..END]);
     prepared
 }

@@ -47,5 +47,6 @@ first-rounds-spec =
     again
     (λ c. search needs)
     (λ c. search needs)
+    (λ c. search needs)
     (λ c κs. search needs)
-    (λ c. c .join .ensures ∙ reached-end _ _ _ _ _ (c .before .before .before .before .loop .inv .1) _ (omega arith)))
+    (λ c. c .before .join .ensures ∙ reached-end _ _ _ _ _ (c .before .before .before .before .before .before .loop .inv .1) _ (omega arith)))

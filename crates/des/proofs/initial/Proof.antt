@@ -15,7 +15,7 @@ permute-requires : tie.Need-permute-requires
 unfolding IP
 permute-requires c κs =
     let p = c .before .before .before .before .before .pre in
-    permutable (ip-part _ _ (p .0 .parts)) ip-places (p .2) (p .1)
+    permutable (ip-part _ _ (p .0 .parts)) ip-places (p .2) (omega (arith, p .1))
 
 returns : tie.Need-returns
 returns c = cc (ip-part _ _ (c .before .before .before .before .before .before .before .before .pre .0 .parts))

@@ -1,0 +1,28 @@
+/* How deep the stack goes below the caller, in octets: one voice slot of each cipher at each rate (nxdn_voice), and one block of DES and of AES with its
+   key prepared for it (crate timed). Seen is what was written to: bench/stack, which builds and runs it, prints the frames beside it. */
+#include "library.h"
+
+void timed_blocks(const uint8_t *key, size_t key_len, uint8_t *block, size_t block_len, size_t n);
+
+static uint8_t key[NXDN_MOST_KEY], block[16];
+
+static void a_des_block(void) { timed_blocks(key, 8, block, 8, 1); }
+static void an_aes_block(void) { timed_blocks(key, 32, block, 16, 1); }
+
+static void row(const char *what, void (*f)(void)) { printf("%-36s %6zu\n", what, depth(f)); }
+
+int main(void) {
+    char what[80];
+    for (cipher = 1; cipher <= 3; cipher++) {
+        load();
+        for (rate = 0; rate <= 1; rate++) {
+            an_open();
+            snprintf(what, sizeof what, "a voice slot, %s, %s rate", ciphers[cipher], rates[rate]);
+            row(what, a_voice);
+            an_end();
+        }
+    }
+    row("a DES block, its key prepared", a_des_block);
+    row("an AES block, its key prepared", an_aes_block);
+    return 0;
+}
