@@ -18,7 +18,7 @@ static const size_t key_octets[] = {0, 2, 8, 32}, frame_octets[] = {NXDN_FRAME_H
 
 static void expect(uint8_t answer) {
     if (answer != NXDN_DONE) {
-        fprintf(stderr, "answer %d\n", answer);
+        fprintf(stderr, "%s: answer %d\n", __BASE_FILE__, answer);
         exit(1);
     }
 }

@@ -6,8 +6,9 @@ void timed_blocks(const uint8_t *key, size_t key_len, uint8_t *block, size_t blo
 
 static uint8_t key[NXDN_MOST_KEY], block[16];
 
-static void a_des_block(void) { timed_blocks(key, 8, block, 8, 1); }
-static void an_aes_block(void) { timed_blocks(key, 32, block, 16, 1); }
+/* the empty asm keeps each a call: a jump at a function's end leaves no return address, and the figure would be 16 octets short */
+static void a_des_block(void) { timed_blocks(key, 8, block, 8, 1); __asm__ volatile(""); }
+static void an_aes_block(void) { timed_blocks(key, 32, block, 16, 1); __asm__ volatile(""); }
 
 static void row(const char *what, void (*f)(void)) { printf("%-36s %6zu\n", what, depth(f)); }
 

@@ -22,12 +22,12 @@ unfolding rotated
 rotated-none l = append-nil l
 
 module _ (s : ℕ) (l : List ℕ) (small : s ≤ length l) where
-  pub length-rotated : length (rotated s l) ≡ length l
+  length-rotated : length (rotated s l) ≡ length l
   unfolding rotated
   length-rotated = length-append (drop s l) (take s l) ∙ omega (arith, length-drop s l, length-take-le s l small)
 
   -- a list twice over, from place s on, begins with the list shifted by s
-  pub around : (j : ℕ) → j < length l → getD (l ++ l) (s + j) 0 ≡ getD (rotated s l) j 0
+  around : (j : ℕ) → j < length l → getD (l ++ l) (s + j) 0 ≡ getD (rotated s l) j 0
   unfolding rotated
   around j h =
       sym (getD-drop s (l ++ l) j 0)
@@ -66,13 +66,13 @@ module _ (key : List ℕ) where
   unfolding PC-1
   both = length-permuted PC-1 key
 
-  pub length-c : length c ≡ 28
+  length-c : length c ≡ 28
   length-c = length-take-le 28 (permuted PC-1 key) (omega (arith, both))
 
   pub length-d : length d ≡ 28
   length-d = length-drop 28 (permuted PC-1 key) ∙ omega (arith, both)
 
-  pub state-shifted : (n : ℕ) → n ≤ 16 → keyState key n ≡ rotated (shiftsTo n) c ++ rotated (shiftsTo n) d
+  state-shifted : (n : ℕ) → n ≤ 16 → keyState key n ≡ rotated (shiftsTo n) c ++ rotated (shiftsTo n) d
   unfolding keyState shiftsTo
   state-shifted zero h = sym (ap₂ _++_ (rotated-none c) (rotated-none d) ∙ take-append-drop 28 (permuted PC-1 key))
   state-shifted (suc n) h =
@@ -109,17 +109,17 @@ module _ (key : List ℕ) where
         ∙ getD-append-add (d ++ d) shiftSums n 0
         ∙ getD-tab (λ k. shiftsTo (suc k)) 16 n h
 
-    small : s ≤ 28
-    small = shifts-within (suc n) h
+    pub shifts-small : s ≤ 28
+    shifts-small = shifts-within (suc n) h
 
     long-c : length (rotated s c) ≡ 28
-    long-c = length-rotated s c (omega (arith, small, length-c)) ∙ length-c
+    long-c = length-rotated s c (omega (arith, shifts-small, length-c)) ∙ length-c
 
     pub c-at : (j : ℕ) → j < 28 → getD (scheduleOf key) (s + j) 0 ≡ getD (keyState key (suc n)) j 0
     unfolding scheduleOf
     c-at j b =
-        List·getD-append (c ++ c) ((d ++ d) ++ shiftSums) 0 (s + j) (omega (arith, small, length-cc))
-        ∙ around s c (omega (arith, small, length-c)) j (omega (arith, length-c))
+        List·getD-append (c ++ c) ((d ++ d) ++ shiftSums) 0 (s + j) (omega (arith, shifts-small, length-cc))
+        ∙ around s c (omega (arith, shifts-small, length-c)) j (omega (arith, length-c))
         ∙ sym (List·getD-append (rotated s c) (rotated s d) 0 j (omega (arith, long-c)))
         ∙ ap (λ (x : List ℕ). getD x j 0) (sym (state-shifted (suc n) h))
 
@@ -129,8 +129,8 @@ module _ (key : List ℕ) where
     d-at j a b =
         ap (λ (k : ℕ). getD (scheduleOf key) k 0) (omega (arith, length-cc))
         ∙ getD-append-add (c ++ c) ((d ++ d) ++ shiftSums) (s + (j - 28)) 0
-        ∙ List·getD-append (d ++ d) shiftSums 0 (s + (j - 28)) (omega (arith, small, length-dd))
-        ∙ around s d (omega (arith, small, length-d)) (j - 28) (omega (arith, length-d))
+        ∙ List·getD-append (d ++ d) shiftSums 0 (s + (j - 28)) (omega (arith, shifts-small, length-dd))
+        ∙ around s d (omega (arith, shifts-small, length-d)) (j - 28) (omega (arith, length-d))
         ∙ sym (getD-append-add (rotated s c) (rotated s d) (j - 28) 0)
         ∙ ap (λ (k : ℕ). getD (rotated s c ++ rotated s d) k 0) (omega (arith, long-c))
         ∙ ap (λ (x : List ℕ). getD x j 0) (sym (state-shifted (suc n) h))

@@ -25,7 +25,7 @@ places n t e i h =
 
 -- what permuting by a table asks
 pub permutable : {m k n : ℕ} {t table : List ℕ} → t ≡ table → Places n table → m ≡ length table → n ≤ k → (m ≡ length t) × Places k t
-permutable {table = table} e p out bits = rw e (out, λ i h. (p i h .0, omega (arith, p i h .1)))
+permutable e p out bits = rw e (out, λ i h. (p i h .0, omega (arith, p i h .1)))
 
 pub ip-places : Places 64 IP
 unfolding allBelow IP

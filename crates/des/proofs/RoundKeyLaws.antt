@@ -14,7 +14,7 @@ use Rattle.des.proofs.BitLists.{BitList, bits-of, length-permuted, perm
 use Rattle.des.proofs.PlaceLaws.{Places, permutable}
 use Rattle.des.proofs.TableLaws.{c-part, d-part}
 use Rattle.des.proofs.TableRules.{choice-2}
-use Rattle.des.proofs.KeyLaws.{shifts-within, sum-at, c-at, d-at, bits-roundKey}
+use Rattle.des.proofs.KeyLaws.{shifts-small, sum-at, c-at, d-at, bits-roundKey}
 use Rattle.des.proofs.PreparedLaws.{length-prepared, in-schedule}
 
 -- ---- the places
@@ -63,15 +63,12 @@ module _ (p : List ℕ) (w : Prepared p) where
     pub shifts-at : getD p (888 + n) 0 ≡ shiftsTo (suc n)
     shifts-at = ap (λ (k : ℕ). getD p k 0) (omega arith) ∙ in-schedule p w (112 + n) ∙ sum-at key n h
 
-    pub shifts-small : shiftsTo (suc n) ≤ 28
-    shifts-small = shifts-within (suc n) h
-
     module _ (x : ℕ) (is-x : x ≡ 776 + shiftsTo (suc n)) where
       pub c-asked : {m : ℕ} → m ≡ 24 → (m ≡ length (take 24 (drop 720 p))) × Places (length (from x)) (take 24 (drop 720 p))
-      c-asked e = permutable (c-part p _ (w .parts)) c-places (e ∙ sym length-c-places) (omega (arith, shifts-small, from-long x (omega (arith, shifts-small))))
+      c-asked e = permutable (c-part p _ (w .parts)) c-places (e ∙ sym length-c-places) (omega (arith, shifts-small key n h, from-long x (omega (arith, shifts-small key n h))))
 
       pub d-asked : {m : ℕ} → m ≡ 24 → (m ≡ length (take 24 (drop 744 p))) × Places (length (from (x + 28))) (take 24 (drop 744 p))
-      d-asked e = permutable (d-part p _ (w .parts)) d-places (e ∙ sym length-d-places) (omega (arith, shifts-small, from-long (x + 28) (omega (arith, shifts-small))))
+      d-asked e = permutable (d-part p _ (w .parts)) d-places (e ∙ sym length-d-places) (omega (arith, shifts-small key n h, from-long (x + 28) (omega (arith, shifts-small key n h))))
 
       c-bits : permuted (take 24 PC-2) (from x) ≡ permuted (take 24 PC-2) (keyState key (suc n))
       c-bits =
@@ -79,7 +76,7 @@ module _ (p : List ℕ) (w : Prepared p) where
           (λ i b.
           let place = c-places i b in
           let j = getD (take 24 PC-2) i 0 - 1 in
-          at x (shiftsTo (suc n)) j is-x (omega (arith, place .0, place .1, shifts-small)) ∙ c-at key n h j (omega (arith, place .0, place .1)))
+          at x (shiftsTo (suc n)) j is-x (omega (arith, place .0, place .1, shifts-small key n h)) ∙ c-at key n h j (omega (arith, place .0, place .1)))
 
       d-bits : permuted (drop 24 PC-2) (from (x + 28)) ≡ permuted (drop 24 PC-2) (keyState key (suc n))
       d-bits =
@@ -87,7 +84,7 @@ module _ (p : List ℕ) (w : Prepared p) where
           (λ i b.
           let place = past-c i (omega (arith, length-d-places)) in
           let j = getD (drop 24 PC-2) i 0 - 1 in
-          at (x + 28) (shiftsTo (suc n) + 28) j (omega arith) (omega (arith, place .0, place .1, shifts-small))
+          at (x + 28) (shiftsTo (suc n) + 28) j (omega arith) (omega (arith, place .0, place .1, shifts-small key n h))
           ∙ d-at key n h j (omega (arith, place .0)) (omega (arith, place .0, place .1)))
 
       -- as the code permutes them
@@ -105,5 +102,5 @@ module _ (p : List ℕ) (w : Prepared p) where
           ∙ sym (permuted-append (take 24 PC-2) (drop 24 PC-2) (keyState key (suc n)))
           ∙ ap (λ (t : List ℕ). permuted t (keyState key (suc n))) (take-append-drop 24 PC-2)
 
-    pub bits-key : BitList (keysOf p n)
-    bits-key = bits-roundKey key n (bits-of (keyOf p) 64)
+pub bits-key : (p : List ℕ) (n : ℕ) → BitList (keysOf p n)
+bits-key p n = bits-roundKey (tab (bit (keyOf p)) 64) n (bits-of (keyOf p) 64)

@@ -23,14 +23,16 @@ module _ (keys : ℕ → List ℕ) (h : Halves) (l : BitList (h .left)) (r : Bit
   bits-left zero = l
   bits-left (suc n) = bits-right n
 
+pub bits-preoutput : (keys : ℕ → List ℕ) (b : List ℕ) → BitList b → (n : ℕ) → BitList (preoutput (rounds keys (halved b) n))
+unfolding halved preoutput
+bits-preoutput keys b bits n =
+    let l = bits-take 32 b bits in
+    let r = bits-drop 32 b bits in
+    bits-append (rounds keys (halved b) n .right) (rounds keys (halved b) n .left) (bits-right keys (halved b) l r n) (bits-left keys (halved b) l r n)
+
 pub bits-enciphered : (keys : ℕ → List ℕ) (block : List ℕ) → BitList block → BitList (enciphered keys block)
-unfolding enciphered halved preoutput
-bits-enciphered keys block b =
-    let p = bits-permuted IP block b in
-    let h = halved (permuted IP block) in
-    let l = bits-take 32 (permuted IP block) p in
-    let r = bits-drop 32 (permuted IP block) p in
-    bits-permuted IP⁻¹ (preoutput (rounds keys h 16)) (bits-append (rounds keys h 16 .right) (rounds keys h 16 .left) (bits-right keys h l r 16) (bits-left keys h l r 16))
+unfolding enciphered
+bits-enciphered keys block b = bits-permuted IP⁻¹ (preoutput (rounds keys (halved (permuted IP block)) 16)) (bits-preoutput keys (permuted IP block) (bits-permuted IP block b) 16)
 
 -- ---- the halves that the code has after n rounds
 

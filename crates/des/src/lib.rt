@@ -18,8 +18,8 @@ ghost use Prim.Native.Nat.{ℕ, suc, _+_, _-_, _*_, _/_, _%_, _^_, _<_, _≤_};
 ghost use lib.ListN.{length, getD, take, drop};
 ghost use Rattle.octets.specs.Bits.{bit, octetsFrom, Bits};
 ghost use Rattle.octets.specs.Lists.{tab};
-ghost use Rattle.des.specs.Tables.{IP, PC-1, S};
-ghost use Rattle.des.specs.Des.{permuted, xorBits, boxInput, boxPlace, substituted, cipherF, rounds, halved, preoutput, enciphered, des};
+ghost use Rattle.des.specs.Tables.{IP, IP⁻¹, PC-1, S};
+ghost use Rattle.des.specs.Des.{permuted, xorBits, boxInput, boxPlace, substituted, cipherF, rounds, halved, preoutput, des};
 ghost use Rattle.des.specs.Prepared.{cipherTables, shiftsTo, shiftSums, keyOf, keysOf, Prepared};
 
 // Where the parts of a prepared key stand: the tables of a block, of which permuted choice 2 comes last, its places of C and then of D; the key; C and D, each
@@ -212,9 +212,9 @@ fn join(first: &[u8], second: &[u8], out: &mut [u8])
 }
 
 // The first rounds, as many as asked, and the halves in the other order.
-fn first_rounds(prepared: &[u8], bits: &[u8], count: usize) -> [u8; 64]
+fn first_rounds(prepared: &[u8], bits: &mut [u8], count: usize)
     requires { ⌜ Prepared (now prepared) × (length (now bits) ≡ 64) × Bits (λ k. getD (now bits) k 0) × (count ≤ 16) ⌝ }
-    ensures { λ r. ⌜ r ≡ preoutput (rounds (keysOf (now (prepared .entry))) (halved (now (bits .entry))) count) ⌝ }
+    ensures { λ _. ⌜ now (bits .exit) ≡ preoutput (rounds (keysOf (now (prepared .entry))) (halved (now (bits .entry))) count) ⌝ }
 {
     let mut left = half(bits, 0);
     let mut right = half(bits, 32);
@@ -227,30 +227,26 @@ fn first_rounds(prepared: &[u8], bits: &[u8], count: usize) -> [u8; 64]
         right = next;
         n += 1;
     }
-    let mut out = [0u8; 64];
-    join(&right, &left, &mut out);
-    out
+    join(&right, &left, bits);
 }
 
-// The initial permutation, into lent bits: an array given back makes a block slower by a quarter.
-fn initial(prepared: &[u8], bits: &[u8], first: &mut [u8])
-    requires { ⌜ Prepared (now prepared) × (length (now bits) ≡ 64) × (length (now first) ≡ 64) ⌝ }
-    ensures { λ _. ⌜ now (first .exit) ≡ permuted IP (now (bits .entry)) ⌝ }
+// The initial permutation of a block, into lent bits: an array given back makes a block slower by a quarter.
+fn initial(prepared: &[u8], block: &[u8], first: &mut [u8])
+    requires { ⌜ Prepared (now prepared) × (length (now block) ≡ 8) × (length (now first) ≡ 64) ⌝ }
+    ensures { λ _. ⌜ now (first .exit) ≡ permuted IP (tab (bit (now (block .entry))) 64) ⌝ }
 {
-    permute(bits, &prepared[AT_IP..AT_E], first);
+    let bits = unpack(block);
+    permute(&bits, &prepared[AT_IP..AT_E], first);
 }
 
-// 64 bits enciphered.
-fn encipher_bits(prepared: &[u8], bits: &[u8]) -> [u8; 64]
-    requires { ⌜ Prepared (now prepared) × (length (now bits) ≡ 64) × Bits (λ k. getD (now bits) k 0) ⌝ }
-    ensures { λ r. ⌜ r ≡ enciphered (keysOf (now (prepared .entry))) (now (bits .entry)) ⌝ }
+// The block of the preoutput: the inverse of the initial permutation, packed.
+fn last(prepared: &[u8], preoutput: &[u8], block: &mut [u8])
+    requires { ⌜ Prepared (now prepared) × (length (now preoutput) ≡ 64) × Bits (λ k. getD (now preoutput) k 0) × (length (now block) ≡ 8) ⌝ }
+    ensures { λ _. ⌜ now (block .exit) ≡ octetsFrom 8 (λ k. getD (permuted IP⁻¹ (now (preoutput .entry))) k 0) ⌝ }
 {
-    let mut first = [0u8; 64];
-    initial(prepared, bits, &mut first);
-    let after = first_rounds(prepared, &first, 16);
-    let mut last = [0u8; 64];
-    permute(&after, &prepared[AT_IP_INVERSE..AT_C_PLACES], &mut last);
-    last
+    let mut bits = [0u8; 64];
+    permute(preoutput, &prepared[AT_IP_INVERSE..AT_C_PLACES], &mut bits);
+    pack(&bits, block);
 }
 
 // Enciphers a block in place, under the key that was prepared.
@@ -258,9 +254,10 @@ pub fn encipher(prepared: &[u8], block: &mut [u8])
     requires { ⌜ Prepared (now prepared) × (length (now block) ≡ 8) ⌝ }
     ensures { λ _. ⌜ now (block .exit) ≡ des (keyOf (now (prepared .entry))) (now (block .entry)) ⌝ }
 {
-    let bits = unpack(block);
-    let out = encipher_bits(prepared, &bits);
-    pack(&out, block);
+    let mut bits = [0u8; 64];
+    initial(prepared, block, &mut bits);
+    first_rounds(prepared, &mut bits, 16);
+    last(prepared, &bits, block);
 }
 
 // ---- the key schedule
@@ -308,7 +305,7 @@ fn c_in_round(prepared: &[u8], n: usize) -> usize
     AT_C + wide(prepared[AT_SHIFTS + n])
 }
 
-// The key of round n, counted from 0. D's places go on from C's, and D stands a half further on than they say, behind C's second time.
+// The key of round n, counted from 0. Permuted choice 2 counts D's places on from C's 28; here D stands behind C's second time, so 28 further on.
 fn round_key(prepared: &[u8], n: usize) -> [u8; 48]
     requires { ⌜ Prepared (now prepared) × (n < 16) ⌝ }
     ensures { λ r. ⌜ r ≡ keysOf (now (prepared .entry)) n ⌝ }

@@ -4,7 +4,6 @@ use crate::box_place;
 use crate::first_rounds;
 use crate::half;
 use crate::initial;
-use crate::unpack;
 ghost use mathlib.Core.Path.{_≡_};
 ghost use Prim.Native.Nat.{_<_};
 ghost use lib.ListN.{length};
@@ -16,11 +15,10 @@ pub fn looks_at(prepared: &[u8], block: &[u8], n: usize, i: usize) -> usize
     requires { ⌜ Prepared (now prepared) × (length (now block) ≡ 8) × (n < 16) × (i < 8) ⌝ }
     ensures { λ r. ⌜ (r ≡ looksAt (keyOf (now (prepared .entry))) (now (block .entry)) n i) × (r < 512) ⌝ }
 {
-    let bits = unpack(block);
-    let mut first = [0u8; 64];
-    initial(prepared, &bits, &mut first);
-    let after = first_rounds(prepared, &first, n);
-    let right = half(&after, 0);
+    let mut bits = [0u8; 64];
+    initial(prepared, block, &mut bits);
+    first_rounds(prepared, &mut bits, n);
+    let right = half(&bits, 0);
     let input = box_input(prepared, &right, n);
     box_place(&input, i)
 }

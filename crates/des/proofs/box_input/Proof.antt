@@ -22,7 +22,7 @@ permute-requires c κs = permutable (e-part _ _ (c .before .before .before .befo
 add-requires : tie.Need-add-requires
 add-requires c κs =
     let s = c .before .before .before .before .before .before .before .before .before in
-    (search needs, rw (c .before .before .before .before .permute .ensures) (bits-permuted _ _ (s .pre .2)), rw (c .before .before .round-key .ensures) (bits-key _ (s .pre .0) (s .args .n) (s .pre .3)))
+    (search needs, rw (c .before .before .before .before .permute .ensures) (bits-permuted _ _ (s .pre .2)), rw (c .before .before .round-key .ensures) (bits-key _ _))
 
 returns : tie.Need-returns
 unfolding boxInput

@@ -17,10 +17,10 @@ abbrev μ-loop : tie.MeasureT-loop
 μ-loop prepared bits count left₀ right₀ n₀ left right n = count - n
 
 started : tie.Need-loop-holds Inv-loop μ-loop
-started c = (search needs, reached-start _ _ _ _ (c .before .before .before .before .pre .1) (c .before .before .before .before .pre .2) (c .before .half .ensures) (c .half2 .ensures))
+started c = (search needs, reached-start _ _ _ _ (c .before .before .before .before .before .before .pre .1) (c .before .before .before .before .before .before .pre .2) (c .before .before .half .ensures) (c .half2 .ensures))
 
 function-asked : tie.Need-cipher-function-requires Inv-loop μ-loop
-function-asked c κs = (c .before .before .before .before .before .before .before .pre .0, c .before .before .loop .inv .1 .long-right, c .before .before .loop .inv .1 .bits-right, search needs)
+function-asked c κs = (c .before .before .before .before .before .before .before .before .before .pre .0, c .before .before .loop .inv .1 .long-right, c .before .before .loop .inv .1 .bits-right, search needs)
 
 sum-asked : tie.Need-add-requires Inv-loop μ-loop
 sum-asked c κs = (search needs, c .before .before .before .before .before .loop .inv .1 .bits-left, rw (c .before .before .cipher-function .ensures) (bits-cipherF _ _))
@@ -47,6 +47,6 @@ first-rounds-spec =
     again
     (λ c. search needs)
     (λ c. search needs)
-    (λ c. search needs)
     (λ c κs. search needs)
-    (λ c. c .before .join .ensures ∙ reached-end _ _ _ _ _ (c .before .before .before .before .before .before .loop .inv .1) _ (omega arith)))
+    (λ c. search needs)
+    (λ c. c .before .before .join .ensures ∙ reached-end _ _ _ _ _ (c .before .before .before .before .before .before .before .loop .inv .1) _ (omega arith)))
