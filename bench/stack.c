@@ -1,5 +1,5 @@
-/* How deep the stack goes below the caller, in octets: one voice slot of each cipher at each rate (nxdn_voice), and one block of DES and of AES with its
-   key prepared for it (crate timed). Seen is what was written to: bench/stack, which builds and runs it, prints the frames beside it. */
+/* How deep the stack goes below the caller, in octets: one voice slot of each cipher at each rate (nxdn_voice); a key of DES and of AES prepared, and one
+   block under it (crate timed). Seen is the lowest octet that was written: bench/stack, which builds and runs it, prints the frames beside it. */
 #include "library.h"
 
 void timed_blocks(const uint8_t *key, size_t key_len, uint8_t *block, size_t block_len, size_t n);
@@ -23,7 +23,7 @@ int main(void) {
             an_end();
         }
     }
-    row("a DES block, its key prepared", a_des_block);
-    row("an AES block, its key prepared", an_aes_block);
+    row("a DES key prepared, and a block", a_des_block);
+    row("an AES key prepared, and a block", an_aes_block);
     return 0;
 }

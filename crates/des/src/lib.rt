@@ -230,7 +230,7 @@ fn first_rounds(prepared: &[u8], bits: &mut [u8], count: usize)
     join(&right, &left, bits);
 }
 
-// The initial permutation of a block, into lent bits: an array given back makes a block slower by a quarter.
+// The initial permutation of a block, into lent bits: an array given back takes more stack.
 fn initial(prepared: &[u8], block: &[u8], first: &mut [u8])
     requires { ⌜ Prepared (now prepared) × (length (now block) ≡ 8) × (length (now first) ≡ 64) ⌝ }
     ensures { λ _. ⌜ now (first .exit) ≡ permuted IP (tab (bit (now (block .entry))) 64) ⌝ }

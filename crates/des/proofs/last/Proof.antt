@@ -1,13 +1,7 @@
 -- `des::last` meets its contract.
-use mathlib.Core.Path.{refl, ap, _∙_}
-use mathlib.Core.List.{List}
-use Prim.Native.Nat.{ℕ}
+use mathlib.Core.Path.{refl}
 use native.Mathlib.Omega.{arith}
 use borrow.Author.Needs.{needs}
-use denote.Ref.{now}
-use lib.ListN.{getD}
-use Rattle.octets.specs.Bits.{octetsFrom}
-use Rattle.des.specs.Des.{permuted}
 use Rattle.des.specs.Tables.{IP⁻¹}
 use Rattle.des.proofs.BitLists.{bits-permuted}
 use Rattle.des.proofs.PlaceLaws.{permutable, inverse-places}
@@ -29,9 +23,7 @@ pack-requires c κs = (search needs, rw (c .before .before .before .permute .ens
 returns : tie.Need-returns
 returns c =
     let s = c .before .before .before .before .before .before .before .before .before .before .before .before in
-    c .before .before .pack .ensures
-    ∙ ap (λ (bits : List ℕ). octetsFrom 8 (λ k. getD bits k 0))
-    (c .before .before .before .before .before .before .permute .ensures ∙ ap (λ (t : List ℕ). permuted t (now (s .args .preoutput))) (inverse-part _ _ (s .pre .0 .parts)))
+    rw (c .before .before .pack .ensures, c .before .before .before .before .before .before .permute .ensures, inverse-part _ _ (s .pre .0 .parts))
 
 pub last-spec : {M : Type 1} → statement M
 last-spec =
