@@ -1,6 +1,6 @@
 -- Lists of bits: what is made of bits is bits, how long it is, and what stands at a place.
-use mathlib.Core.Path.{_≡_, refl, sym, ap, _∙_}
-use mathlib.Core.List.{List, [], _∷_, _++_}
+use mathlib.Core.Path.{_≡_, refl, sym, _∙_}
+use mathlib.Core.List.{List, [], _∷_, _++_, map-append}
 use Prim.Native.Nat.{ℕ, zero, suc, _+_, _-_, _*_, _/_, _%_, _^_, _<_}
 use native.Mathlib.Nat.{le-of-suc-le-suc, not-suc-le-zero}
 use native.Mathlib.Decide.{decLt}
@@ -63,8 +63,7 @@ bits-permuted (x ∷ t) l b k = bits-cons _ (permuted t l) (b (x - 1)) (bits-per
 
 pub permuted-append : (t u l : List ℕ) → permuted (t ++ u) l ≡ permuted t l ++ permuted u l
 unfolding permuted
-permuted-append [] u l = refl
-permuted-append (x ∷ t) u l = ap (λ (r : List ℕ). getD l (x - 1) 0 ∷ r) (permuted-append t u l)
+permuted-append t u l = map-append (λ (k : ℕ). getD l (k - 1) 0) t u
 
 pub permuted-same : (t a b : List ℕ) → ((i : ℕ) → i < length t → getD a (getD t i 0 - 1) 0 ≡ getD b (getD t i 0 - 1) 0) → permuted t a ≡ permuted t b
 permuted-same t a b same =
