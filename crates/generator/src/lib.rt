@@ -3,22 +3,10 @@
 ghost use mathlib.Core.Path.{_≡_};
 ghost use Prim.Native.Nat.{_<_};
 ghost use lib.ListN.{length};
-ghost use Rattle.generator.specs.Generator.{filled, announced, shifted, nextVector, aesVector};
+ghost use Rattle.generator.specs.Generator.{shifted, nextVector, aesVector};
 ghost use Rattle.generator.specs.Held.{stages, Holds};
-
-// The register that holds announced octets.
-fn fill(vector: &[u8]) -> u64
-    requires { ⌜ length (now vector) ≡ 8 ⌝ }
-    ensures { λ r. ⌜ Holds r (filled (now (vector .entry))) ⌝ }
-{
-    let mut register: u64 = 0;
-    let mut i = 0;
-    while i < 8 {
-        register = (register << 8) + (vector[i] as u64);
-        i += 1;
-    }
-    register
-}
+use octets::number_of;
+use octets::octets_of;
 
 // What a shift feeds to b0. The lowest bit of a sum is the exclusive or of the lowest bits.
 fn fed(r: u64) -> u64
@@ -34,31 +22,18 @@ fn shift(r: u64) -> u64
     (r << 1) + fed(r)
 }
 
-// The octets that announce a register.
-fn store(register: u64) -> [u8; 8]
-    ensures { λ r. ⌜ r ≡ announced (stages register) ⌝ }
-{
-    let mut out = [0u8; 8];
-    let mut i = 0;
-    while i < 8 {
-        out[i] = ((register >> (56 - 8 * i)) % 256) as u8;
-        i += 1;
-    }
-    out
-}
-
 // L(S), the next session's vector.
 pub fn next_vector(vector: &[u8]) -> [u8; 8]
     requires { ⌜ length (now vector) ≡ 8 ⌝ }
     ensures { λ r. ⌜ r ≡ nextVector (now (vector .entry)) ⌝ }
 {
-    let mut register = fill(vector);
+    let mut register = number_of(vector);
     let mut i: usize = 0;
     while i < 64 {
         register = shift(register);
         i += 1;
     }
-    store(register)
+    octets_of(register)
 }
 
 // The AES input vector: S, then L(S).

@@ -2,6 +2,7 @@ pub mod TestLaws
 pub mod Zeros
 pub mod ListLaws
 pub mod BitLaws
+pub mod Numbers
 pub mod Front
 pub mod Windows
 pub mod Turning

@@ -1,9 +1,9 @@
 // Octets and their bits, and a part of a lent buffer turned over by a stream of bits.
 ghost use mathlib.Core.Path.{_≡_};
-ghost use Prim.Native.Nat.{_+_, _-_, _*_, _/_, _%_, _^_, _≤_, _<_};
+ghost use Prim.Native.Nat.{ℕ, _+_, _-_, _*_, _/_, _%_, _^_, _≤_, _<_, min};
 ghost use lib.ListN.{length, getD};
 ghost use Rattle.octets.specs.Lists.{allZero};
-ghost use Rattle.octets.specs.Bits.{bit};
+ghost use Rattle.octets.specs.Bits.{bit, octetsFrom};
 ghost use Rattle.octets.specs.Turn.{turned};
 
 // An octet as an index.
@@ -11,6 +11,16 @@ pub fn wide(x: u8) -> usize
     ensures { λ r. ⌜ (r ≡ x) × (r < 256) ⌝ }
 {
     x as usize
+}
+
+// The lesser of two numbers.
+pub fn least(a: usize, b: usize) -> usize
+    ensures { λ r. ⌜ (r ≤ a) × (r ≤ b) × (r ≡ min a b) ⌝ }
+{
+    if a < b {
+        return a;
+    }
+    b
 }
 
 // Whether every octet is zero.
@@ -37,6 +47,33 @@ pub fn copy(src: &[u8], part: &mut [u8])
         part[i] = src[i];
         i += 1;
     }
+}
+
+// The number of eight octets, the first of them the most significant.
+pub fn number_of(octets: &[u8]) -> u64
+    requires { ⌜ length (now octets) ≡ 8 ⌝ }
+    ensures { λ r. ⌜ ((k : ℕ) → k < 64 → r / 2 ^ (63 - k) % 2 ≡ bit (now (octets .entry)) k) ⌝ }
+{
+    let mut number: u64 = 0;
+    let mut i = 0;
+    while i < 8 {
+        number = (number << 8) + (octets[i] as u64);
+        i += 1;
+    }
+    number
+}
+
+// The eight octets of a number.
+pub fn octets_of(number: u64) -> [u8; 8]
+    ensures { λ r. ⌜ r ≡ octetsFrom 8 (λ k. number / 2 ^ (63 - k) % 2) ⌝ }
+{
+    let mut out = [0u8; 8];
+    let mut i = 0;
+    while i < 8 {
+        out[i] = ((number >> (56 - 8 * i)) % 256) as u8;
+        i += 1;
+    }
+    out
 }
 
 // Octet i, or 0 past the end: a window may reach an octet further than the bits that count.

@@ -1,18 +1,10 @@
 // What is carried of a line that has not ended: its octets at the start of lent room, as far as there is room.
 ghost use mathlib.Core.Path.{_≡_};
 ghost use mathlib.Core.List.{_++_};
-ghost use Prim.Native.Nat.{_≤_, min};
+ghost use Prim.Native.Nat.{_≤_};
 ghost use lib.ListN.{length, take};
 use octets::copy;
-
-pub fn least(a: usize, b: usize) -> usize
-    ensures { λ r. ⌜ (r ≤ a) × (r ≤ b) × (r ≡ min a b) ⌝ }
-{
-    if a < b {
-        return a;
-    }
-    b
-}
+use octets::least;
 
 // More octets of the line after those that are kept; how many there are then.
 pub fn keep(room: &mut [u8], count: usize, octets: &[u8]) -> usize

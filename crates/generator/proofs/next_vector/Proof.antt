@@ -6,7 +6,7 @@ use borrow.Author.Needs.{needs}
 use Rattle.octets.specs.Lists.{iterate}
 use Rattle.generator.specs.Generator.{filled, shifted}
 use Rattle.generator.specs.Held.{Holds}
-use Rattle.generator.proofs.Register.{shift-start, shift-more, shift-done}
+use Rattle.generator.proofs.Register.{filled-held, shift-start, shift-more, shift-done}
 use Rattle.generator.proofs.next_vector.Statement.{statement}
 use Rattle.generator.proofs.next_vector.Tie as tie
 
@@ -17,7 +17,7 @@ abbrev μ-loop : tie.MeasureT-loop
 μ-loop vector register₀ i₀ register i = 64 - i
 
 returns : tie.Need-returns Inv-loop μ-loop
-returns c = c .store .ensures ∙ shift-done _ _ _ (search needs) (c .before .before .loop .inv .1)
+returns c = c .octets-of .ensures ∙ shift-done _ _ _ (search needs) (c .before .before .loop .inv .1)
 
 pub next-vector-spec : {M : Type 1} → statement M
 next-vector-spec =
@@ -26,7 +26,7 @@ next-vector-spec =
     Inv-loop
     μ-loop
     (λ c κs. search needs)
-    (λ c. (omega arith, shift-start _ _ (c .fill .ensures)))
+    (λ c. (omega arith, shift-start _ _ (filled-held _ _ (c .number-of .ensures))))
     (λ c κs. search needs)
     (λ c. omega arith)
     (λ c. omega arith)
