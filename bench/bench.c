@@ -4,6 +4,7 @@
 #define OPENSSL_SUPPRESS_DEPRECATED
 #include <openssl/aes.h>
 #include <openssl/des.h>
+#include <stdbool.h>
 #include <stdio.h>
 #include <stdlib.h>
 #include <string.h>
@@ -12,11 +13,12 @@
 typedef unsigned char octet;
 
 void timed_blocks(const octet *key, size_t key_len, octet *block, size_t block_len, size_t n);
-void timed_session(octet cipher, const octet *key, size_t key_len, const octet *vector, size_t vector_len, octet *out, size_t out_len);
+void timed_joined_blocks(const octet *key, size_t key_len, octet *block, size_t block_len, size_t n);
+void timed_session(bool plain, octet cipher, const octet *key, size_t key_len, const octet *vector, size_t vector_len, octet *out, size_t out_len);
 
 void timed_message(octet cipher, const octet *key, size_t key_len, const octet *vector, size_t vector_len, unsigned short count, octet *message, size_t message_len);
 
-enum { MESSAGES = 1000, DCALL_OCTETS = 22, BATCHES = 40, BLOCKS = 2000, SESSIONS = 200, SESSION_OCTETS = 196, SCRAMBLE_OCTETS = 98 };
+enum { MESSAGES = 1000, DCALL_OCTETS = 22, BATCHES = 40, BLOCKS = 2000, STREAM_OCTETS = 8 * BLOCKS, SESSIONS = 200, SESSION_OCTETS = 196, SCRAMBLE_OCTETS = 98 };
 
 static const octet des_key[8] = {0xAB, 0xCD, 0xEF, 0x01, 0x23, 0x45, 0x67, 0x89};
 static const octet aes_key[32] = {0xAB, 0xCD, 0xEF, 0x01, 0x23, 0x45, 0x67, 0x89, 0xCD, 0xEF, 0x01, 0x23, 0x45, 0x67, 0x89, 0xAB,
@@ -43,7 +45,7 @@ static void openssl_aes(octet *block, size_t n) {
 }
 
 /* Output feedback as NXDN has it: the first enciphered block is not used. */
-static void openssl_session(int cipher, octet *out) {
+static void openssl_stream(int cipher, octet *out, int octets) {
     octet block[16];
     int width = cipher == 2 ? 8 : 16, at;
     memcpy(block, seed, 8);
@@ -52,14 +54,17 @@ static void openssl_session(int cipher, octet *out) {
     AES_KEY k;
     if (cipher == 2) DES_set_key_unchecked((const_DES_cblock *)des_key, &ks);
     else AES_set_encrypt_key(aes_key, 256, &k);
-    for (at = -width; at < SESSION_OCTETS; at += width) {
+    for (at = -width; at < octets; at += width) {
         if (cipher == 2) DES_ecb_encrypt((const_DES_cblock *)block, (DES_cblock *)block, &ks, DES_ENCRYPT);
         else AES_encrypt(block, block, &k);
-        if (at >= 0) memcpy(out + at, block, at + width <= SESSION_OCTETS ? width : SESSION_OCTETS - at);
+        if (at >= 0) memcpy(out + at, block, at + width <= octets ? width : octets - at);
     }
 }
 
+static void openssl_session(int cipher, octet *out) { openssl_stream(cipher, out, SESSION_OCTETS); }
+
 static void our_des(octet *block, size_t n) { timed_blocks(des_key, 8, block, 8, n); }
+static void our_joined(octet *block, size_t n) { timed_joined_blocks(des_key, 8, block, 8, n); }
 static void our_aes(octet *block, size_t n) { timed_blocks(aes_key, 32, block, 16, n); }
 
 static double per_block(void (*run)(octet *, size_t), octet *block) {
@@ -92,8 +97,23 @@ static double packet(int cipher) {
 static void our_session(int cipher, octet *out) {
     octet key[32] = {0};
     key_of(cipher, key);
-    timed_session(cipher, key, 32, seed, 8, out, cipher == 1 ? SCRAMBLE_OCTETS : SESSION_OCTETS);
+    timed_session(false, cipher, key, 32, seed, 8, out, cipher == 1 ? SCRAMBLE_OCTETS : SESSION_OCTETS);
 }
+
+static void our_plain_session(int cipher, octet *out) {
+    octet key[32] = {0};
+    key_of(cipher, key);
+    timed_session(true, cipher, key, 32, seed, 8, out, SESSION_OCTETS);
+}
+
+/* A block of output feedback in a long stream: the first encipherment, and the key, are a small part of it. */
+static void our_feedback(octet *out, size_t n) {
+    octet key[32] = {0};
+    key_of(2, key);
+    timed_session(false, 2, key, 32, seed, 8, out, 8 * n);
+}
+
+static void openssl_feedback(octet *out, size_t n) { openssl_stream(2, out, 8 * n); }
 
 static double per_session(void (*run)(int, octet *), int cipher, octet *out) {
     double best = 1e30;
@@ -113,19 +133,27 @@ static void same(const char *what, const octet *a, const octet *b, size_t n) {
 }
 
 static void row(const char *what, double ours, double theirs) {
-    if (theirs > 0) printf("%-28s %9.0f ns   OpenSSL %9.0f ns   %5.1f times\n", what, ours, theirs, ours / theirs);
+    if (theirs > 0) printf("%-28s %9.0f ns   OpenSSL %9.0f ns   %6.2f times\n", what, ours, theirs, ours / theirs);
     else printf("%-28s %9.0f ns\n", what, ours);
 }
 
 int main(void) {
-    octet a[256] = {0}, b[256] = {0};
+    static octet a[STREAM_OCTETS], b[STREAM_OCTETS];
     our_des(a, 1000), openssl_des(b, 1000), same("DES", a, b, 8);
+    our_joined(a, 1000), openssl_des(b, 1000), same("DES by its joined tables", a, b, 8);
     our_aes(a, 1000), openssl_aes(b, 1000), same("AES-256", a, b, 16);
     for (int cipher = 2; cipher <= 3; cipher++) our_session(cipher, a), openssl_session(cipher, b), same("a session", a, b, SESSION_OCTETS);
-    row("DES block", per_block(our_des, a), per_block(openssl_des, b));
+    our_plain_session(2, a), openssl_session(2, b), same("a session by the plain engine", a, b, SESSION_OCTETS);
+    our_feedback(a, BLOCKS), openssl_feedback(b, BLOCKS), same("output feedback", a, b, STREAM_OCTETS);
+    double openssl = per_block(openssl_des, b);
+    row("DES block, plain engine", per_block(our_des, a), openssl);
+    row("DES block, joined tables", per_block(our_joined, a), openssl);
+    row("the same, output feedback", per_block(our_feedback, a), per_block(openssl_feedback, b));
     row("AES-256 block", per_block(our_aes, a), per_block(openssl_aes, b));
     row("scramble session, 98 octets", per_session(our_session, 1, a), 0);
-    row("DES session, 196 octets", per_session(our_session, 2, a), per_session(openssl_session, 2, b));
+    openssl = per_session(openssl_session, 2, b);
+    row("DES session, plain engine", per_session(our_plain_session, 2, a), openssl);
+    row("DES session, joined tables", per_session(our_session, 2, a), openssl);
     row("AES session, 196 octets", per_session(our_session, 3, a), per_session(openssl_session, 3, b));
     for (int cipher = 1; cipher <= 3; cipher++) printf("packet of %d DCALL messages, cipher type %d %14.0f ms\n", MESSAGES, cipher, packet(cipher));
     return 0;

@@ -1,5 +1,5 @@
 -- A keystream is bits, and rests on the key's own octets alone.
-use mathlib.Core.Path.{_≡_, sym, ap, _∙_}
+use mathlib.Core.Path.{_≡_, refl, sym, ap, _∙_}
 use mathlib.Core.List.{List, _++_, append-nil}
 use Prim.Native.Nat.{ℕ, _-_, _/_, _%_, _≤_, _<_}
 use native.Mathlib.Omega.{arith}
@@ -12,9 +12,11 @@ use Rattle.scramble.proofs.Recurrence.{P-bit}
 use Rattle.generator.specs.Generator.{aesVector}
 use Rattle.des.specs.Des.{des}
 use Rattle.des.proofs.DesLaws.{first-eight}
+use Rattle.des.proofs.BothEngines.{both-engines}
 use Rattle.aes.specs.Cipher.{aes}
-use Rattle.sizes.specs.Ciphers.{blockBits, keyOctets}
+use Rattle.sizes.specs.Ciphers.{byCipher, blockBits, keyOctets}
 use Rattle.ciphers.specs.Keystream.{usedBlock, feedback, stream}
+use Rattle.ciphers.specs.DesEngines.{DesEngine, Plain, Joined, desBy, streamBy}
 use Rattle.sizes.proofs.Cases.{by-each, by-range}
 use Rattle.ciphers.proofs.EngineLaws.{feedback-same}
 
@@ -50,3 +52,16 @@ pub stream-rest : (c : ℕ) → (1 ≤ c) × (c ≤ 3) → (key v : List ℕ) �
 stream-rest c r key v =
     by-range (λ m. length key ≡ keyOctets m → (n : ℕ) → stream m (key ++ replicate (32 - keyOctets m) 0) v n ≡ stream m key v n)
     (scramble-rest key (replicate 30 0) v) (des-rest key (replicate 24 0) v) (λ l n. rw append-nil) c r
+
+-- ---- by either engine of DES
+
+either-block : (e : DesEngine) (key block : List ℕ) → desBy e key block ≡ des key block
+either-block Plain key block = refl
+either-block Joined key block = both-engines key block
+
+-- it is the one keystream
+pub either-stream : (e : DesEngine) (c : ℕ) (key vector : List ℕ) (n : ℕ) → streamBy (desBy e) c key vector n ≡ stream c key vector n
+unfolding streamBy stream
+either-stream e c key vector n =
+    ap (λ (b : ℕ). byCipher c (P key n) b (feedback (aes key) (blockBits 3) (aesVector vector) n) 0)
+    (feedback-same (desBy e key) (des key) (blockBits 2) vector (either-block e key) n)

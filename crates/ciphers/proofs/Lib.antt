@@ -1,4 +1,6 @@
 pub mod KeyLaws
 pub mod Chained
+pub mod CarriedFeedback
 pub mod EngineLaws
 pub mod KeystreamLaws
+pub mod OtherEngines

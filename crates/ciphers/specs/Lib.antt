@@ -1,3 +1,4 @@
 pub mod Keys
 pub mod Keystream
 pub mod Engine
+pub mod DesEngines

@@ -1,4 +1,5 @@
-// The three ciphers: which keys they allow, and the one keystream.
+// The three ciphers: which keys they allow, and the one keystream, with DES by either of its engines.
 mod feedback;
+pub mod joined;
 pub mod key;
-pub mod keystream;
+pub mod plain;

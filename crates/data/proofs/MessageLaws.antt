@@ -3,7 +3,7 @@ use mathlib.Core.Path.{_≡_, refl, sym, ap, ap₂, _∙_}
 use mathlib.Core.Bool.{true, false, _||_, not, or-true, true≢false}
 use mathlib.Core.List.{List, [], _∷_, _++_}
 use Prim.Native.Nat.{ℕ, _+_, _-_, _*_, _/_, _≤_, _<_}
-use native.Mathlib.Nat.{zero-add, mul-le-mul}
+use native.Mathlib.Nat.{zero-add, mul-assoc, mul-le-mul}
 use native.Mathlib.Omega.{arith}
 use lib.Dec.{leb, eqb}
 use lib.ListN.{length, take, drop, length-append, length-drop, List·getD-append}
@@ -24,7 +24,7 @@ use Rattle.ciphers.proofs.KeystreamLaws.{bits-stream}
 use Rattle.octets.proofs.TestLaws.{or-right, or-neither}
 use Rattle.octets.proofs.Turning.{turned-within}
 use Rattle.data.specs.declared.packet.Packet.{Packet}
-use Rattle.data.specs.Kinds.{messageOctets, headOctets, protectedOctets}
+use Rattle.data.specs.Kinds.{messageOctets, headOctets, protectedOctets, protectedBits}
 use Rattle.data.specs.Packet.{mostMessages, isClosed, isOpen, goodPacket}
 use Rattle.data.specs.Message.{counted, lostRefusals, lostOf, messageRefusals, ofMessage, messageTurned, messageOf}
 use Rattle.data.proofs.KindLaws.{kind-fits, kind-most}
@@ -102,16 +102,17 @@ module _ (part : ℕ) (own buffer : List ℕ) (ks : ℕ → ℕ) (room : part �
 
 -- where it was the message's own bits, it turns the message as the packet does
 module _ (p : Packet) (message : List ℕ) (part from : ℕ) (own buffer m : List ℕ)
-    (is-part : part ≡ protectedOctets (p .kind)) (is-from : from ≡ 8 * part * p .count) (room : part ≤ length buffer)
-    (is-own : own ≡ octetsFrom (length (take part buffer)) (λ k. stream (p .cipher) (p .key) (p .vector) (from + k))) where
+    (is-part : part ≡ protectedOctets (p .kind)) (is-from : from ≡ part * p .count) (room : part ≤ length buffer)
+    (is-own : own ≡ octetsFrom (length (take part buffer)) (λ k. stream (p .cipher) (p .key) (p .vector) (8 * from + k))) where
   abbrev ks : ℕ → ℕ
   ks = ofMessage (stream (p .cipher) (p .key) (p .vector)) (p .kind) (p .count)
 
   message-bit : (k : ℕ) → k < 8 * part → bit (own ++ drop part buffer) (0 + k) ≡ ks k
   message-bit k h =
-      own-bit part own buffer (λ i. stream (p .cipher) (p .key) (p .vector) (from + i)) room is-own
-      (λ i. bits-stream (p .cipher) (p .key) (p .vector) (from + i)) k h
-      ∙ rw (is-from, is-part)
+      let e : 8 * from ≡ protectedBits (p .kind) * p .count = rw (is-from, is-part) (sym (mul-assoc 8 (protectedOctets (p .kind)) (p .count))) in
+      own-bit part own buffer (λ i. stream (p .cipher) (p .key) (p .vector) (8 * from + i)) room is-own
+      (λ i. bits-stream (p .cipher) (p .key) (p .vector) (8 * from + i)) k h
+      ∙ rw e
 
   pub by-own : m ≡ turned (8 * part) (λ n. bit (own ++ drop part buffer) (0 + n)) (take (headOctets + part - headOctets) (drop headOctets message))
       → putMid headOctets (headOctets + part - headOctets) message m ≡ messageTurned p message
@@ -129,11 +130,10 @@ pub part-ends : (p : Packet) (message : List ℕ) → isOpen p ≡ true → {par
     → length message ≡ messageOctets (p .kind) → headOctets + part ≤ length message
 part-ends p message o e l = rw (e, l) (kind-fits (p .kind) (open-kind p o))
 
-pub place-fits : (part count : ℕ) → part ≤ 20 → count < mostMessages → 8 * part * count ≤ 160000
+pub place-fits : (part count : ℕ) → part ≤ 20 → count < mostMessages → part * count ≤ 20000
 place-fits part count a b =
-    let h : 8 * part ≤ 160 = omega arith in
     let l : count ≤ 1000 = omega arith in
-    omega (arith, mul-le-mul h l)
+    omega (arith, mul-le-mul a l)
 
 -- ---- a message
 

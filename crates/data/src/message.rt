@@ -16,7 +16,7 @@ use crate::packet::Packet;
 use crate::packet::Taken;
 use crate::packet::good_packet;
 use answers::Answer;
-use ciphers::keystream::keystream;
+use ciphers::joined;
 use octets::turn;
 
 // The packet one message on.
@@ -53,27 +53,26 @@ pub fn lost(packet: Packet) -> Taken
 
 // ---- a message
 
-// The protected octets, turned where they stand by the message's own bits of the packet's keystream.
+// The protected octets, turned where they stand by the message's own bits of the packet's keystream, with DES by its joined tables.
 fn turn_message(packet: Packet, message: &mut [u8])
     requires { ⌜ (isOpen packet ≡ true) × (packet .count < mostMessages) × (length (now message) ≡ messageOctets (packet .kind)) ⌝ }
     ensures { λ _. ⌜ now (message .exit) ≡ messageTurned packet (now (message .entry)) ⌝ }
 {
     let part = protected_octets(packet.kind);
-    let bits = 8 * part;
     let count = packet.count as usize;
     let key = packet.key;
     let vector = packet.vector;
     let mut stream = [0; MOST_PROTECTED];
-    keystream(
+    joined::keystream(
         packet.cipher,
         key,
         vector,
-        bits * count,
+        part * count,
         &mut stream[..part],
     );
     turn(
         &mut message[HEAD_OCTETS..HEAD_OCTETS + part],
-        bits,
+        8 * part,
         &stream,
         0,
     );

@@ -26,6 +26,7 @@ pub mod ThrownOutDefault
 pub mod HeardThrownOut
 pub mod Ends
 pub mod DeviceLaws
+pub mod EitherEngines
 pub mod RefusalOrder
 pub mod TimeLaws
 pub mod RefusedLaws

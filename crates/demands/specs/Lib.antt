@@ -11,6 +11,7 @@ pub mod OtherHearings
 pub mod Others
 pub mod OurSender
 pub mod Device
+pub mod EitherEngine
 pub mod Host
 pub mod HostDemands
 pub mod Refusals

@@ -22,11 +22,13 @@ pub octets-des : (key block : List ℕ) → Octets (des key block)
 unfolding des
 octets-des key block = octets-octetsFrom 8 _ (bits-enciphered (roundKey (tab (bit key) 64)) (tab (bit block) 64) (bits-of block 64))
 
+-- the 64 bits of a key are those of its first eight octets
+pub first-bits : (key : List ℕ) → tab (bit (take 8 key)) 64 ≡ tab (bit key) 64
+first-bits key = tab-same (bit (take 8 key)) (bit key) 64 (λ i h. rw (getD-take 8 key (i / 8) 0 (omega arith)))
+
 pub first-eight : (key block : List ℕ) → des (take 8 key) block ≡ des key block
 unfolding des
-first-eight key block =
-    ap (λ (t : List ℕ). octetsFrom 8 (λ k. getD (enciphered (roundKey t) (tab (bit block) 64)) k 0))
-    (tab-same (bit (take 8 key)) (bit key) 64 (λ i h. rw (getD-take 8 key (i / 8) 0 (omega arith))))
+first-eight key block = ap (λ (t : List ℕ). octetsFrom 8 (λ k. getD (enciphered (roundKey t) (tab (bit block) 64)) k 0)) (first-bits key)
 
 -- ---- a block, and where the boxes look, as the code finds them
 

@@ -1,19 +1,21 @@
--- The key schedule: shifts compose, a half that stands twice over has each of its shifts in it, so each round's C and D stand in what its key is read from.
+-- The key schedule: shifts compose, a half that stands twice over has each of its shifts in it, so each round's C and D stand in C and D twice over.
 use mathlib.Core.Path.{_≡_, refl, sym, ap, ap₂, _∙_}
 use mathlib.Core.List.{List, _++_, append-assoc, append-nil}
 use Prim.Native.Nat.{ℕ, zero, suc, _+_, _-_, _≤_, _<_}
 use native.Mathlib.Omega.{arith}
 use lib.Dec.{leb}
 use lib.ListN.{length, getD, take, drop, length-append, length-drop, take-append-drop, List·getD-append}
-use lib.Seq.{getD-append-add, getD-drop, length-take-le, drop-append-le, take-append-le, drop-drop, take-add, take-at, drop-at}
+use lib.Seq.{getD-append-add, getD-drop, length-take-le, drop-append-le, take-append-le, drop-drop, take-add, take-all, take-at, drop-at}
 use borrow.Author.Tests.{leb-true}
 use Rattle.octets.specs.Tests.{allBelow}
+use Rattle.octets.specs.Lists.{tab}
+use Rattle.octets.specs.Bits.{bit}
 use Rattle.octets.proofs.TestLaws.{all-at}
 use Rattle.octets.proofs.ListLaws.{length-tab, getD-tab}
 use Rattle.des.specs.Tables.{PC-1, PC-2, leftShifts}
 use Rattle.des.specs.Des.{permuted, rotated, keyState, roundKey}
-use Rattle.des.specs.Prepared.{cOf, dOf, shiftsTo, shiftSums, scheduleOf}
-use Rattle.des.proofs.BitLists.{BitList, bits-append, bits-take, bits-drop, bits-permuted, length-permuted}
+use Rattle.des.specs.Prepared.{cOf, dOf, shiftsTo, shiftSums, twiceOver, scheduleOf}
+use Rattle.des.proofs.BitLists.{BitList, bits-of, bits-append, bits-take, bits-drop, bits-permuted, length-permuted}
 
 -- ---- shifts
 
@@ -22,12 +24,12 @@ unfolding rotated
 rotated-none l = append-nil l
 
 module _ (s : ℕ) (l : List ℕ) (small : s ≤ length l) where
-  length-rotated : length (rotated s l) ≡ length l
+  pub length-rotated : length (rotated s l) ≡ length l
   unfolding rotated
   length-rotated = length-append (drop s l) (take s l) ∙ omega (arith, length-drop s l, length-take-le s l small)
 
   -- a list twice over, from place s on, begins with the list shifted by s
-  around : (j : ℕ) → j < length l → getD (l ++ l) (s + j) 0 ≡ getD (rotated s l) j 0
+  pub around : (j : ℕ) → j < length l → getD (l ++ l) (s + j) 0 ≡ getD (rotated s l) j 0
   unfolding rotated
   around j h =
       sym (getD-drop s (l ++ l) j 0)
@@ -69,7 +71,7 @@ module _ (key : List ℕ) where
   length-c : length c ≡ 28
   length-c = length-take-le 28 (permuted PC-1 key) (omega (arith, both))
 
-  pub length-d : length d ≡ 28
+  length-d : length d ≡ 28
   length-d = length-drop 28 (permuted PC-1 key) ∙ omega (arith, both)
 
   state-shifted : (n : ℕ) → n ≤ 16 → keyState key n ≡ rotated (shiftsTo n) c ++ rotated (shiftsTo n) d
@@ -85,7 +87,7 @@ module _ (key : List ℕ) where
       ap₂ (λ (u v : List ℕ). rotated s u ++ rotated s v) (ap (take 28) before ∙ take-at x y 28 long) (ap (drop 28) before ∙ drop-at x y 28 long)
       ∙ ap₂ _++_ (shifts-compose (shiftsTo n) s c (omega (arith, length-c))) (shifts-compose (shiftsTo n) s d (omega (arith, length-d)))
 
-  -- ---- and where they stand in what the keys of the rounds are read from
+  -- ---- and where they stand
 
   pub length-cc : length (c ++ c) ≡ 56
   length-cc = length-append c c ∙ omega (arith, length-c)
@@ -93,9 +95,23 @@ module _ (key : List ℕ) where
   pub length-dd : length (d ++ d) ≡ 56
   length-dd = length-append d d ∙ omega (arith, length-d)
 
+  pub length-twice : length (twiceOver key) ≡ 112
+  unfolding twiceOver
+  length-twice = length-append (c ++ c) (d ++ d) ∙ omega (arith, length-cc, length-dd)
+
   pub length-schedule : length (scheduleOf key) ≡ 128
   unfolding scheduleOf
-  length-schedule = length-append (c ++ c) ((d ++ d) ++ shiftSums) ∙ omega (arith, length-cc, length-append (d ++ d) shiftSums, length-dd, length-sums)
+  length-schedule = length-append (twiceOver key) shiftSums ∙ omega (arith, length-twice, length-sums)
+
+  -- as the code takes each of them twice
+  module _ (cd : List ℕ) (is-cd : cd ≡ permuted PC-1 key) where
+    pub twice-c : (x : List ℕ) → x ≡ take 28 cd ++ take 28 cd → x ≡ c ++ c
+    twice-c x e = e ∙ ap (λ (l : List ℕ). take 28 l ++ take 28 l) is-cd
+
+    pub twice-d : (y : List ℕ) → y ≡ take 28 (drop 28 cd) ++ take 28 (drop 28 cd) → y ≡ d ++ d
+    twice-d y e =
+        e ∙ ap (λ (l : List ℕ). take 28 (drop 28 l) ++ take 28 (drop 28 l)) is-cd
+        ∙ ap (λ (l : List ℕ). l ++ l) (take-all 28 d (omega (arith, length-d)))
 
   module _ (n : ℕ) (h : n < 16) where
     abbrev s : ℕ
@@ -104,9 +120,8 @@ module _ (key : List ℕ) where
     pub sum-at : getD (scheduleOf key) (112 + n) 0 ≡ s
     unfolding scheduleOf shiftSums
     sum-at =
-        ap (λ (k : ℕ). getD (scheduleOf key) k 0) (omega (arith, length-cc, length-dd))
-        ∙ getD-append-add (c ++ c) ((d ++ d) ++ shiftSums) (length (d ++ d) + n) 0
-        ∙ getD-append-add (d ++ d) shiftSums n 0
+        ap (λ (k : ℕ). getD (scheduleOf key) (k + n) 0) (sym length-twice)
+        ∙ getD-append-add (twiceOver key) shiftSums n 0
         ∙ getD-tab (λ k. shiftsTo (suc k)) 16 n h
 
     pub shifts-small : s ≤ 28
@@ -115,21 +130,20 @@ module _ (key : List ℕ) where
     long-c : length (rotated s c) ≡ 28
     long-c = length-rotated s c (omega (arith, shifts-small, length-c)) ∙ length-c
 
-    pub c-at : (j : ℕ) → j < 28 → getD (scheduleOf key) (s + j) 0 ≡ getD (keyState key (suc n)) j 0
-    unfolding scheduleOf
+    pub c-at : (j : ℕ) → j < 28 → getD (twiceOver key) (s + j) 0 ≡ getD (keyState key (suc n)) j 0
+    unfolding twiceOver
     c-at j b =
-        List·getD-append (c ++ c) ((d ++ d) ++ shiftSums) 0 (s + j) (omega (arith, shifts-small, length-cc))
+        List·getD-append (c ++ c) (d ++ d) 0 (s + j) (omega (arith, shifts-small, length-cc))
         ∙ around s c (omega (arith, shifts-small, length-c)) j (omega (arith, length-c))
         ∙ sym (List·getD-append (rotated s c) (rotated s d) 0 j (omega (arith, long-c)))
         ∙ ap (λ (x : List ℕ). getD x j 0) (sym (state-shifted (suc n) h))
 
     -- D's places are 28 and more, and it stands 28 further on
-    pub d-at : (j : ℕ) → 28 ≤ j → j < 56 → getD (scheduleOf key) (s + 28 + j) 0 ≡ getD (keyState key (suc n)) j 0
-    unfolding scheduleOf
+    pub d-at : (j : ℕ) → 28 ≤ j → j < 56 → getD (twiceOver key) (s + 28 + j) 0 ≡ getD (keyState key (suc n)) j 0
+    unfolding twiceOver
     d-at j a b =
-        ap (λ (k : ℕ). getD (scheduleOf key) k 0) (omega (arith, length-cc))
-        ∙ getD-append-add (c ++ c) ((d ++ d) ++ shiftSums) (s + (j - 28)) 0
-        ∙ List·getD-append (d ++ d) shiftSums 0 (s + (j - 28)) (omega (arith, shifts-small, length-dd))
+        ap (λ (k : ℕ). getD (twiceOver key) k 0) (omega (arith, length-cc))
+        ∙ getD-append-add (c ++ c) (d ++ d) (s + (j - 28)) 0
         ∙ around s d (omega (arith, shifts-small, length-d)) (j - 28) (omega (arith, length-d))
         ∙ sym (getD-append-add (rotated s c) (rotated s d) (j - 28) 0)
         ∙ ap (λ (k : ℕ). getD (rotated s c ++ rotated s d) k 0) (omega (arith, long-c))
@@ -150,6 +164,6 @@ bits-state key (suc n) b =
     bits-append (rotated s (take 28 cd)) (rotated s (drop 28 cd)) (bits-rotated s (take 28 cd) (bits-take 28 cd (bits-state key n b)))
     (bits-rotated s (drop 28 cd) (bits-drop 28 cd (bits-state key n b)))
 
-pub bits-roundKey : (key : List ℕ) (n : ℕ) → BitList key → BitList (roundKey key n)
+pub bits-key : (key : List ℕ) (n : ℕ) {l : List ℕ} → l ≡ roundKey (tab (bit key) 64) n → BitList l
 unfolding roundKey
-bits-roundKey key n b = bits-permuted PC-2 (keyState key (suc n)) (bits-state key (suc n) b)
+bits-key key n e = let bits = tab (bit key) 64 in rw e (bits-permuted PC-2 (keyState bits (suc n)) (bits-state bits (suc n) (bits-of key 64)))

@@ -1,18 +1,16 @@
--- A prepared key: its size, and how `prepare` puts it together.
+-- A prepared key: its size, what stands in it, and how `prepare` puts it together.
 use mathlib.Core.Path.{_≡_, sym, ap, _∙_}
 use mathlib.Core.List.{List, _++_, append-assoc}
-use Prim.Native.Nat.{ℕ, _+_, _≤_}
+use Prim.Native.Nat.{ℕ, suc, _+_, _≤_, _<_}
 use native.Mathlib.Omega.{arith}
 use borrow.Rule.Slice.PartMut.{putMid}
-use lib.ListN.{length, getD, take, drop, length-append, length-drop}
+use lib.ListN.{length, getD, take, drop, length-append, length-drop, List·getD-append}
 use lib.Seq.{getD-drop, take-all, take-at, drop-at, drop-drop, length-take-le}
 use Rattle.octets.specs.Lists.{tab}
 use Rattle.octets.specs.Bits.{bit}
 use Rattle.octets.proofs.Front.{Front, front-start, front-done, front-piece}
-use Rattle.des.specs.Tables.{PC-1}
-use Rattle.des.specs.Des.{permuted}
-use Rattle.des.specs.Prepared.{cipherTables, cOf, dOf, shiftSums, scheduleOf, keyOf, Prepared}
-use Rattle.des.proofs.KeyLaws.{length-d, length-cc, length-dd, length-sums, length-schedule}
+use Rattle.des.specs.Prepared.{cipherTables, cOf, dOf, shiftsTo, shiftSums, twiceOver, scheduleOf, keyOf, Prepared}
+use Rattle.des.proofs.KeyLaws.{length-cc, length-dd, length-sums, length-twice, length-schedule, sum-at}
 use Rattle.des.proofs.TableLaws.{length-cipherTables}
 
 -- behind two parts
@@ -40,10 +38,17 @@ module _ (p : List ℕ) (w : Prepared p) where
   within h = omega (arith, length-prepared)
 
   -- what the keys of the rounds are read from stands behind the key
-  pub in-schedule : (m : ℕ) → getD p (776 + m) 0 ≡ getD (scheduleOf key) m 0
+  in-schedule : (m : ℕ) → getD p (776 + m) 0 ≡ getD (scheduleOf key) m 0
   in-schedule m =
       sym (getD-drop 776 p m 0)
       ∙ ap (λ (x : List ℕ). getD x m 0) (ap (drop 776) (w .parts) ∙ behind cipherTables (keyOf p) (scheduleOf key) 776 (omega (arith, length-cipherTables, key-long)))
+
+  pub halves-at : (m : ℕ) → m < 112 → getD p (776 + m) 0 ≡ getD (twiceOver key) m 0
+  unfolding scheduleOf
+  halves-at m h = in-schedule m ∙ List·getD-append (twiceOver key) shiftSums 0 m (omega (arith, length-twice key))
+
+  pub shifts-at : (n : ℕ) → n < 16 → getD p (888 + n) 0 ≡ shiftsTo (suc n)
+  shifts-at n h = ap (λ (k : ℕ). getD p k 0) (omega arith) ∙ in-schedule (112 + n) ∙ sum-at key n h
 
 -- ---- the tables, a key and what its rounds' keys are read from, put one after the other
 
@@ -72,24 +77,14 @@ module _ (d key : List ℕ) (long : length d ≡ 904) (key-long : length key ≡
   dd = dOf (tab (bit key) 64) ++ dOf (tab (bit key) 64)
 
   from-c : drop 776 all ≡ cc ++ (dd ++ shiftSums)
-  unfolding scheduleOf
-  from-c = behind cipherTables key own 776 (omega (arith, length-cipherTables))
+  unfolding scheduleOf twiceOver
+  from-c = behind cipherTables key own 776 (omega (arith, length-cipherTables)) ∙ append-assoc cc dd shiftSums
 
   from-d : drop 832 all ≡ dd ++ shiftSums
   from-d = sym (drop-drop 56 776 all) ∙ ap (drop 56) from-c ∙ drop-at cc (dd ++ shiftSums) 56 (length-cc (tab (bit key) 64))
 
   from-sums : drop 888 all ≡ shiftSums
   from-sums = sym (drop-drop 56 832 all) ∙ ap (drop 56) from-d ∙ drop-at dd shiftSums 56 (length-dd (tab (bit key) 64))
-
-  -- as the code takes them from C and D
-  module _ (cd : List ℕ) (is-cd : cd ≡ permuted PC-1 (tab (bit key) 64)) where
-    pub twice-c : (x : List ℕ) → x ≡ take 28 cd ++ take 28 cd → x ≡ cc
-    twice-c x e = e ∙ ap (λ (l : List ℕ). take 28 l ++ take 28 l) is-cd
-
-    pub twice-d : (y : List ℕ) → y ≡ take 28 (drop 28 cd) ++ take 28 (drop 28 cd) → y ≡ dd
-    twice-d y e =
-        e ∙ ap (λ (l : List ℕ). take 28 (drop 28 l) ++ take 28 (drop 28 l)) is-cd
-        ∙ ap (λ (l : List ℕ). l ++ l) (take-all 28 (dOf (tab (bit key) 64)) (omega (arith, length-d (tab (bit key) 64))))
 
   module _ (t : List ℕ) (is-t : t ≡ cipherTables) where
     pub put-t : Front all d (putMid 0 768 d t) 768

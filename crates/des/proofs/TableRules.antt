@@ -17,7 +17,7 @@ use Rattle.des.specs.Tables.{IP, IP⁻¹, E, P, PC-1, PC-2, leftShifts, 
 use Rattle.des.specs.Des.{permuted}
 use Rattle.des.specs.Prepared.{shiftsTo}
 use Rattle.des.proofs.BitLists.{length-permuted, getD-permuted}
-use Rattle.des.proofs.PlaceLaws.{inverse-places}
+use Rattle.des.proofs.PlaceLaws.{Places, ip-places, inverse-places}
 
 -- how often v stands in a list
 unfoldable pub times : ℕ → List ℕ → ℕ
@@ -37,11 +37,11 @@ permutation a n l e =
 
 -- ---- the initial permutation and its inverse
 
-length-ip : length IP ≡ 64
+pub length-ip : length IP ≡ 64
 unfolding IP
 length-ip = refl
 
-length-inverse : length IP⁻¹ ≡ 64
+pub length-inverse : length IP⁻¹ ≡ 64
 unfolding IP⁻¹
 length-inverse = refl
 
@@ -50,21 +50,26 @@ pub ip-columns : IP ≡ tab (λ k. 56 - 8 * (k % 8) + (2 * (k / 8) + 2) % 9) 64
 unfolding IP tab
 ip-columns = refl
 
--- the places of 64 bits, permuted by the one and then by the other, are the places again
-pub places-undone : permuted IP⁻¹ IP ≡ tab suc 64
-unfolding permuted IP⁻¹ IP tab
-places-undone = refl
+-- a table undoes another where the places of 64 bits, permuted by the other and then by it, are the places again
+module _ (t u : List ℕ) (long-t : length t ≡ 64) (long-u : length u ≡ 64) (inside : Places 64 t) (back : permuted t u ≡ tab suc 64) where
+  undoes : (block : List ℕ) → length block ≡ 64 → permuted t (permuted u block) ≡ block
+  undoes block l =
+      ext-getD 0 _ _ (length-permuted t _ ∙ long-t ∙ sym l)
+      (λ i h.
+      let small : i < 64 = omega (arith, length-permuted t (permuted u block), long-t) in
+      let within : i < length t = omega (arith, long-t) in
+      let place : getD u (getD t i 0 - 1) 0 ≡ suc i = sym (getD-permuted t u i within) ∙ ap (λ (x : List ℕ). getD x i 0) back ∙ getD-tab suc 64 i small in
+      getD-permuted t (permuted u block) i within
+      ∙ getD-permuted u block (getD t i 0 - 1) (omega (arith, inside i within, long-u))
+      ∙ ap (λ (k : ℕ). getD block k 0) (omega (arith, place)))
 
 pub undone : (block : List ℕ) → length block ≡ 64 → permuted IP⁻¹ (permuted IP block) ≡ block
-undone block l =
-    ext-getD 0 _ _ (length-permuted IP⁻¹ _ ∙ length-inverse ∙ sym l)
-    (λ i h.
-    let small : i < 64 = omega (arith, length-permuted IP⁻¹ (permuted IP block), length-inverse) in
-    let inside : i < length IP⁻¹ = omega (arith, length-inverse) in
-    let back : getD IP (getD IP⁻¹ i 0 - 1) 0 ≡ suc i = sym (getD-permuted IP⁻¹ IP i inside) ∙ ap (λ (t : List ℕ). getD t i 0) places-undone ∙ getD-tab suc 64 i small in
-    getD-permuted IP⁻¹ (permuted IP block) i inside
-    ∙ getD-permuted IP block (getD IP⁻¹ i 0 - 1) (omega (arith, inverse-places i inside, length-ip))
-    ∙ ap (λ (k : ℕ). getD block k 0) (omega (arith, back)))
+unfolding permuted IP⁻¹ IP tab
+undone = undoes IP⁻¹ IP length-inverse length-ip inverse-places refl
+
+pub redone : (block : List ℕ) → length block ≡ 64 → permuted IP (permuted IP⁻¹ block) ≡ block
+unfolding permuted IP⁻¹ IP tab
+redone = undoes IP IP⁻¹ length-ip length-inverse ip-places refl
 
 -- ---- the selection functions and P
 

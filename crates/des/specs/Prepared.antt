@@ -29,9 +29,13 @@ shiftsTo (suc n) = shiftsTo n + getD leftShifts n 0
 unfoldable pub shiftSums : List ℕ
 shiftSums = tab (λ n. shiftsTo (suc n)) 16
 
--- what the keys of the rounds are read from: C and D, each twice over, and the shifts so far
+-- C and D, each twice over
+unfoldable pub twiceOver : List ℕ → List ℕ
+twiceOver key = (cOf key ++ cOf key) ++ (dOf key ++ dOf key)
+
+-- what the keys of the rounds are read from: C and D twice over, and the shifts so far
 unfoldable pub scheduleOf : List ℕ → List ℕ
-scheduleOf key = (cOf key ++ cOf key) ++ ((dOf key ++ dOf key) ++ shiftSums)
+scheduleOf key = twiceOver key ++ shiftSums
 
 -- the key that was prepared: it stands behind the tables
 unfoldable pub keyOf : List ℕ → List ℕ

@@ -1,4 +1,5 @@
-// DES, FIPS 46-3, forward, on unpacked bits: an octet for each bit, the leftmost first.
+// DES, FIPS 46-3, forward. Here is the plain engine, on unpacked bits: an octet for each bit, the leftmost first. The second one, on numbers, is `joined`.
+pub mod joined;
 pub mod looks;
 mod tables;
 

@@ -28,7 +28,19 @@ fn aes_chain(key: &[u8], block: &mut [u8], n: usize)
     }
 }
 
-// n blocks of DES or AES, by the key's length.
+fn joined_chain(key: &[u8], block: &mut [u8], n: usize)
+    requires { ⌜ (length (now key) ≡ 8) × (length (now block) ≡ 8) ⌝ }
+{
+    let tables = des::joined::joined_tables();
+    let keys = des::joined::prepare(key);
+    let mut i = 0;
+    while i < n {
+        des::joined::encipher(&tables, &keys, block);
+        i += 1;
+    }
+}
+
+// n blocks of DES by its plain engine or of AES, by the key's length.
 #[no_mangle]
 pub extern "C" fn timed_blocks(key: &[u8], block: &mut [u8], n: usize) {
     if key.len() == 8 {
@@ -40,6 +52,16 @@ pub extern "C" fn timed_blocks(key: &[u8], block: &mut [u8], n: usize) {
     if key.len() == 32 {
         if block.len() == 16 {
             aes_chain(key, block, n);
+        }
+    }
+}
+
+// n blocks of DES by its joined tables.
+#[no_mangle]
+pub extern "C" fn timed_joined_blocks(key: &[u8], block: &mut [u8], n: usize) {
+    if key.len() == 8 {
+        if block.len() == 8 {
+            joined_chain(key, block, n);
         }
     }
 }
@@ -60,20 +82,32 @@ fn thirty_two(octets: &[u8]) -> [u8; 32]
     out
 }
 
-// The keystream of a session from its first bit on, the key prepared anew. The key is 32 octets, its own first.
+// The keystream of a session from its first bit on, the key prepared anew, DES by its plain engine or by its joined tables. The key is 32 octets, its own first.
 #[no_mangle]
-pub extern "C" fn timed_session(cipher: u8, key: &[u8], vector: &[u8], out: &mut [u8]) {
+pub extern "C" fn timed_session(
+    plain: bool,
+    cipher: u8,
+    key: &[u8],
+    vector: &[u8],
+    out: &mut [u8],
+) {
     if cipher < 1 {
         return;
     }
     if cipher > 3 {
         return;
     }
-    if key.len() == 32 {
-        if vector.len() == 8 {
-            ciphers::keystream::keystream(cipher, thirty_two(key), eight(vector), 0, out);
-        }
+    if key.len() != 32 {
+        return;
     }
+    if vector.len() != 8 {
+        return;
+    }
+    if plain {
+        ciphers::plain::keystream(cipher, thirty_two(key), eight(vector), 0, out);
+        return;
+    }
+    ciphers::joined::keystream(cipher, thirty_two(key), eight(vector), 0, out);
 }
 
 // A packet's DCALL message after so many others. The key is 32 octets, its own first.

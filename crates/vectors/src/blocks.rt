@@ -5,11 +5,34 @@ ghost use mathlib.Core.Path.{_≡_};
 ghost use Prim.Native.Nat.{_<_};
 ghost use lib.ListN.{length};
 
-fn by_des(key: &[u8], block: &mut [u8])
+// The engines of DES.
+pub enum DesEngine {
+    Plain,
+    Joined,
+}
+
+fn by_plain(key: &[u8], block: &mut [u8])
     requires { ⌜ (length (now key) ≡ 8) × (length (now block) ≡ 8) ⌝ }
 {
     let prepared = des::prepare(key);
     des::encipher(&prepared, block);
+}
+
+fn by_joined(key: &[u8], block: &mut [u8])
+    requires { ⌜ (length (now key) ≡ 8) × (length (now block) ≡ 8) ⌝ }
+{
+    let tables = des::joined::joined_tables();
+    let keys = des::joined::prepare(key);
+    des::joined::encipher(&tables, &keys, block);
+}
+
+fn by_des(engine: DesEngine, key: &[u8], block: &mut [u8])
+    requires { ⌜ (length (now key) ≡ 8) × (length (now block) ≡ 8) ⌝ }
+{
+    match engine {
+        DesEngine::Plain => by_plain(key, block),
+        DesEngine::Joined => by_joined(key, block),
+    }
 }
 
 fn by_aes(key: &[u8], block: &mut [u8])
@@ -20,10 +43,10 @@ fn by_aes(key: &[u8], block: &mut [u8])
 }
 
 // Enciphers a block where it stands, by the cipher that has keys and blocks of these widths. Where there is none, the block stays.
-pub fn encipher(key: &[u8], block: &mut [u8]) {
+pub fn encipher(engine: DesEngine, key: &[u8], block: &mut [u8]) {
     if key.len() == 8 {
         if block.len() == 8 {
-            by_des(key, block);
+            by_des(engine, key, block);
         }
         return;
     }
@@ -35,7 +58,7 @@ pub fn encipher(key: &[u8], block: &mut [u8]) {
 }
 
 // A row has the key, the plain block and the enciphered block from field n on.
-fn holds(row: &[u8], n: usize, key: &mut [u8], block: &mut [u8]) -> bool
+fn holds(engine: DesEngine, row: &[u8], n: usize, key: &mut [u8], block: &mut [u8]) -> bool
     requires { ⌜ n < 16 ⌝ }
 {
     if !octets_of(row, n, key) {
@@ -44,14 +67,15 @@ fn holds(row: &[u8], n: usize, key: &mut [u8], block: &mut [u8]) -> bool
     if !octets_of(row, n + 1, block) {
         return false;
     }
-    encipher(key, block);
+    encipher(engine, key, block);
     has_octets(row, n + 2, block)
 }
 
-pub fn des_holds(row: &[u8]) -> bool {
-    holds(row, 0, &mut [0u8; 8], &mut [0u8; 8])
+pub fn des_holds(engine: DesEngine, row: &[u8]) -> bool {
+    holds(engine, row, 0, &mut [0u8; 8], &mut [0u8; 8])
 }
 
+// No engine of DES is run: the key's length is AES's.
 pub fn aes_holds(row: &[u8]) -> bool {
-    holds(row, 1, &mut [0u8; 32], &mut [0u8; 16])
+    holds(DesEngine::Plain, row, 1, &mut [0u8; 32], &mut [0u8; 16])
 }

@@ -1,6 +1,6 @@
 // Runs known answers through the proved functions: those published for DES, AES-256 and output feedback, those of NXDN TS 1-D's 7.2.2 and 7.2.3,
-// and an independent model's voice slots, counts and messages; and rows of each that one bit makes wrong. Prints one line for each set, with how many of its rows held,
-// one for each row that did not, and how many of DES's selection entries the rows look at.
+// and an independent model's voice slots, counts and messages, those of DES by both of its engines; and rows of each that one bit makes wrong. Prints one line for
+// each set, with how many of its rows held, one for each row that did not, and how many of DES's selection entries the rows look at.
 mod blocks;
 mod calls;
 mod feedback;
@@ -10,7 +10,9 @@ mod selection;
 mod slots;
 mod standard;
 
+use crate::blocks::DesEngine;
 use crate::row::is_row;
+use crate::slots::Way;
 use libc::STDOUT_FILENO;
 use text::part::LINE_END;
 use text::part::part_end;
@@ -18,14 +20,13 @@ ghost use Rattle.io.specs.Counts.{Counts};
 
 // A file of known answers, named after what its rows try.
 enum Set {
-    Des,
+    Des(DesEngine),
     Aes,
-    Feedback,
+    Feedback(DesEngine),
     Standard,
-    SentSlots,
-    HeardSlots,
+    Slots(Way),
     Calls,
-    Messages,
+    Messages(DesEngine),
 }
 
 // How many rows of a set were tried, and how many of them held.
@@ -36,14 +37,13 @@ struct Tally {
 
 fn holds(set: Set, row: &[u8]) -> bool {
     match set {
-        Set::Des => blocks::des_holds(row),
+        Set::Des(engine) => blocks::des_holds(engine, row),
         Set::Aes => blocks::aes_holds(row),
-        Set::Feedback => feedback::holds(row),
+        Set::Feedback(engine) => feedback::holds(engine, row),
         Set::Standard => standard::holds(row),
-        Set::SentSlots => slots::holds(row, false),
-        Set::HeardSlots => slots::holds(row, true),
+        Set::Slots(way) => slots::holds(way, row),
         Set::Calls => calls::holds(row),
-        Set::Messages => messages::holds(row),
+        Set::Messages(engine) => messages::holds(engine, row),
     }
 }
 
@@ -143,50 +143,70 @@ fn run_both(set: Set, file: &[u8], title: &[u8], wrong: &[u8]) {
     );
 }
 
-fn run_blocks() {
+// The sets of a block alone and of output feedback, DES by one of its engines.
+fn run_blocks(engine: DesEngine, blocks: &[u8], feedback: &[u8]) {
     run_both(
-        Set::Des,
+        Set::Des(engine),
         b"des-known-answers.tsv",
-        b"DES, SP 500-20 and SP 800-17",
+        blocks,
         b"des-one-bit-wrong.tsv",
     );
-    say_selection(b"des-known-answers.tsv");
-    say_selection(b"des-one-bit-wrong.tsv");
     run_both(
-        Set::Aes,
-        b"aes256-known-answers.tsv",
-        b"AES-256, FIPS 197, SP 800-38A, AESAVS and the Rijndael submission",
-        b"aes256-one-bit-wrong.tsv",
+        Set::Feedback(engine),
+        b"ofb-known-answers.tsv",
+        feedback,
+        b"ofb-one-bit-wrong.tsv",
+    );
+}
+
+// The sets of messages, DES by one of its engines.
+fn run_messages(engine: DesEngine, first: &[u8], later: &[u8]) {
+    run_both(
+        Set::Messages(engine),
+        b"nxdn-first-messages.tsv",
+        first,
+        b"nxdn-first-messages-one-bit-wrong.tsv",
     );
     run_both(
-        Set::Feedback,
-        b"ofb-known-answers.tsv",
-        b"Output feedback, FIPS 81 and SP 800-38A",
-        b"ofb-one-bit-wrong.tsv",
+        Set::Messages(engine),
+        b"data-messages.tsv",
+        later,
+        b"data-messages-one-bit-wrong.tsv",
     );
 }
 
 // The slots under vectors of zeros hold heard and not sent, so that one end taken for the other shows.
 fn run_slots() {
     run_both(
-        Set::SentSlots,
+        Set::Slots(Way::Sent),
         b"voice-slots.tsv",
         b"Voice slots at both rates, in a first session and past it, by an independent model and OpenSSL, sent",
         b"voice-slots-one-bit-wrong.tsv",
     );
     run_both(
-        Set::HeardSlots,
+        Set::Slots(Way::Heard),
         b"voice-slots.tsv",
         b"The same, heard with no announcement past the first session",
         b"voice-slots-one-bit-wrong.tsv",
     );
+    run_both(
+        Set::Slots(Way::Whole),
+        b"voice-slots.tsv",
+        b"The same, heard, the session's keystream made whole, DES by its joined tables",
+        b"voice-slots-one-bit-wrong.tsv",
+    );
     run(
-        Set::HeardSlots,
+        Set::Slots(Way::Heard),
         b"voice-slots-zeros.tsv",
         b"Slots of a sender whose vectors are zeros, heard with no announcement",
     );
     run(
-        Set::SentSlots,
+        Set::Slots(Way::Whole),
+        b"voice-slots-zeros.tsv",
+        b"The same, the session's keystream made whole, DES by its joined tables",
+    );
+    run(
+        Set::Slots(Way::Sent),
         b"voice-slots-zeros.tsv",
         b"The same, sent by ours, which goes by no such vector, where none may hold",
     );
@@ -203,12 +223,23 @@ fn run_slots() {
 }
 
 fn main() {
-    run_blocks();
+    run_blocks(
+        DesEngine::Plain,
+        b"DES, SP 500-20 and SP 800-17",
+        b"Output feedback, FIPS 81 and SP 800-38A",
+    );
+    run_blocks(
+        DesEngine::Joined,
+        b"DES by its joined tables, the same",
+        b"Output feedback, DES by its joined tables, the same",
+    );
+    say_selection(b"des-known-answers.tsv");
+    say_selection(b"des-one-bit-wrong.tsv");
     run_both(
-        Set::Messages,
-        b"nxdn-first-messages.tsv",
-        b"NXDN TS 1-D, 7.2.2, first messages",
-        b"nxdn-first-messages-one-bit-wrong.tsv",
+        Set::Aes,
+        b"aes256-known-answers.tsv",
+        b"AES-256, FIPS 197, SP 800-38A, AESAVS and the Rijndael submission",
+        b"aes256-one-bit-wrong.tsv",
     );
     run_both(
         Set::Standard,
@@ -217,10 +248,14 @@ fn main() {
         b"nxdn-one-bit-wrong.tsv",
     );
     run_slots();
-    run_both(
-        Set::Messages,
-        b"data-messages.tsv",
+    run_messages(
+        DesEngine::Joined,
+        b"NXDN TS 1-D, 7.2.2, first messages",
         b"Data messages past the first, by an independent model and OpenSSL",
-        b"data-messages-one-bit-wrong.tsv",
+    );
+    run_messages(
+        DesEngine::Plain,
+        b"First messages, turned with DES by its plain engine",
+        b"Data messages past the first, turned with DES by its plain engine",
     );
 }

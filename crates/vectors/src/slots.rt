@@ -14,7 +14,16 @@ use voice::call::Stepped;
 use voice::call::TOLD;
 use voice::call::Terms;
 use voice::counts::Counts;
+use voice::slot::session_stream;
 use voice::slot::voice;
+use voice::slot::voice_by;
+
+// How a row's slot is turned: as it is sent, as it is heard, or heard with the whole session's keystream made first.
+pub enum Way {
+    Sent,
+    Heard,
+    Whole,
+}
 
 // The call after so many slots in which no word is turned, or the first answer that is not 0.
 fn go_through(call: Call, slots: u8, frame: &mut [u8]) -> Stepped {
@@ -35,12 +44,24 @@ fn go_through(call: Call, slots: u8, frame: &mut [u8]) -> Stepped {
     }
 }
 
+// A slot by the call's own bits, DES by its plain engine, or by the whole session's, DES by its joined tables.
+fn turn(way: Way, call: Call, mask: u8, frame: &mut [u8]) -> Stepped {
+    match way {
+        Way::Whole => {
+            let mut session = [0u8; 288];
+            session_stream(call, &mut session);
+            voice_by(call, mask, frame, &session)
+        }
+        _ => voice(call, mask, frame),
+    }
+}
+
 // Whether a call turns the frame of a row into what the row has.
-fn turns(row: &[u8], call: Call, mask: u8, frame: &mut [u8]) -> bool {
+fn turns(way: Way, row: &[u8], call: Call, mask: u8, frame: &mut [u8]) -> bool {
     if !octets_of(row, 6, frame) {
         return false;
     }
-    let turned = voice(call, mask, frame);
+    let turned = turn(way, call, mask, frame);
     let answer = turned.answer;
     if answer.number() != 0 {
         return false;
@@ -49,34 +70,34 @@ fn turns(row: &[u8], call: Call, mask: u8, frame: &mut [u8]) -> bool {
 }
 
 // Whether it does after the slots that come before. The lent frame is zeros.
-fn turns_after(row: &[u8], call: Call, mask: u8, frame: &mut [u8]) -> bool {
+fn turns_after(way: Way, row: &[u8], call: Call, mask: u8, frame: &mut [u8]) -> bool {
     let gone = go_through(call, number(row, 4), frame);
     let answer = gone.answer;
     if answer.number() != 0 {
         return false;
     }
-    turns(row, gone.call, mask, frame)
+    turns(way, row, gone.call, mask, frame)
 }
 
 // The same in as many of the lent octets as the frame of the row has. A call refuses a frame that has another length than its rate's.
-fn turns_in(row: &[u8], call: Call, mask: u8, room: &mut [u8]) -> bool {
+fn turns_in(way: Way, row: &[u8], call: Call, mask: u8, room: &mut [u8]) -> bool {
     let length = field(row, 6).len() / 2;
     if length > room.len() {
         return false;
     }
-    turns_after(row, call, mask, &mut room[0..length])
+    turns_after(way, row, call, mask, &mut room[0..length])
 }
 
-fn end_of(heard: bool) -> u8 {
-    if heard {
-        return RECEIVING;
+fn end_of(way: Way) -> u8 {
+    match way {
+        Way::Sent => SENDING,
+        _ => RECEIVING,
     }
-    SENDING
 }
 
 // A row has the cipher type, the rate, the key, the vector of the call's first session, how many slots come before, the mask, the frame and the turned frame:
-// it is sent, or heard.
-pub fn holds(row: &[u8], heard: bool) -> bool {
+// it is sent, heard, or heard with the whole session's keystream made first.
+pub fn holds(way: Way, row: &[u8]) -> bool {
     let mut key = [0u8; 32];
     let mut vector = [0u8; 8];
     let mut mask = [0u8; 1];
@@ -90,7 +111,7 @@ pub fn holds(row: &[u8], heard: bool) -> bool {
         return false;
     }
     let call = Call {
-        end: end_of(heard),
+        end: end_of(way),
         terms: Terms {
             cipher: number(row, 0),
             key,
@@ -108,5 +129,5 @@ pub fn holds(row: &[u8], heard: bool) -> bool {
         },
     };
     let mut frame = [0u8; 36];
-    turns_in(row, call, mask[0], &mut frame)
+    turns_in(way, row, call, mask[0], &mut frame)
 }

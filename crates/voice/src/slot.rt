@@ -31,7 +31,8 @@ use crate::counts::plus;
 use crate::counts::total;
 use crate::frame::turn_frame;
 use answers::Answer;
-use ciphers::keystream::keystream;
+use ciphers::joined;
+use ciphers::plain;
 use octets::wide;
 use sizes::cipher::Scramble;
 use sizes::cipher::VECTOR_OCTETS;
@@ -160,7 +161,8 @@ pub fn lost(call: Call) -> Stepped
 
 // ---- a voice slot
 
-// The frame turned by the bits of the session's slot, which stand for all words, in the mask or not. They are made in lent octets.
+// The frame turned by the bits of the session's slot, which stand for all words, in the mask or not. They are made in lent octets, with DES by its plain engine:
+// the audio task has little stack.
 fn turn_in(call: Call, mask: u8, frame: &mut [u8], slot: &mut [u8])
     requires { ⌜ (call .position < sessionSlots (call .terms .cipher)) × (length (now frame) ≡ frameOctets (widthOf (call .terms))) × (length (now slot) ≡ slotOctets (widthOf (call .terms))) ⌝ }
     ensures { λ _. ⌜ now (frame .exit) ≡ inSlot streamOf mask (now (frame .entry)) call ⌝ }
@@ -168,7 +170,7 @@ fn turn_in(call: Call, mask: u8, frame: &mut [u8], slot: &mut [u8])
     let key = call.terms.key;
     let vector = call.vector;
     let width = width(call.terms.rate);
-    keystream(
+    plain::keystream(
         call.terms.cipher,
         key,
         vector,
@@ -264,7 +266,7 @@ pub fn voice_by(call: Call, mask: u8, frame: &mut [u8], session: &[u8]) -> Stepp
     stepped
 }
 
-// The keystream of the call's session from bit 0 on, into lent octets of any length. Without a known vector they stay as they are.
+// The keystream of the call's session from bit 0 on, into lent octets of any length, with DES by its joined tables. Without a known vector they stay as they are.
 pub fn session_stream(call: Call, session: &mut [u8])
     ensures { λ _. ⌜ now (session .exit) ≡ sessionStreamOf call (now (session .entry)) ⌝ }
 {
@@ -276,5 +278,5 @@ pub fn session_stream(call: Call, session: &mut [u8])
     }
     let key = call.terms.key;
     let vector = call.vector;
-    keystream(call.terms.cipher, key, vector, 0, session);
+    joined::keystream(call.terms.cipher, key, vector, 0, session);
 }

@@ -4,11 +4,12 @@ use native.Mathlib.Omega.{arith}
 use borrow.Author.Needs.{needs}
 use Rattle.des.specs.Des.{boxInput}
 use Rattle.des.specs.Tables.{E}
+use Rattle.des.specs.Prepared.{keyOf}
 use Rattle.des.proofs.BitLists.{bits-permuted}
 use Rattle.des.proofs.PlaceLaws.{permutable, e-places}
 use Rattle.des.proofs.TableLaws.{e-part}
+use Rattle.des.proofs.KeyLaws.{bits-key}
 use Rattle.des.proofs.PreparedLaws.{within}
-use Rattle.des.proofs.RoundKeyLaws.{bits-key}
 use Rattle.des.proofs.box_input.Statement.{statement}
 use Rattle.des.proofs.box_input.Tie as tie
 
@@ -22,7 +23,7 @@ permute-requires c κs = permutable (e-part _ _ (c .before .before .before .befo
 add-requires : tie.Need-add-requires
 add-requires c κs =
     let s = c .before .before .before .before .before .before .before .before .before in
-    (search needs, rw (c .before .before .before .before .permute .ensures) (bits-permuted _ _ (s .pre .2)), rw (c .before .before .round-key .ensures) (bits-key _ _))
+    (search needs, rw (c .before .before .before .before .permute .ensures) (bits-permuted _ _ (s .pre .2)), bits-key (keyOf _) _ (c .before .before .round-key .ensures))
 
 returns : tie.Need-returns
 unfolding boxInput

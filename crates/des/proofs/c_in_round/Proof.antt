@@ -4,8 +4,7 @@ use Prim.Native.Nat.{ℕ, suc, _+_}
 use native.Mathlib.Omega.{arith}
 use borrow.Author.Needs.{needs}
 use Rattle.des.proofs.KeyLaws.{shifts-within}
-use Rattle.des.proofs.PreparedLaws.{within}
-use Rattle.des.proofs.RoundKeyLaws.{shifts-at}
+use Rattle.des.proofs.PreparedLaws.{within, shifts-at}
 use Rattle.des.proofs.c_in_round.Statement.{statement}
 use Rattle.des.proofs.c_in_round.Tie as tie
 

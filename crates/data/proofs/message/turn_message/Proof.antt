@@ -16,16 +16,18 @@ turn-message-spec =
     tie.close
     (tie.spec
     (λ c κs. search needs)
-    (λ c. omega (arith, part-most _ (c .before .before .pre .0) (c .protected-octets .ensures)))
     (λ c. search needs)
-    (λ c. omega (arith, c .before .before .before .before .before .pre .1, place-fits _ _ (part-most _ (c .before .before .before .before .before .pre .0) (c .before .before .before .protected-octets .ensures)) (c .before .before .before .before .before .pre .1)))
+    (λ c. omega (arith, place-fits _ _ (part-most _ (c .before .before .before .before .before .pre .0) (c .before .before .before .protected-octets .ensures)) (c .before .before .before .before .before .pre .1)))
     (λ c. part-most _ (c .before .before .before .before .before .pre .0) (c .before .before .before .protected-octets .ensures))
     (λ c. sym (length-take-le _ _ (part-most _ (c .before .before .before .before .before .before .pre .0) (c .before .before .before .before .protected-octets .ensures))))
-    (λ c κs. key-ranged _ _ (open-key _ (c .before .before .before .before .before .before .pre .0)))
+    (λ c κs.
+    let r = key-ranged _ _ (open-key _ (c .before .before .before .before .before .before .pre .0)) in
+    (r .0, r .1, omega (arith, place-fits _ _ (part-most _ (c .before .before .before .before .before .before .pre .0) (c .before .before .before .before .protected-octets .ensures)) (c .before .before .before .before .before .before .pre .1))))
     (λ c. omega (arith, part-most _ (c .before .before .before .before .before .before .before .before .pre .0) (c .before .before .before .before .before .before .protected-octets .ensures)))
     (λ c. search needs)
     (λ c. search needs)
     (λ c. omega (arith, part-ends _ (now (c .before .before .before .before .before .before .before .before .args .message)) (c .before .before .before .before .before .before .before .before .pre .0) (c .before .before .before .before .before .before .protected-octets .ensures) (c .before .before .before .before .before .before .before .before .pre .2)))
+    (λ c. omega (arith, part-most _ (c .before .before .before .before .before .before .before .before .before .pre .0) (c .before .before .before .before .before .before .before .protected-octets .ensures)))
     (λ c. own-length _ _ (replicate 20 0) _ (part-most _ (c .before .before .before .before .before .before .before .before .before .before .pre .0) (c .before .before .before .before .before .before .before .before .protected-octets .ensures)) (c .before .before .before .keystream .ensures))
     (λ c κs. omega (arith, part-most _ (c .before .before .before .before .before .before .before .before .before .before .pre .0) (c .before .before .before .before .before .before .before .before .protected-octets .ensures), own-length _ _ (replicate 20 0) _ (part-most _ (c .before .before .before .before .before .before .before .before .before .before .pre .0) (c .before .before .before .before .before .before .before .before .protected-octets .ensures)) (c .before .before .before .keystream .ensures)))
     (λ c. search needs)

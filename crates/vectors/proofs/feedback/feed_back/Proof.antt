@@ -7,10 +7,10 @@ use Rattle.vectors.proofs.feedback.feed_back.Statement.{statement}
 use Rattle.vectors.proofs.feedback.feed_back.Tie as tie
 
 abbrev Inv-loop : tie.InvT-loop
-Inv-loop key block₀ text₀ at₀ block text at = (length block ≡ length block₀) × (length text ≡ length text₀)
+Inv-loop engine key block₀ text₀ at₀ block text at = (length block ≡ length block₀) × (length text ≡ length text₀)
 
 abbrev μ-loop : tie.MeasureT-loop
-μ-loop key block₀ text₀ at₀ block text at = length text - at
+μ-loop engine key block₀ text₀ at₀ block text at = length text - at
 
 pub feed-back-spec : {M : Type 1} → statement M
 feed-back-spec =

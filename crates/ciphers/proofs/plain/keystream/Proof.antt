@@ -1,12 +1,12 @@
--- `ciphers::keystream::keystream` meets its contract.
+-- `ciphers::plain::keystream` meets its contract.
 use mathlib.Core.Path.{_≡_, _∙_}
 use native.Mathlib.Omega.{arith}
 use borrow.Author.Needs.{needs}
 use Rattle.octets.proofs.BitLaws.{octetsFrom-same}
 use Rattle.ciphers.specs.Keystream.{stream}
 use Rattle.sizes.proofs.Cases.{of-scramble, of-des, of-aes}
-use Rattle.ciphers.proofs.keystream.keystream.Statement.{statement}
-use Rattle.ciphers.proofs.keystream.keystream.Tie as tie
+use Rattle.ciphers.proofs.plain.keystream.Statement.{statement}
+use Rattle.ciphers.proofs.plain.keystream.Tie as tie
 
 returns : tie.Need-returns
 unfolding stream

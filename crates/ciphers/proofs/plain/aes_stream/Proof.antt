@@ -1,10 +1,10 @@
--- `ciphers::keystream::aes_stream` meets its contract.
+-- `ciphers::plain::aes_stream` meets its contract.
 use native.Mathlib.Omega.{arith}
 use borrow.Author.Needs.{needs}
 use Rattle.generator.proofs.VectorLaws.{length-aesVector}
 use Rattle.ciphers.proofs.EngineLaws.{by-aes, fed-back}
-use Rattle.ciphers.proofs.keystream.aes_stream.Statement.{statement}
-use Rattle.ciphers.proofs.keystream.aes_stream.Tie as tie
+use Rattle.ciphers.proofs.plain.aes_stream.Statement.{statement}
+use Rattle.ciphers.proofs.plain.aes_stream.Tie as tie
 
 feed-back-requires : tie.Need-feed-back-requires
 feed-back-requires c κs = (c .before .before .before .before .before .prepare .ensures .0, search needs)

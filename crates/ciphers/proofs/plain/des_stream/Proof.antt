@@ -1,10 +1,10 @@
--- `ciphers::keystream::des_stream` meets its contract.
+-- `ciphers::plain::des_stream` meets its contract.
 use mathlib.Core.Path.{refl, sym}
 use borrow.Author.Needs.{needs}
 use lib.Seq.{length-take-le}
 use Rattle.ciphers.proofs.EngineLaws.{by-des, fed-back}
-use Rattle.ciphers.proofs.keystream.des_stream.Statement.{statement}
-use Rattle.ciphers.proofs.keystream.des_stream.Tie as tie
+use Rattle.ciphers.proofs.plain.des_stream.Statement.{statement}
+use Rattle.ciphers.proofs.plain.des_stream.Tie as tie
 
 slice-aggregate-prepare : tie.Need-slice-aggregate-prepare
 slice-aggregate-prepare c = sym (length-take-le 8 (c .before .before .args .t1) (search needs))

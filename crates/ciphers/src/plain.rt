@@ -1,4 +1,5 @@
-// The one keystream: the bits of a session from any place on, into lent octets. Voice and data, at every rate, are turned by it.
+// The keystream with DES by its plain engine: the bits of a session from any place on, into lent octets. For the audio task, a slot at a time: it takes less stack
+// than with the joined tables.
 ghost use mathlib.Core.Path.{_≡_};
 ghost use Prim.Native.Nat.{_+_, _≤_};
 ghost use lib.ListN.{length};
