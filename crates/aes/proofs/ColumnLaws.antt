@@ -1,20 +1,20 @@
--- Laws of the columns: the four rows of each, a column as a word rotated by rows and added, and that a mixed column is the sum of its four
--- octets' columns, each rotated to its row.
-use mathlib.Core.Path.{_≡_, refl, sym, ap, ap₂, _∙_}
+-- Laws of the columns: the four rows of each, and that a mixed column is the sum of its four octets' columns, each rotated to its row.
+use mathlib.Core.Path.{_≡_, refl, sym, ap, _∙_}
 use mathlib.Core.List.{List, [], _∷_}
-use Prim.Native.Nat.{ℕ, zero, suc, _+_, _*_, _/_, _%_, _^_, _≤_, _<_}
+use Prim.Native.Nat.{ℕ, zero, suc, _+_, _*_, _/_, _%_, _≤_, _<_}
 use native.Mathlib.Nat.{add-zero}
 use native.Mathlib.Omega.{arith}
-use lib.Bits.{bitOr, bitXor, or-shifted, xor-block, xor-comm, xor-lt, xor-zero-r}
+use lib.Bits.{bitOr, bitXor, xor-comm, xor-lt, xor-zero-r}
 use lib.ListN.{length, getD, set, length-set}
 use Rattle.octets.specs.Lists.{tab}
 use Rattle.octets.proofs.BitLaws.{xor-assoc}
 use Rattle.octets.proofs.Front.{Front, front-start, front-four, front-to, front-done}
-use Rattle.octets.proofs.ListLaws.{length-tab, getD-tab, tab-same}
+use Rattle.octets.proofs.ListLaws.{length-tab, getD-tab}
 use Rattle.aes.specs.Field.{xtime, reduce, digit, mulBits, mul, sboxOf}
-use Rattle.aes.specs.Cipher.{word, mixed, mixColumns}
-use Rattle.aes.specs.Prepared.{mixedAlone, IsColumns, asWord}
+use Rattle.aes.specs.Cipher.{mixed, mixColumns}
+use Rattle.aes.specs.Prepared.{asWord, wordIn, mixedAlone, IsColumns}
 use Rattle.aes.proofs.FieldLaws.{mul-two, mul-three}
+use Rattle.aes.proofs.WordLaws.{word-same, rotated-8, rotated-16, rotated-24, word-xor}
 use Rattle.aes.proofs.StateLaws.{mixed-lt, octets-first, column-law}
 
 -- ---- the rows of a column
@@ -39,53 +39,6 @@ module _ (v : ℕ) where
 alone-lt : (v r : ℕ) → v < 256 → mixedAlone v r < 256
 unfolding mixedAlone
 alone-lt v r h = mixed-lt _ r 0 (octets-first v h)
-
--- ---- a column as a word
-
-module _ (f : ℕ → ℕ) (o : (r : ℕ) → f r < 256) where
-  word-rows : asWord f % 256 ∷ asWord f / 256 % 256 ∷ asWord f / 65536 % 256 ∷ asWord f / 16777216 % 256 ∷ [] ≡ tab f 4
-  unfolding asWord tab
-  word-rows =
-      let p : asWord f % 256 ≡ f 0 = omega (arith, o 0, o 1, o 2, o 3) in
-      let g : asWord f / 256 ≡ f 1 + 256 * f 2 + 65536 * f 3 = omega (arith, o 0, o 1, o 2, o 3) in
-      let h : asWord f / 65536 ≡ f 2 + 256 * f 3 = omega (arith, o 0, o 1, o 2, o 3) in
-      let q : asWord f / 256 % 256 ≡ f 1 = rw g (omega (arith, o 1)) in
-      let r : asWord f / 65536 % 256 ≡ f 2 = rw h (omega (arith, o 2)) in
-      let k : asWord f / 16777216 ≡ f 3 = omega (arith, o 0, o 1, o 2, o 3) in
-      let s : asWord f / 16777216 % 256 ≡ f 3 = rw k (omega (arith, o 3)) in
-      rw (p, q, r, s)
-
-  rotated-8 : bitOr (asWord f * 256 % 4294967296) (asWord f / 16777216) ≡ asWord (λ r. f ((r + 3) % 4))
-  unfolding asWord
-  rotated-8 =
-      let h : asWord f * 256 % 4294967296 ≡ (f 0 + 256 * f 1 + 65536 * f 2) * 2 ^ 8 = omega (arith, o 0, o 1, o 2, o 3) in
-      let l : asWord f / 16777216 ≡ f 3 = omega (arith, o 0, o 1, o 2, o 3) in
-      ap₂ bitOr h l ∙ or-shifted (f 0 + 256 * f 1 + 65536 * f 2) 8 (f 3) (o 3) ∙ omega arith
-
-  rotated-16 : bitOr (asWord f * 65536 % 4294967296) (asWord f / 65536) ≡ asWord (λ r. f ((r + 2) % 4))
-  unfolding asWord
-  rotated-16 =
-      let h : asWord f * 65536 % 4294967296 ≡ (f 0 + 256 * f 1) * 2 ^ 16 = omega (arith, o 0, o 1, o 2, o 3) in
-      let l : asWord f / 65536 ≡ f 2 + 256 * f 3 = omega (arith, o 0, o 1, o 2, o 3) in
-      ap₂ bitOr h l ∙ or-shifted (f 0 + 256 * f 1) 16 (f 2 + 256 * f 3) (omega (arith, o 2, o 3)) ∙ omega arith
-
-  rotated-24 : bitOr (asWord f * 16777216 % 4294967296) (asWord f / 256) ≡ asWord (λ r. f ((r + 1) % 4))
-  unfolding asWord
-  rotated-24 =
-      let h : asWord f * 16777216 % 4294967296 ≡ f 0 * 2 ^ 24 = omega (arith, o 0, o 1, o 2, o 3) in
-      let l : asWord f / 256 ≡ f 1 + 256 * f 2 + 65536 * f 3 = omega (arith, o 0, o 1, o 2, o 3) in
-      ap₂ bitOr h l ∙ or-shifted (f 0) 24 (f 1 + 256 * f 2 + 65536 * f 3) (omega (arith, o 1, o 2, o 3)) ∙ omega arith
-
--- the sum of two columns
-word-xor : (f g : ℕ → ℕ) → ((r : ℕ) → f r < 256) → ((r : ℕ) → g r < 256) → bitXor (asWord f) (asWord g) ≡ asWord (λ r. bitXor (f r) (g r))
-unfolding asWord
-word-xor f g o p =
-    let split : (h : ℕ → ℕ) → asWord h ≡ ((h 3 * 2 ^ 8 + h 2) * 2 ^ 8 + h 1) * 2 ^ 8 + h 0 = λ h. omega arith in
-    ap₂ bitXor (split f) (split g)
-    ∙ xor-block 8 ((f 3 * 2 ^ 8 + f 2) * 2 ^ 8 + f 1) ((g 3 * 2 ^ 8 + g 2) * 2 ^ 8 + g 1) (f 0) (g 0) (o 0) (p 0)
-    ∙ ap (λ (z : ℕ). z * 2 ^ 8 + bitXor (f 0) (g 0)) (xor-block 8 (f 3 * 2 ^ 8 + f 2) (g 3 * 2 ^ 8 + g 2) (f 1) (g 1) (o 1) (p 1))
-    ∙ ap (λ (z : ℕ). (z * 2 ^ 8 + bitXor (f 1) (g 1)) * 2 ^ 8 + bitXor (f 0) (g 0)) (xor-block 8 (f 3) (g 3) (f 2) (g 2) (o 2) (p 2))
-    ∙ sym (split (λ r. bitXor (f r) (g r)))
 
 -- ---- a mixed column
 
@@ -147,13 +100,9 @@ module _ (a b c d : ℕ) (ha : a < 256) (hb : b < 256) (hc : c < 256) (hd : d < 
         (em, en, eo, ei, ej, ek, el, rotated-8 (mixedAlone b) (λ r. alone-lt b r hb), rotated-16 (mixedAlone c) (λ r. alone-lt c r hc), rotated-24 (mixedAlone d) (λ r. alone-lt d r hd))
         sum-words
 
-    pub column-sum : bitXor (bitXor (bitXor i m) n) o % 256 ∷ bitXor (bitXor (bitXor i m) n) o / 256 % 256
-        ∷ bitXor (bitXor (bitXor i m) n) o / 65536 % 256 ∷ bitXor (bitXor (bitXor i m) n) o / 16777216 % 256 ∷ [] ≡ word (mixColumns x) q
-    column-sum =
-        ap (λ (w : ℕ). w % 256 ∷ w / 256 % 256 ∷ w / 65536 % 256 ∷ w / 16777216 % 256 ∷ []) summed
-        ∙ word-rows sumRow sum-lt
-        ∙ tab-same sumRow (λ r. mixed (a ∷ b ∷ c ∷ d ∷ []) r 0) 4 sum-row
-        ∙ column-law x q a b c d hq ea eb ec ed
+    pub column-sum : bitXor (bitXor (bitXor i m) n) o ≡ wordIn (mixColumns x) q
+    unfolding wordIn
+    column-sum = summed ∙ word-same sumRow _ (λ r h. sum-row r h ∙ column-law x q a b c d hq ea eb ec ed r h)
 
 -- ---- the table, as `aes::columns` makes it
 
@@ -196,12 +145,9 @@ columns-done d₀ d x f h =
 
 -- ---- an entry, as `aes::entry` reads it
 
-pub entry-is : (t : List ℕ) (x : ℕ) → IsColumns t → x < 256
-    → getD t (4 * x) 0 + 256 * getD t (4 * x + 1) 0 + 65536 * getD t (4 * x + 2) 0 + 16777216 * getD t (4 * x + 3) 0 ≡ asWord (mixedAlone (sboxOf x))
-unfolding asWord
-entry-is t x c h =
-    let z : getD t (4 * x) 0 ≡ mixedAlone (sboxOf x) 0 = simp add-zero at (c .rule x 0 h (omega arith)) in
-    rw (z, c .rule x 1 h (omega arith), c .rule x 2 h (omega arith), c .rule x 3 h (omega arith))
+pub entry-is : (t : List ℕ) (x : ℕ) → IsColumns t → x < 256 → wordIn t x ≡ asWord (mixedAlone (sboxOf x))
+unfolding wordIn
+entry-is t x c h = word-same _ (mixedAlone (sboxOf x)) (λ r. c .rule x r h)
 
 -- and the S-box's value in it
 pub entry-sub : (t : List ℕ) (x : ℕ) → IsColumns t → x < 256 → getD t (4 * x + 1) 0 ≡ sboxOf x

@@ -1,4 +1,5 @@
 pub mod FieldLaws
+pub mod WordLaws
 pub mod StateLaws
 pub mod ColumnLaws
 pub mod ScheduleLaws

@@ -1,25 +1,31 @@
 -- Laws of the state: its places, its columns, its size, and that its elements are octets.
-use mathlib.Core.Path.{_≡_, sym, ap, _∙_}
+use mathlib.Core.Path.{_≡_, sym, ap, ap₂, _∙_}
 use mathlib.Core.List.{List, [], _∷_}
 use Prim.Native.Nat.{ℕ, zero, suc, _+_, _*_, _/_, _%_, _<_}
-use native.Mathlib.Nat.{add-zero, add-comm, add-assoc}
+use native.Mathlib.Nat.{add-zero, add-comm}
 use native.Mathlib.Numerals.{add-one}
 use native.Mathlib.Omega.{arith}
 use lib.Bits.{bitXor, xor-lt}
-use lib.ListN.{length, getD, set}
+use lib.ListN.{length, getD}
+use lib.Seq.{ext-getD}
 use Rattle.octets.specs.Bits.{Octets}
 use Rattle.octets.specs.Lists.{tab}
-use Rattle.octets.proofs.Front.{Front, front-four, front-to}
-use Rattle.octets.proofs.ListLaws.{length-tab, getD-tab, tab-same, octets-tab}
+use Rattle.octets.proofs.ListLaws.{length-tab, getD-tab, octets-tab}
 use Rattle.aes.specs.Field.{sboxOf}
 use Rattle.aes.specs.Cipher.{word, cell, subBytes, shiftRows, mixed, mixColumns, addRoundKey, rounds, cipher}
+use Rattle.aes.specs.Prepared.{wordIn, octetOf, octetsIn}
 use Rattle.aes.proofs.FieldLaws.{mul-lt, sbox-lt}
+use Rattle.aes.proofs.WordLaws.{octet-xor, word-octet, four-at, octets-at, length-octetsIn, octets-octetsIn}
 
 -- ---- sizes
 
 pub length-shiftRows : (s : List ℕ) → length (shiftRows s) ≡ 16
 unfolding shiftRows
 length-shiftRows s = length-tab _ 16
+
+pub length-mixColumns : (s : List ℕ) → length (mixColumns s) ≡ 16
+unfolding mixColumns
+length-mixColumns s = length-tab _ 16
 
 pub length-addRoundKey : (w s : List ℕ) (n : ℕ) → length (addRoundKey w s n) ≡ 16
 unfolding addRoundKey
@@ -78,41 +84,52 @@ four x q a b c d ea eb ec ed = rw (ea, eb, ec, ed, add-zero)
 
 pub column-law : (x : List ℕ) (q a b c d : ℕ) → q < 4
     → a ≡ getD x (4 * q) 0 → b ≡ getD x (4 * q + 1) 0 → c ≡ getD x (4 * q + 2) 0 → d ≡ getD x (4 * q + 3) 0
-    → tab (λ i. mixed (a ∷ b ∷ c ∷ d ∷ []) i 0) 4 ≡ word (mixColumns x) q
-unfolding word
-column-law x q a b c d h ea eb ec ed =
-    ap (λ (t : List ℕ). tab (λ i. mixed t i 0) 4) (four x q a b c d ea eb ec ed)
-    ∙ tab-same (λ i. mixed (word x q) i 0) (λ k. getD (mixColumns x) (4 * q + k) 0) 4 (λ r l. mixed-at x q r l ∙ mixed-place x q r h l)
+    → (r : ℕ) → r < 4 → mixed (a ∷ b ∷ c ∷ d ∷ []) r 0 ≡ getD (mixColumns x) (4 * q + r) 0
+column-law x q a b c d h ea eb ec ed r l =
+    ap (λ (t : List ℕ). mixed t r 0) (four x q a b c d ea eb ec ed) ∙ mixed-at x q r l ∙ mixed-place x q r h l
 
--- ---- a turn of the loop in `aes::round`, which stores column q of m with its key
+-- ---- a state in words, as `aes::cipher` has it
 
-module _ (w m v o₀ o : List ℕ) (n q : ℕ) (h : q < 4) (e : v ≡ word m q) where
-  stored : (r : ℕ) → r < 4 → bitXor (getD v r 0) (getD w (16 * n + 4 * q + r) 0) ≡ getD (addRoundKey w m n) (4 * q + r) 0
-  stored r l = rw (e, word-at m q r l, add-assoc) (addRoundKey-at w m n (4 * q + r) (omega arith))
+-- octet i after ShiftRows
+pub shifted-at : (s : List ℕ) (i : ℕ) → i < 16 → octetOf (getD s (5 * i % 16 / 4) 0) (5 * i % 16 % 4) ≡ getD (shiftRows (octetsIn 4 s)) i 0
+shifted-at s i h = sym (shift-at (octetsIn 4 s) i h ∙ octets-at 4 s (5 * i % 16) (omega arith))
 
-  pub round-more : Front (addRoundKey w m n) o₀ o (4 * q)
-      → Front (addRoundKey w m n) o₀
-      (set
-      (set
-      (set (set o (4 * q) (bitXor (getD v 0 0) (getD w (16 * n + 4 * q) 0))) (4 * q + 1) (bitXor (getD v 1 0) (getD w (16 * n + 4 * q + 1) 0)))
-      (4 * q + 2) (bitXor (getD v 2 0) (getD w (16 * n + 4 * q + 2) 0)))
-      (4 * q + 3) (bitXor (getD v 3 0) (getD w (16 * n + 4 * q + 3) 0)))
-      (4 * (q + 1))
-  round-more f =
-      front-to _ _ _ (4 * q + 4) (4 * (q + 1)) (omega arith)
-      (front-four _ _ o (4 * q) _ _ _ _ f (omega (arith, length-addRoundKey w m n))
-      (simp add-zero at (stored 0 (omega arith))) (stored 1 (omega arith)) (stored 2 (omega arith)) (stored 3 (omega arith)))
+-- the sum of a state and a round key
+module _ (w s : List ℕ) (n a b c d : ℕ) (o : Octets w)
+    (ea : a ≡ wordIn w (4 * n)) (eb : b ≡ wordIn w (4 * n + 1)) (ec : c ≡ wordIn w (4 * n + 2)) (ed : d ≡ wordIn w (4 * n + 3)) where
+  abbrev sums : List ℕ
+  sums = bitXor (getD s 0 0) a ∷ bitXor (getD s 1 0) b ∷ bitXor (getD s 2 0) c ∷ bitXor (getD s 3 0) d ∷ []
 
--- ---- the rounds, as `aes::encipher` makes them
+  sum-at : (q : ℕ) → q < 4 → getD sums q 0 ≡ bitXor (getD s q 0) (wordIn w (4 * n + q))
+  sum-at = four-at (λ q. bitXor (getD s q 0) (wordIn w (4 * n + q))) (rw (ea, add-zero)) (rw eb) (rw ec) (rw ed)
+
+  key-octet : (i : ℕ) → octetOf (wordIn w (4 * n + i / 4)) (i % 4) ≡ getD w (16 * n + i) 0
+  key-octet i =
+      let e : 4 * n + i / 4 ≡ (16 * n + i) / 4 = omega arith in
+      let f : i % 4 ≡ (16 * n + i) % 4 = omega arith in
+      rw (e, f) (word-octet w o (16 * n + i))
+
+  pub key-added : octetsIn 4 sums ≡ addRoundKey w (octetsIn 4 s) n
+  key-added =
+      ext-getD 0 (octetsIn 4 sums) (addRoundKey w (octetsIn 4 s) n) (length-octetsIn 4 sums ∙ sym (length-addRoundKey w (octetsIn 4 s) n))
+      (λ i h.
+      let k : i < 16 = omega (arith, length-octetsIn 4 sums) in
+      octets-at 4 sums i k
+      ∙ ap (λ (v : ℕ). octetOf v (i % 4)) (sum-at (i / 4) (omega arith))
+      ∙ octet-xor (getD s (i / 4) 0) (wordIn w (4 * n + i / 4)) (i % 4)
+      ∙ ap₂ bitXor (sym (octets-at 4 s i k)) (key-octet i)
+      ∙ addRoundKey-at w (octetsIn 4 s) n i k)
+
+-- ---- the rounds, as `aes::cipher` makes them
 
 module _ (w b s : List ℕ) (n : ℕ) (e : s ≡ rounds w b n) where
   pub rounds-more : (r : List ℕ) → r ≡ addRoundKey w (mixColumns (shiftRows (subBytes s))) (n + 1) → r ≡ rounds w b (n + 1)
   unfolding rounds
   rounds-more r p = rw (p, e, add-one)
 
-  pub rounds-last : (t o : List ℕ) → n ≡ 13 → t ≡ shiftRows (subBytes s) → o ≡ addRoundKey w t 14 → o ≡ cipher w b
+  pub rounds-last : (r : List ℕ) → n ≡ 13 → r ≡ addRoundKey w (shiftRows (subBytes s)) 14 → r ≡ cipher w b
   unfolding cipher
-  rounds-last t o h p q = rw (q, p, e, h)
+  rounds-last r h p = rw (p, e, h)
 
 -- ---- octets
 
@@ -155,3 +172,11 @@ octets-rounds w s (suc n) ow os =
 pub octets-cipher : (w s : List ℕ) → Octets w → Octets s → Octets (cipher w s)
 unfolding cipher
 octets-cipher w s ow os = octets-addRoundKey w _ 14 ow (octets-shiftRows _ (octets-subBytes _ (octets-rounds w s 13 ow os)))
+
+-- ---- a state in words after its steps
+
+pub octets-shifted : (s : List ℕ) → Octets (shiftRows (subBytes (octetsIn 4 s)))
+octets-shifted s = octets-shiftRows _ (octets-subBytes _ (octets-octetsIn 4 s))
+
+pub octets-mixed : (s : List ℕ) → Octets (mixColumns (shiftRows (subBytes (octetsIn 4 s))))
+octets-mixed s = octets-mixColumns _ (octets-shifted s)

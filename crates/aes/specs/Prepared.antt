@@ -2,8 +2,9 @@
 -- takes, are cited by this crate's own contracts only.
 use mathlib.Core.Path.{_≡_}
 use mathlib.Core.List.{List, [], _∷_}
-use Prim.Native.Nat.{ℕ, _<_, _+_, _*_}
+use Prim.Native.Nat.{ℕ, _<_, _+_, _*_, _/_, _%_, _^_}
 use lib.ListN.{length, getD, take, drop}
+use Rattle.octets.specs.Lists.{tab}
 use Rattle.aes.specs.Field.{sboxOf}
 use Rattle.aes.specs.Cipher.{mixed, keyExpansion}
 
@@ -11,6 +12,24 @@ use Rattle.aes.specs.Cipher.{mixed, keyExpansion}
 pub record IsSbox (t : List ℕ) : Type 0 where
   pub size : length t ≡ 256
   pub rule : (x : ℕ) → x < 256 → getD t x 0 ≡ sboxOf x
+
+-- ---- four octets as a word, the first of them lowest
+
+-- the octets f 0 to f 3
+unfoldable pub asWord : (ℕ → ℕ) → ℕ
+asWord f = f 0 + 256 * f 1 + 65536 * f 2 + 16777216 * f 3
+
+-- word i of a list of octets
+unfoldable pub wordIn : List ℕ → ℕ → ℕ
+wordIn x i = asWord (λ r. getD x (4 * i + r) 0)
+
+-- octet r of a word
+unfoldable pub octetOf : ℕ → ℕ → ℕ
+octetOf w r = w / 2 ^ (8 * r) % 256
+
+-- the octets of n words
+unfoldable pub octetsIn : ℕ → List ℕ → List ℕ
+octetsIn n w = tab (λ i. octetOf (getD w (i / 4) 0) (i % 4)) (4 * n)
 
 -- ---- SubBytes and MixColumns (FIPS 197, 5.1.1 and 5.1.3) as one table
 
@@ -22,10 +41,6 @@ mixedAlone v r = mixed (v ∷ 0 ∷ 0 ∷ 0 ∷ []) r 0
 pub record IsColumns (t : List ℕ) : Type 0 where
   pub size : length t ≡ 1024
   pub rule : (x r : ℕ) → x < 256 → r < 4 → getD t (4 * x + r) 0 ≡ mixedAlone (sboxOf x) r
-
--- the column whose rows are f 0 to f 3 as a word, row 0 lowest
-unfoldable pub asWord : (ℕ → ℕ) → ℕ
-asWord f = f 0 + 256 * f 1 + 65536 * f 2 + 16777216 * f 3
 
 -- ---- the prepared key
 

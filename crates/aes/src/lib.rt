@@ -7,7 +7,7 @@ ghost use lib.Bits.{bitOr};
 ghost use lib.ListN.{length, getD};
 ghost use Rattle.aes.specs.Field.{sboxOf, xtime as xtimeOf};
 ghost use Rattle.aes.specs.Cipher.{word, subBytes, shiftRows, mixColumns, addRoundKey, cipher as cipherOf, xors, rconOf, rotWord, subWord, temp as tempOf, nextWord, keyExpansion, aes};
-ghost use Rattle.aes.specs.Prepared.{IsSbox, mixedAlone, IsColumns, asWord, keyOf, Prepared};
+ghost use Rattle.aes.specs.Prepared.{IsSbox, asWord, wordIn, octetOf, octetsIn, mixedAlone, IsColumns, keyOf, Prepared};
 
 // Where the parts of a prepared key stand: its schedule, and the columns.
 const AT_SCHEDULE: usize = 0;
@@ -46,14 +46,6 @@ fn columns(sbox: &[u8], o: &mut [u8])
     }
 }
 
-// Octet i after ShiftRows (5.1.2): it stood at place 5 i mod 16.
-fn shifted(s: &[u8; 16], i: usize) -> u8
-    requires { ⌜ i < 16 ⌝ }
-    ensures { λ r. ⌜ r ≡ getD (shiftRows (now (s .entry))) i 0 ⌝ }
-{
-    s[5 * i % 16]
-}
-
 // Four octets as a word, the first lowest. Of neighbours the compiler makes one load.
 fn as_word(a: u8, b: u8, c: u8, d: u8) -> u32
     ensures { λ r. ⌜ r ≡ a + 256 * b + 65536 * c + 16777216 * d ⌝ }
@@ -61,13 +53,69 @@ fn as_word(a: u8, b: u8, c: u8, d: u8) -> u32
     a as u32 + 256 * (b as u32) + 65536 * (c as u32) + 16777216 * (d as u32)
 }
 
+// Word i of octets.
+fn word_in(octets: &[u8], i: usize) -> u32
+    requires { ⌜ 4 * i + 4 ≤ length (now octets) ⌝ }
+    ensures { λ r. ⌜ r ≡ wordIn (now (octets .entry)) i ⌝ }
+{
+    let k = 4 * i;
+    as_word(octets[k], octets[k + 1], octets[k + 2], octets[k + 3])
+}
+
+// Octet r of a word.
+fn octet(w: u32, r: usize) -> u8
+    requires { ⌜ r < 4 ⌝ }
+    ensures { λ o. ⌜ o ≡ octetOf w r ⌝ }
+{
+    ((w >> (8 * r)) % 256) as u8
+}
+
+// A block as the four words of a state.
+fn state_of(block: &[u8]) -> [u32; 4]
+    requires { ⌜ length (now block) ≡ 16 ⌝ }
+    ensures { λ r. ⌜ octetsIn 4 r ≡ now (block .entry) ⌝ }
+{
+    [
+        word_in(block, 0),
+        word_in(block, 1),
+        word_in(block, 2),
+        word_in(block, 3),
+    ]
+}
+
+// A state as a block.
+fn put_state(s: &[u32; 4], block: &mut [u8])
+    requires { ⌜ length (now block) ≡ 16 ⌝ }
+    ensures { λ _. ⌜ now (block .exit) ≡ octetsIn 4 (now (s .entry)) ⌝ }
+{
+    for i in 0..16usize {
+        block[i] = octet(s[i / 4], i % 4);
+    }
+}
+
+// Octet i after ShiftRows (5.1.2): it stood at place 5 i mod 16.
+fn shifted(s: &[u32; 4], i: usize) -> u8
+    requires { ⌜ i < 16 ⌝ }
+    ensures { λ r. ⌜ r ≡ getD (shiftRows (octetsIn 4 (now (s .entry)))) i 0 ⌝ }
+{
+    let k = 5 * i % 16;
+    octet(s[k / 4], k % 4)
+}
+
 // The columns' entry for x, as a word.
 fn entry(columns: &[u8], x: u8) -> u32
     requires { ⌜ IsColumns (now columns) ⌝ }
     ensures { λ r. ⌜ r ≡ asWord (mixedAlone (sboxOf x)) ⌝ }
 {
-    let i = 4 * x as usize;
-    as_word(columns[i], columns[i + 1], columns[i + 2], columns[i + 3])
+    word_in(columns, x as usize)
+}
+
+// The S-box's value at x, which its entry has in two of its rows.
+fn substituted(columns: &[u8], x: u8) -> u8
+    requires { ⌜ IsColumns (now columns) ⌝ }
+    ensures { λ r. ⌜ r ≡ sboxOf x ⌝ }
+{
+    columns[4 * x as usize + 1]
 }
 
 // A word rotated by n bits, of which eight are a row.
@@ -79,66 +127,75 @@ fn rotated(w: u32, n: u32) -> u32
 }
 
 // Column q of the state after SubBytes, ShiftRows and MixColumns: the sum of its four octets' entries, each rotated to its row.
-fn column(columns: &[u8], s: &[u8; 16], q: usize) -> [u8; 4]
+fn mixed_column(columns: &[u8], s: &[u32; 4], q: usize) -> u32
     requires { ⌜ IsColumns (now columns) ⌝ }
     requires { ⌜ q < 4 ⌝ }
-    ensures { λ r. ⌜ r ≡ word (mixColumns (shiftRows (subBytes (now (s .entry))))) q ⌝ }
+    ensures { λ r. ⌜ r ≡ wordIn (mixColumns (shiftRows (subBytes (octetsIn 4 (now (s .entry)))))) q ⌝ }
 {
     let i = 4 * q;
-    let w = entry(columns, shifted(s, i))
+    entry(columns, shifted(s, i))
         ^ rotated(entry(columns, shifted(s, i + 1)), 8)
         ^ rotated(entry(columns, shifted(s, i + 2)), 16)
-        ^ rotated(entry(columns, shifted(s, i + 3)), 24);
-    [
-        (w % 256) as u8,
-        (w / 256 % 256) as u8,
-        (w / 65536 % 256) as u8,
-        (w / 16777216 % 256) as u8,
-    ]
+        ^ rotated(entry(columns, shifted(s, i + 3)), 24)
 }
 
-// A round before the last (5.1), a column at a time.
-fn round(columns: &[u8], schedule: &[u8], s: &[u8; 16], n: usize) -> [u8; 16]
+// Column q of the state after SubBytes and ShiftRows.
+fn shifted_column(columns: &[u8], s: &[u32; 4], q: usize) -> u32
     requires { ⌜ IsColumns (now columns) ⌝ }
-    requires { ⌜ (length (now schedule) ≡ 240) × (n < 15) ⌝ }
-    ensures { λ r. ⌜ r ≡ addRoundKey (now (schedule .entry)) (mixColumns (shiftRows (subBytes (now (s .entry))))) n ⌝ }
+    requires { ⌜ q < 4 ⌝ }
+    ensures { λ r. ⌜ r ≡ wordIn (shiftRows (subBytes (octetsIn 4 (now (s .entry))))) q ⌝ }
 {
-    let mut o = [0u8; 16];
-    for q in 0..4usize {
-        let v = column(columns, s, q);
-        let i = 4 * q;
-        let k = 16 * n + i;
-        o[i] = v[0] ^ schedule[k];
-        o[i + 1] = v[1] ^ schedule[k + 1];
-        o[i + 2] = v[2] ^ schedule[k + 2];
-        o[i + 3] = v[3] ^ schedule[k + 3];
-    }
-    o
-}
-
-// SubBytes and ShiftRows of the last round, which mixes no columns.
-fn sub_shift(columns: &[u8], s: &[u8; 16]) -> [u8; 16]
-    requires { ⌜ IsColumns (now columns) ⌝ }
-    ensures { λ r. ⌜ r ≡ shiftRows (subBytes (now (s .entry))) ⌝ }
-{
-    let mut o = [0u8; 16];
-    for i in 0..16 {
-        o[i] = columns[4 * shifted(s, i) as usize + 1];
-    }
-    o
+    let i = 4 * q;
+    as_word(
+        substituted(columns, shifted(s, i)),
+        substituted(columns, shifted(s, i + 1)),
+        substituted(columns, shifted(s, i + 2)),
+        substituted(columns, shifted(s, i + 3)),
+    )
 }
 
 // AddRoundKey (5.1.4).
-fn add_round_key(schedule: &[u8], s: &[u8], n: usize) -> [u8; 16]
+fn add_round_key(schedule: &[u8], s: &[u32; 4], n: usize) -> [u32; 4]
     requires { ⌜ (length (now schedule) ≡ 240) × (n < 15) ⌝ }
-    requires { ⌜ length (now s) ≡ 16 ⌝ }
-    ensures { λ r. ⌜ r ≡ addRoundKey (now (schedule .entry)) (now (s .entry)) n ⌝ }
+    ensures { λ r. ⌜ octetsIn 4 r ≡ addRoundKey (now (schedule .entry)) (octetsIn 4 (now (s .entry))) n ⌝ }
 {
-    let mut o = [0u8; 16];
-    for i in 0..16 {
-        o[i] = s[i] ^ schedule[16 * n + i];
-    }
-    o
+    let k = 4 * n;
+    [
+        s[0] ^ word_in(schedule, k),
+        s[1] ^ word_in(schedule, k + 1),
+        s[2] ^ word_in(schedule, k + 2),
+        s[3] ^ word_in(schedule, k + 3),
+    ]
+}
+
+// A round before the last (5.1).
+fn round(columns: &[u8], schedule: &[u8], s: &[u32; 4], n: usize) -> [u32; 4]
+    requires { ⌜ IsColumns (now columns) ⌝ }
+    requires { ⌜ (length (now schedule) ≡ 240) × (n < 15) ⌝ }
+    ensures { λ r. ⌜ octetsIn 4 r ≡ addRoundKey (now (schedule .entry)) (mixColumns (shiftRows (subBytes (octetsIn 4 (now (s .entry)))))) n ⌝ }
+{
+    let t = [
+        mixed_column(columns, s, 0),
+        mixed_column(columns, s, 1),
+        mixed_column(columns, s, 2),
+        mixed_column(columns, s, 3),
+    ];
+    add_round_key(schedule, &t, n)
+}
+
+// The last round, which mixes no columns.
+fn last_round(columns: &[u8], schedule: &[u8], s: &[u32; 4]) -> [u32; 4]
+    requires { ⌜ IsColumns (now columns) ⌝ }
+    requires { ⌜ length (now schedule) ≡ 240 ⌝ }
+    ensures { λ r. ⌜ octetsIn 4 r ≡ addRoundKey (now (schedule .entry)) (shiftRows (subBytes (octetsIn 4 (now (s .entry))))) 14 ⌝ }
+{
+    let t = [
+        shifted_column(columns, s, 0),
+        shifted_column(columns, s, 1),
+        shifted_column(columns, s, 2),
+        shifted_column(columns, s, 3),
+    ];
+    add_round_key(schedule, &t, 14)
 }
 
 // The cipher under a key schedule (5.1), in place.
@@ -147,13 +204,11 @@ fn cipher(columns: &[u8], schedule: &[u8], block: &mut [u8])
     requires { ⌜ (length (now schedule) ≡ 240) × (length (now block) ≡ 16) ⌝ }
     ensures { λ _. ⌜ now (block .exit) ≡ cipherOf (now (schedule .entry)) (now (block .entry)) ⌝ }
 {
-    let mut s = add_round_key(schedule, block, 0);
+    let mut s = add_round_key(schedule, &state_of(block), 0);
     for n in 0..13 {
         s = round(columns, schedule, &s, n + 1);
     }
-    let t = sub_shift(columns, &s);
-    let o = add_round_key(schedule, &t, 14);
-    octets::copy(&o, block);
+    put_state(&last_round(columns, schedule, &s), block);
 }
 
 // Enciphers a block in place, under the key that was prepared.

@@ -3,22 +3,17 @@ use mathlib.Core.Path.{_≡_, _∙_}
 use Prim.Native.Nat.{_≤_, _-_}
 use borrow.Author.Needs.{needs}
 use Rattle.aes.specs.Cipher.{rounds}
-use Rattle.aes.proofs.StateLaws.{length-shiftRows, length-addRoundKey, rounds-more, rounds-last}
+use Rattle.aes.specs.Prepared.{octetsIn}
+use Rattle.aes.proofs.WordLaws.{length-octetsIn}
+use Rattle.aes.proofs.StateLaws.{rounds-more, rounds-last}
 use Rattle.aes.proofs.cipher.Statement.{statement}
 use Rattle.aes.proofs.cipher.Tie as tie
 
 abbrev Inv-loop : tie.InvT-loop
-Inv-loop table schedule block s₀ n₀ s n = (n ≤ 13) × (s ≡ rounds schedule block n)
+Inv-loop columns schedule block s₀ n₀ s n = (n ≤ 13) × (octetsIn 4 s ≡ rounds schedule block n)
 
 abbrev μ-loop : tie.MeasureT-loop
-μ-loop table schedule block s₀ n₀ s n = 13 - n
-
-returns : tie.Need-returns Inv-loop μ-loop
-returns c =
-    let key = c .before .before .before .before .before in
-    let after = key .before .before .before .before in
-    c .before .before .copy .ensures
-    ∙ rounds-last _ _ _ (after .before .loop .n) (after .before .loop .inv .1) _ _ (search needs) (key .before .before .sub-shift .ensures) (key .add-round-key2 .ensures)
+μ-loop columns schedule block s₀ n₀ s n = 13 - n
 
 pub cipher-spec : {M : Type 1} → statement M
 unfolding rounds
@@ -28,16 +23,17 @@ cipher-spec =
     Inv-loop
     μ-loop
     (λ c κs. search needs)
-    (λ c. search needs)
+    (λ c κs. search needs)
+    (λ c. (search needs, rw (c .before .before .state-of .ensures) at (c .add-round-key .ensures)))
     (λ c. search needs)
     (λ c κs. search needs)
     (λ c. search needs)
     (λ c. search needs)
     (λ c. let at = c .before .before .before in (search needs, rounds-more _ _ _ (at .loop .n) (at .loop .inv .1) _ (c .round .ensures)))
     (λ c κs. search needs)
-    (λ c. search needs)
-    (λ c κs. ((search needs, search needs), rw (c .before .sub-shift .ensures, length-shiftRows)))
-    (λ c. search needs)
-    (λ c κs. rw (c .before .before .add-round-key2 .ensures, length-addRoundKey) (search needs))
-    (λ c. rw (c .before .before .copy .ensures, c .before .before .before .before .before .add-round-key2 .ensures, length-addRoundKey) (search needs))
-    returns)
+    (λ c κs. search needs)
+    (λ c. rw (c .before .before .put-state .ensures, length-octetsIn 4) (search needs))
+    (λ c.
+    let last = c .before .before .before .before .before in
+    let done = last .before .before .before in
+    c .before .before .put-state .ensures ∙ rounds-last _ _ _ (done .loop .n) (done .loop .inv .1) _ (search needs) (last .last-round .ensures)))

@@ -9,13 +9,5 @@ pub entry-spec : {M : Type 1} → statement M
 entry-spec =
     tie.close
     (tie.spec
-    (λ c. search needs)
-    (λ c. search needs)
-    (λ c. search needs)
-    (λ c. search needs)
-    (λ c. search needs)
-    (λ c. search needs)
-    (λ c. search needs)
-    (λ c. search needs)
     (λ c κs. search needs)
-    (λ c. c .as-word .ensures ∙ entry-is (c .before .before .before .before .before .before .args .columns .now) (c .before .before .before .before .before .before .args .x) (search needs) (search needs)))
+    (λ c. c .word-in .ensures ∙ entry-is (c .before .before .args .columns .now) (c .before .before .args .x) (search needs) (search needs)))

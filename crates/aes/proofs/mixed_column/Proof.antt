@@ -1,10 +1,10 @@
--- `aes::column` meets its contract.
+-- `aes::mixed_column` meets its contract.
 use borrow.Author.Needs.{needs}
 use Rattle.aes.proofs.FieldLaws.{sbox-lt}
 use Rattle.aes.proofs.StateLaws.{sub-shifted}
 use Rattle.aes.proofs.ColumnLaws.{column-sum}
-use Rattle.aes.proofs.column.Statement.{statement}
-use Rattle.aes.proofs.column.Tie as tie
+use Rattle.aes.proofs.mixed_column.Statement.{statement}
+use Rattle.aes.proofs.mixed_column.Tie as tie
 
 returns : tie.Need-returns
 returns c =
@@ -19,8 +19,8 @@ returns c =
     (b0 .entry .ensures) (b1 .entry2 .ensures) (b2 .entry3 .ensures) (b3 .entry4 .ensures)
     (b2 .before .before .rotated .ensures) (b3 .before .before .rotated2 .ensures) (c .rotated3 .ensures)
 
-pub column-spec : {M : Type 1} → statement M
-column-spec =
+pub mixed-column-spec : {M : Type 1} → statement M
+mixed-column-spec =
     tie.close
     (tie.spec
     (λ c. search needs)
@@ -38,8 +38,4 @@ column-spec =
     (λ c κs. search needs)
     (λ c κs. search needs)
     (λ c κs. search needs)
-    (λ c. search needs)
-    (λ c. search needs)
-    (λ c. search needs)
-    (λ c. search needs)
     returns)
