@@ -1,24 +1,24 @@
--- Octet by octet through the blocks of output feedback.
-use mathlib.Core.Path.{_≡_, sym, ap, _∙_}
+-- Output feedback, a block at a time: the octets of a session, copied from the blocks that they stand in. Over any step from one block to the next, the block
+-- itself or what is carried in its place, and over the octets of a block.
+use mathlib.Core.Path.{_≡_, refl, sym, ap, subst, _∙_}
 use mathlib.Core.List.{List}
 use mathlib.Core.Logic.{_⊎_, inl, inr}
-use Prim.Native.Nat.{ℕ, suc, _+_, _-_, _*_, _/_, _%_, _^_, _≤_, _<_}
-use native.Mathlib.Decide.{decLt}
+use Prim.Native.Nat.{ℕ, _+_, _-_, _*_, _/_, _%_, _≤_, _<_, min}
+use native.Mathlib.Nat.{add-zero, add-assoc}
+use native.Mathlib.Numerals.{add-one}
 use native.Mathlib.Omega.{arith}
-use lib.Dec.{ltb}
-use lib.ListN.{length, getD, set}
-use borrow.Author.Tests.{lt-ltb, le-ltb}
-use Rattle.octets.specs.Tests.{pick}
+use borrow.Rule.Slice.PartMut.{putMid}
+use lib.ListN.{length, getD, take, drop, length-drop}
+use lib.Seq.{getD-take, getD-drop, length-take-le}
 use Rattle.octets.specs.Lists.{iterate}
-use Rattle.octets.specs.Bits.{octetsFrom}
-use Rattle.octets.proofs.BitLaws.{bit-lt, bit-at, getD-octetsFrom, length-octetsFrom, octetsFrom-same}
-use Rattle.octets.proofs.ListLaws.{iterate-add}
-use Rattle.octets.proofs.Front.{Front, front-more}
-use Rattle.octets.proofs.Windows.{window-octet}
-use Rattle.ciphers.specs.Keystream.{usedBlock, feedback}
+use Rattle.octets.specs.Bits.{bit, octetsFrom, Octets}
+use Rattle.octets.proofs.BitLaws.{bit-lt, bit-at, octet-of, getD-octetsFrom, length-octetsFrom}
+use Rattle.octets.proofs.Front.{Front, front-start, front-part, front-done}
 use Rattle.ciphers.specs.declared.feedback.Engine.{Engine}
 use Rattle.ciphers.specs.declared.feedback.Engine.the-variants.{Des, Aes}
-use Rattle.ciphers.specs.Engine.{blockOctets, chained}
+use Rattle.ciphers.specs.Engine.{blockOctets}
+
+-- ---- the octets of a block
 
 -- a block has 8 octets, DES's, or 16, AES's
 abbrev pub Wide : ℕ → Type 0
@@ -32,125 +32,138 @@ pub wide-bounds : (n : ℕ) → Wide n → (8 ≤ n) × (n ≤ 16)
 wide-bounds n (inl e) = (omega arith, omega arith)
 wide-bounds n (inr e) = (omega arith, omega arith)
 
--- octet m of the blocks that come of b: it stands in this block at this place
-pub record Stands (E : List ℕ → List ℕ) (b : List ℕ) (n m : ℕ) (block : List ℕ) (at : ℕ) : Type 0 where
-  pub block-is : block ≡ iterate E (m / n) b
-  pub at-is : at ≡ m % n
+-- octet m of blocks stands at place m mod w of its block
+pub place-lt : (w m : ℕ) → Wide w → m % w < w
+place-lt w m (inl e) = rw e (omega arith)
+place-lt w m (inr e) = rw e (omega arith)
 
-module _ (E : List ℕ → List ℕ) (b : List ℕ) where
-  within-block : (n m : ℕ) → Wide n → m % n < n
-  within-block n m (inl e) = rw e (omega arith)
-  within-block n m (inr e) = rw e (omega arith)
+-- at most so many blocks lie before it
+pub block-le : (w m : ℕ) → Wide w → m / w ≤ m / 8
+block-le w m (inl e) = rw e (omega arith)
+block-le w m (inr e) = rw e (omega arith)
 
-  first-block : (n i : ℕ) → Wide n → i < n → (i / n ≡ 0) × (i % n ≡ i)
-  first-block n i (inl e) h = (rw e (omega (arith, rw e at h)), rw e (omega (arith, rw e at h)))
-  first-block n i (inr e) h = (rw e (omega (arith, rw e at h)), rw e (omega (arith, rw e at h)))
+-- r octets on, in the block
+same-block : (w m r : ℕ) → Wide w → m % w + r < w → ((m + r) / w ≡ m / w) × ((m + r) % w ≡ m % w + r)
+same-block w m r (inl e) h = (rw e (omega (arith, rw e at h)), rw e (omega (arith, rw e at h)))
+same-block w m r (inr e) h = (rw e (omega (arith, rw e at h)), rw e (omega (arith, rw e at h)))
 
-  -- an octet of b itself
-  pub stands-first : (n i : ℕ) → Wide n → i < n → Stands E b n i b i
+-- and at its end
+next-block : (w m r : ℕ) → Wide w → m % w + r ≡ w → ((m + r) / w ≡ m / w + 1) × ((m + r) % w ≡ 0)
+next-block w m r (inl e) h = (rw e (omega (arith, rw e at h)), rw e (omega (arith, rw e at h)))
+next-block w m r (inr e) h = (rw e (omega (arith, rw e at h)), rw e (omega (arith, rw e at h)))
+
+-- bit 8 m + k of the blocks is bit k of octet m
+bits-placed : (w m k : ℕ) → Wide w → k < 8 → ((8 * m + k) / (8 * w) ≡ m / w) × ((8 * m + k) % (8 * w) ≡ 8 * (m % w) + k)
+bits-placed w m k (inl e) h = (rw e (omega arith), rw e (omega arith))
+bits-placed w m k (inr e) h = (rw e (omega arith), rw e (omega arith))
+
+-- the lesser count, by the length that the lent octets had
+pub least-by : {n m k : ℕ} (w at i : ℕ) → n ≡ min (w - at) (m - i) → m ≡ k → n ≡ min (w - at) (k - i)
+least-by w at i e l = rw l at e
+
+-- n octets: the rest of a block's w from `at` on, or of m from i on
+module _ (w m i at n : ℕ) (l : i < m) (h : at < w) (least : n ≡ min (w - at) (m - i)) where
+  pub fewer-left : m - (i + n) < m - i
+  fewer-left = let some : (0 < n) × (i + n ≤ m) = omega arith in omega (arith, some)
+
+  -- what is copied is as long as what it is copied to
+  pub same-count : (d b : List ℕ) → length d ≡ m → length b ≡ w → length (take (i + n - i) (drop i d)) ≡ length (take (at + n - at) (drop at b))
+  same-count d b ld lb =
+      let e : i + n - i ≡ n = omega arith in
+      let f : at + n - at ≡ n = omega arith in
+      let there : i + n ≤ m = omega arith in
+      let here : at + n ≤ w = omega arith in
+      rw (e, f)
+      (length-take-le n (drop i d) (omega (arith, length-drop i d)) ∙ sym (length-take-le n (drop at b) (omega (arith, length-drop at b))))
+
+-- ---- steps in a loop
+
+module _ {A : Type 0} (step : A → A) (x : A) where
+  -- y comes n steps after x
+  pub record On (n : ℕ) (y : A) : Type 0 where
+    pub is : y ≡ iterate step n x
+
+  pub on-none : On 0 x
   unfolding iterate
-  stands-first n i w h =
-      let f = first-block n i w h in
-      record { block-is = rw (f .0); at-is = sym (f .1) }
+  on-none = record { is = refl }
 
-  pub place-lt : (n m : ℕ) (block : List ℕ) (at : ℕ) → Wide n → Stands E b n m block at → at < n
-  place-lt n m block at w s = rw (s .at-is) (within-block n m w)
-
-  -- one octet on, in the block
-  same-block : (n m : ℕ) → Wide n → m % n + 1 < n → ((m + 1) / n ≡ m / n) × ((m + 1) % n ≡ m % n + 1)
-  same-block n m (inl e) h = (rw e (omega (arith, rw e at h)), rw e (omega (arith, rw e at h)))
-  same-block n m (inr e) h = (rw e (omega (arith, rw e at h)), rw e (omega (arith, rw e at h)))
-
-  -- and past its end
-  next-block : (n m : ℕ) → Wide n → n ≤ m % n + 1 → ((m + 1) / n ≡ suc (m / n)) × ((m + 1) % n ≡ 0)
-  next-block n m (inl e) h = (rw e (omega (arith, rw e at h)), rw e (omega (arith, rw e at h)))
-  next-block n m (inr e) h = (rw e (omega (arith, rw e at h)), rw e (omega (arith, rw e at h)))
-
-  pub stands-next : (n m : ℕ) → Wide n → (block : List ℕ) (at : ℕ) (next : List ℕ) (then : ℕ) → length block ≡ n → Stands E b n m block at
-      → then ≡ pick (ltb (at + 1) (length block)) (at + 1) 0 → next ≡ pick (ltb (at + 1) (length block)) block (E block)
-      → Stands E b n (m + 1) next then
+  pub on-more : {n : ℕ} {y z : A} → On n y → z ≡ step y → On (n + 1) z
   unfolding iterate
-  stands-next n m w block at next then l s p q = go (decLt (at + 1) n)
-    where
-      go : Dec (at + 1 < n) → Stands E b n (m + 1) next then
-      go (yes h) =
-          let f = same-block n m w (rw (s .at-is) at h) in
-          let t = lt-ltb (at + 1) n h in
+  on-more {n} e f = record { is = rw (add-one n) (f ∙ ap step (e .is)) }
+
+  pub on-to : {m n : ℕ} {y : A} → On m y → m ≡ n → On n y
+  on-to {m} {n} {y} e q = subst (λ (k : ℕ). On k y) q e
+
+-- ---- the octets of a session
+
+module _ {A : Type 0} (step : A → A) (block : A → List ℕ) (first : A) (w : ℕ) where
+  -- used block j, counted from 0
+  abbrev used : ℕ → List ℕ
+  used j = block (iterate step (j + 2) first)
+
+  -- bit n of the used blocks
+  abbrev pub usedBit : ℕ → ℕ
+  usedBit n = bit (used (n / (8 * w))) (n % (8 * w))
+
+  module _ (from : ℕ) (o : List ℕ) where
+    abbrev pub session : List ℕ
+    session = octetsFrom (length o) (λ k. usedBit (8 * from + k))
+
+    length-session : length session ≡ length o
+    length-session = length-octetsFrom (length o) (λ k. usedBit (8 * from + k))
+
+    -- d has the first i octets; the next one is octet `at` of the block after x
+    pub record Fed (d : List ℕ) (x : A) (at i : ℕ) : Type 0 where
+      pub next : i < length o → On step first ((from + i) / w + 1) x
+      pub place : i < length o → at ≡ (from + i) % w
+      pub front : Front session o d i
+
+    pub fed-start : (x : A) → x ≡ iterate step (from / w + 1) first → Fed o x (from % w) 0
+    fed-start x e =
+        record {
+          next = λ h. rw (add-zero from) (record { is = e });
+          place = λ h. rw (add-zero from);
+          front = front-start session o (sym length-session);
+        }
+
+    pub fed-all : (d : List ℕ) (x : A) (at i : ℕ) → Fed d x at i → length o ≤ i → d ≡ session
+    fed-all d x at i f h = front-done session o d i (f .front) (omega (arith, length-session))
+
+    module _ (wd : Wide w) where
+      -- octet i of them stands in its block
+      stands : (i p : ℕ) → i < length o → p ≡ (from + i) % w → (b : List ℕ) → Octets b → b ≡ used ((from + i) / w) → getD b p 0 ≡ getD session i 0
+      stands i p l e b octets is-b =
+          octet-of (getD b p 0) (λ k. usedBit (8 * from + (8 * i + k))) (octets p)
+          (λ k. bit-lt (used ((8 * from + (8 * i + k)) / (8 * w))) ((8 * from + (8 * i + k)) % (8 * w)))
+          (λ k h.
+          let s : 8 * from + (8 * i + k) ≡ 8 * (from + i) + k = omega arith in
+          let q = bits-placed w (from + i) k wd h in
+          sym (bit-at b p k h) ∙ rw (s, q .0, q .1, ← e) (ap (λ (x : List ℕ). bit x (8 * p + k)) is-b))
+          ∙ sym (getD-octetsFrom (length o) (λ k. usedBit (8 * from + k)) i l)
+
+      -- a turn of the loop: the rest of a block, or of the octets
+      pub fed-more : (d : List ℕ) (x : A) (at i : ℕ) → Fed d x at i → i < length o
+          → (y : A) (b part : List ℕ) (n : ℕ) → y ≡ step x → length b ≡ w → Octets b → b ≡ block y
+          → n ≡ min (w - at) (length o - i) → part ≡ take (at + n - at) (drop at b) → Fed (putMid i (i + n - i) d part) y 0 (i + n)
+      fed-more d x at i f l y b part n e long octets is-b size as-taken =
+          let p : at ≡ (from + i) % w = f .place l in
+          let inside : at < w = rw p (place-lt w (from + i) wd) in
+          let on = on-more step first (f .next l) e in
+          let count : at + n - at ≡ n = omega arith in
+          let is-part : part ≡ take n (drop at b) = rw count at as-taken in
+          let fits : at + n ≤ w = omega arith in
+          let after : i + n < length o → ((from + i + n) / w ≡ (from + i) / w + 1) × ((from + i + n) % w ≡ 0) =
+          λ h. next-block w (from + i) n wd (rw (← p) (omega arith)) in
           record {
-            block-is = rw (l, t) at q ∙ s .block-is ∙ ap (λ (k : ℕ). iterate E k b) (sym (f .0));
-            at-is = rw (l, t) at p ∙ ap (λ (k : ℕ). k + 1) (s .at-is) ∙ sym (f .1);
+            next = λ h. on-to step first on (rw (← add-assoc from i n, after h .0));
+            place = λ h. rw (← add-assoc from i n, after h .1);
+            front =
+                front-part session o d part i (i + n - i) n (f .front) (omega arith) (ap length is-part ∙ length-take-le n (drop at b) (omega (arith, length-drop at b)))
+                (omega (arith, length-session))
+                (λ r h.
+                let q = same-block w (from + i) r wd (rw (← p) (omega arith)) in
+                let two : (from + i) / w + 1 + 1 ≡ (from + i) / w + 2 = add-assoc ((from + i) / w) 1 1 in
+                ap (λ (x : List ℕ). getD x r 0) is-part ∙ getD-take n (drop at b) r 0 h ∙ getD-drop at b r 0
+                ∙ stands (i + r) (at + r) (omega arith) (rw (← add-assoc from i r, q .1, p)) b octets
+                (rw (← add-assoc from i r, q .0) (is-b ∙ ap block (on-to step first on two .is))));
           }
-      go (no h) =
-          let g : n ≤ at + 1 = omega arith in
-          let f = next-block n m w (rw (s .at-is) at g) in
-          let t = le-ltb (at + 1) n g in
-          record {
-            block-is = rw (l, t) at q ∙ ap E (s .block-is) ∙ ap (λ (k : ℕ). iterate E k b) (sym (f .0));
-            at-is = rw (l, t) at p ∙ sym (f .1);
-          }
-
-  -- bit 8 m + k of the blocks is bit k of octet m
-  bits-placed : (n m k : ℕ) → Wide n → k < 8 → ((8 * m + k) / (8 * n) ≡ m / n) × ((8 * m + k) % (8 * n) ≡ 8 * (m % n) + k)
-  bits-placed n m k (inl e) h = (rw e (omega arith), rw e (omega arith))
-  bits-placed n m k (inr e) h = (rw e (omega arith), rw e (omega arith))
-
-  pub octet-bits : (n m : ℕ) → Wide n → (block : List ℕ) (at : ℕ) → Stands E b n m block at → (k : ℕ) → k < 8
-      → getD block at 0 / 2 ^ (7 - k) % 2 ≡ chained E (8 * n) b (8 * m + k)
-  unfolding chained
-  octet-bits n m w block at s k h =
-      let f = bits-placed n m k w h in
-      rw (s .block-is, s .at-is, f .0, f .1) (sym (bit-at (iterate E (m / n) b) (m % n) k h))
-
-  chained-bit : (w k : ℕ) → chained E w b k < 2
-  unfolding chained
-  chained-bit w k = bit-lt (iterate E (k / w) b) (k % w)
-
-  -- a turn of the loop: the octet that starts at bit from + 8 i
-  pub chain-more : (n from i : ℕ) → Wide n → (o d : List ℕ) (block next : List ℕ) (at then v : ℕ)
-      → Stands E b n (from / 8 + i) block at → Stands E b n (from / 8 + i + 1) next then → getD next then 0 < 256
-      → v ≡ (256 * getD block at 0 + getD next then 0) / 2 ^ (8 - from % 8) % 256
-      → i < length o
-      → Front (octetsFrom (length o) (λ k. chained E (8 * n) b (from + k))) o d i
-      → Front (octetsFrom (length o) (λ k. chained E (8 * n) b (from + k))) o (set d i v) (i + 1)
-  chain-more n from i w o d block next at then v s t low e h f =
-      front-more (octetsFrom (length o) (λ k. chained E (8 * n) b (from + k))) o d i v f
-      (omega (arith, length-octetsFrom (length o) (λ k. chained E (8 * n) b (from + k))))
-      (e
-      ∙ window-octet (chained E (8 * n) b) from i (getD block at 0) (getD next then 0) low
-      (octet-bits n (from / 8 + i) w block at s) (octet-bits n (from / 8 + i + 1) w next then t) (chained-bit (8 * n))
-      ∙ sym (getD-octetsFrom (length o) (λ k. chained E (8 * n) b (from + k)) i h))
-
-pub rest-lt : (n from : ℕ) → Wide n → from % (8 * n) < 8 * n
-rest-lt n from (inl e) = rw e (omega arith)
-rest-lt n from (inr e) = rw e (omega arith)
-
--- at most so many blocks lie before a place
-pub skip-le : (n from : ℕ) → Wide n → from / (8 * n) ≤ from / 64
-skip-le n from (inl e) = rw e (omega arith)
-skip-le n from (inr e) = rw e (omega arith)
-
--- the blocks from the vector's second encipherment on are the used ones
-from-used : (n from k : ℕ) → Wide n
-    → ((from % (8 * n) + k) / (8 * n) + (from / (8 * n) + 2) ≡ (from + k) / (8 * n) + 2) × ((from % (8 * n) + k) % (8 * n) ≡ (from + k) % (8 * n))
-from-used n from k (inl e) = (rw e (omega arith), rw e (omega arith))
-from-used n from k (inr e) = (rw e (omega arith), rw e (omega arith))
-
-pub chain-used : (E : List ℕ → List ℕ) (v b r : List ℕ) (n m from : ℕ) → Wide n → length b ≡ n → b ≡ iterate E (from / (8 * n) + 2) v
-    → r ≡ octetsFrom m (λ k. chained E (8 * length b) b (from % (8 * n) + k)) → r ≡ octetsFrom m (λ k. feedback E (8 * n) v (from + k))
-unfolding chained feedback usedBlock
-chain-used E v b r n m from w l e q =
-    q
-    ∙ octetsFrom-same m (λ k. chained E (8 * length b) b (from % (8 * n) + k)) (λ k. feedback E (8 * n) v (from + k))
-    (λ k.
-    let f = from-used n from k w in
-    rw (l, e, iterate-add E ((from % (8 * n) + k) / (8 * n)) (from / (8 * n) + 2) v, f .0, f .1))
-
--- the block left by them is a used one too
-left-used : (n m from : ℕ) → Wide n → (from % (8 * n) / 8 + m) / n + (from / (8 * n) + 2) ≡ (from / 8 + m) / n + 2
-left-used n m from (inl e) = rw e (omega arith)
-left-used n m from (inr e) = rw e (omega arith)
-
-pub chain-left : (E : List ℕ → List ℕ) (v b r : List ℕ) (n m from : ℕ) → Wide n → length b ≡ n → b ≡ iterate E (from / (8 * n) + 2) v
-    → r ≡ iterate E ((from % (8 * n) / 8 + m) / length b) b → r ≡ usedBlock E v ((from / 8 + m) / n)
-unfolding usedBlock
-chain-left E v b r n m from w l e q = q ∙ rw (l, e, iterate-add E ((from % (8 * n) / 8 + m) / n) (from / (8 * n) + 2) v, left-used n m from w)

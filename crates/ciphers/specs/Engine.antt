@@ -1,8 +1,6 @@
 -- The engines of output feedback: each enciphers a block under a key that was prepared for it. Only the contracts of this crate's own functions cite it.
 use mathlib.Core.List.{List}
-use Prim.Native.Nat.{ℕ, _/_, _%_}
-use Rattle.octets.specs.Lists.{iterate}
-use Rattle.octets.specs.Bits.{bit}
+use Prim.Native.Nat.{ℕ, _/_}
 use Rattle.des.specs.Des.{des}
 use Rattle.des.specs.Prepared as forDes
 use Rattle.aes.specs.Cipher.{aes}
@@ -25,7 +23,3 @@ blockOctets Aes = blockBits 3 / 8
 unfoldable pub blockBy : Engine → List ℕ → List ℕ → List ℕ
 blockBy Des p block = des (forDes.keyOf p) block
 blockBy Aes p block = aes (forAes.keyOf p) block
-
--- the bits of a block and of those that come of it, one after the other
-unfoldable pub chained : (List ℕ → List ℕ) → ℕ → List ℕ → ℕ → ℕ
-chained encipher width block n = bit (iterate encipher (n / width) block) (n % width)

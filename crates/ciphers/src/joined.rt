@@ -83,5 +83,5 @@ pub fn keystream(
         des_stream(key, vector, from, out);
         return;
     }
-    plain::keystream(cipher, key, vector, 8 * from, out);
+    plain::keystream(cipher, key, vector, from, out);
 }

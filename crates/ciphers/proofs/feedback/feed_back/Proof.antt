@@ -1,42 +1,87 @@
--- `ciphers::feedback::feed_back` meets its contract.
+-- `ciphers::feedback::feed_back` meets its contract: the first i octets are the session's, and the next stands in the block after the one at hand.
+use mathlib.Core.Path.{_≡_, refl}
+use mathlib.Core.List.{List}
+use Prim.Native.Nat.{ℕ, _+_, _-_, _/_, _≤_, _<_}
 use native.Mathlib.Omega.{arith}
+use lib.ListN.{length}
 use borrow.Author.Needs.{needs}
-use Rattle.ciphers.proofs.Chained.{wide, wide-bounds, skip-le, rest-lt, chain-used, chain-left}
+use Rattle.octets.specs.Lists.{iterate}
+use Rattle.ciphers.specs.Keystream.{usedBlock, feedback}
+use Rattle.ciphers.specs.Engine.{blockBy}
+use Rattle.ciphers.proofs.Chained.{wide, wide-bounds, place-lt, block-le, least-by, fewer-left, same-count, Fed, fed-start, fed-more, fed-all}
 use Rattle.ciphers.proofs.feedback.feed_back.Statement.{statement}
 use Rattle.ciphers.proofs.feedback.feed_back.Tie as tie
 
-mul-width : tie.Need-mul-width
-mul-width c = record { fits = omega (arith, wide-bounds _ (wide (c .before .before .before .args .engine) _ (c .before .before .before .pre .1)) .1) }
+-- the loop begins with the block after `skip`, of whichever vector that comes
+abbrev Inv-loop : tie.InvT-loop
+Inv-loop engine prepared block₀ from out₀ size at₀ i₀ block out at i =
+    (length out ≡ length out₀) × (i ≤ length out₀) × (at < size) × (length block ≡ size)
+    × ((vector : List ℕ) → block₀ ≡ iterate (blockBy engine prepared) (from / size + 1) vector → Fed (blockBy engine prepared) (λ b. b) vector size from out₀ out block at i)
 
-div-skip : tie.Need-div-skip
-div-skip c = omega (arith, wide-bounds _ (wide (c .before .before .before .before .args .engine) _ (c .before .before .before .before .pre .1)) .0)
+abbrev μ-loop : tie.MeasureT-loop
+μ-loop engine prepared block₀ from out₀ size at₀ i₀ block out at i = length out₀ - i
 
-add-skip : tie.Need-add-skip
-add-skip c = record { fits = omega (arith, skip-le _ (c .before .before .before .before .args .from) (wide (c .before .before .before .before .args .engine) _ (c .before .before .before .before .pre .1))) }
+div-skip : tie.Need-div-skip Inv-loop μ-loop
+div-skip c = let a = c .before .before .before .before in omega (arith, wide-bounds _ (wide (a .args .engine) _ (a .pre .1)))
 
-rem-chain : tie.Need-rem-chain
-rem-chain c = omega (arith, wide-bounds _ (wide (c .before .before .before .before .before .before .before .before .args .engine) _ (c .before .before .before .before .before .before .before .before .pre .1)) .0)
+add-skip : tie.Need-add-skip Inv-loop μ-loop
+add-skip c = let a = c .before .before .before .before in record { fits = omega (arith, block-le _ (a .args .from) (wide (a .args .engine) _ (a .pre .1))) }
 
-chain-requires : tie.Need-chain-requires
-chain-requires c κs = (c .before .before .before .before .before .before .before .before .before .pre .0, (search needs, omega (arith, rest-lt _ (c .before .before .before .before .before .before .before .before .before .args .from) (wide (c .before .before .before .before .before .before .before .before .before .args .engine) _ (c .before .before .before .before .before .before .before .before .before .pre .1)))))
+rem-at : tie.Need-rem-at Inv-loop μ-loop
+rem-at c = let a = c .before .before .before .before .before .before .before in omega (arith, wide-bounds _ (wide (a .args .engine) _ (a .pre .1)))
 
-returns : tie.Need-returns
-returns c =
-    let w = wide (c .before .before .before .before .before .before .before .before .before .before .before .before .before .before .args .engine) _ (c .before .before .before .before .before .before .before .before .before .before .before .before .before .before .pre .1) in (
-      chain-used _ _ _ _ _ _ _ w (search needs) (c .before .before .before .before .before .before .before .before .before .skip .ensures) (c .before .before .before .before .chain .ensures .0),
-      chain-left _ _ _ _ _ _ _ w (search needs) (c .before .before .before .before .before .before .before .before .before .skip .ensures) (c .before .before .before .before .chain .ensures .1),
+loop-holds : tie.Need-loop-holds Inv-loop μ-loop
+loop-holds c =
+    let a = c .before .before .before .before .before .before .before in
+    (refl, omega arith, place-lt _ (a .args .from) (wide (a .args .engine) _ (a .pre .1)), search needs, λ vector e. fed-start {A = List ℕ} _ _ _ _ _ _ _ e)
+
+less : tie.Need-loop-less Inv-loop μ-loop
+less c =
+    let d = c .before .before .before .before .before .before in
+    let e = d .before .before .before .before .before .before in
+    fewer-left _ _ _ (e .loop .at) _ (search needs) (e .loop .inv .2) (least-by _ (e .loop .at) (e .loop .i) (d .least .ensures .2) (e .loop .inv .0))
+
+loop-again : tie.Need-loop-again Inv-loop μ-loop
+loop-again c =
+    let d = c .before .before .before .before .before .before in
+    let e = d .before .before .before .before .before .before in
+    let a = e .before .before .before .before .before .before .before .before in (
+      search needs,
+      search needs,
+      search needs,
+      search needs,
+      λ vector is.
+          fed-more {A = List ℕ} _ _ vector _ _ _ (wide (a .args .engine) _ (a .pre .1)) _ _ _ _ (e .loop .inv .4 vector is) (search needs) _ _ _ _ (d .before .before .before .encipher .ensures) (search needs)
+          (λ i. d .before .slice-known4 .given i .fits) refl (least-by _ (e .loop .at) (e .loop .i) (d .least .ensures .2) (e .loop .inv .0)) (c .before .before .copy .ensures),
     )
 
 pub feed-back-spec : {M : Type 1} → statement M
+unfolding feedback usedBlock
 feed-back-spec =
     tie.close
     (tie.spec
-    mul-width
+    Inv-loop
+    μ-loop
     div-skip
     add-skip
     (λ c κs. search needs)
-    rem-chain
-    chain-requires
+    rem-at
+    loop-holds
+    (λ c κs. search needs)
     (λ c. search needs)
     (λ c. search needs)
-    returns)
+    (λ c κs. search needs)
+    (λ c. omega (arith, c .least .ensures .2))
+    (λ c. omega (arith, c .least .ensures .2))
+    (λ c. search needs)
+    (λ c. search needs)
+    (λ c. search needs)
+    (λ c. search needs)
+    (λ c. search needs)
+    (λ c. search needs)
+    (λ c κs. same-count _ _ _ _ _ (search needs) (search needs) (c .before .before .before .least .ensures .2) _ _ refl (search needs))
+    less
+    loop-again
+    (λ c. search needs)
+    (λ c. search needs)
+    (λ c. fed-all {A = List ℕ} _ _ _ _ _ _ _ _ _ _ (c .before .loop .inv .4 _ (c .before .before .before .before .skip .ensures)) (search needs)))

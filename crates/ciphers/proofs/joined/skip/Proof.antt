@@ -2,13 +2,13 @@
 use Prim.Native.Nat.{_-_, _≤_}
 use native.Mathlib.Omega.{arith}
 use borrow.Author.Needs.{needs}
-use Rattle.des.specs.Joined.{halvesIn}
-use Rattle.ciphers.proofs.CarriedFeedback.{On, on-none, on-more, on-to}
+use Rattle.des.specs.Joined.{carriedOn, halvesIn, keysIn}
+use Rattle.ciphers.proofs.Chained.{On, on-none, on-more, on-to}
 use Rattle.ciphers.proofs.joined.skip.Statement.{statement}
 use Rattle.ciphers.proofs.joined.skip.Tie as tie
 
 abbrev Inv-loop : tie.InvT-loop
-Inv-loop tables keys n carried₀ i₀ carried i = (i ≤ n) × On keys (halvesIn carried₀) i (halvesIn carried)
+Inv-loop tables keys n carried₀ i₀ carried i = (i ≤ n) × On (carriedOn (keysIn keys)) (halvesIn carried₀) i (halvesIn carried)
 
 abbrev μ-loop : tie.MeasureT-loop
 μ-loop tables keys n carried₀ i₀ carried i = n - i

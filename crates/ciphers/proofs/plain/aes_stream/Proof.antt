@@ -10,7 +10,7 @@ feed-back-requires : tie.Need-feed-back-requires
 feed-back-requires c κs = (c .before .before .before .before .before .prepare .ensures .0, search needs)
 
 returns : tie.Need-returns
-returns c = fed-back _ _ (by-aes (c .before .before .before .before .before .before .before .before .before .before .before .before .args .t1) _ (c .before .before .before .before .before .before .before .before .before .prepare .ensures .1)) _ _ _ _ _ _ (omega (arith, length-aesVector (c .before .before .before .before .before .before .before .before .before .before .before .before .args .t2) (search needs))) (c .before .before .before .before .before .before .before .aes-vector .ensures) (c .before .before .before .feed-back .ensures .0)
+returns c = fed-back _ _ (by-aes (c .before .before .before .before .before .before .before .before .before .before .before .before .args .t1) _ (c .before .before .before .before .before .before .before .before .before .prepare .ensures .1)) _ _ _ _ _ _ (omega (arith, length-aesVector (c .before .before .before .before .before .before .before .before .before .before .before .before .args .t2) (search needs))) (c .before .before .before .before .before .before .before .aes-vector .ensures) (c .before .before .before .feed-back .ensures)
 
 pub aes-stream-spec : {M : Type 1} → statement M
 aes-stream-spec =

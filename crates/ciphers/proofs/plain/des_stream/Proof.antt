@@ -16,7 +16,7 @@ feed-back-requires : tie.Need-feed-back-requires
 feed-back-requires c κs = (c .before .before .before .prepare .ensures .0, search needs)
 
 returns : tie.Need-returns
-returns c = fed-back _ _ (by-des (c .before .before .before .before .before .before .before .before .before .before .args .t1) _ (c .before .before .before .before .before .before .before .prepare .ensures .1)) _ _ _ _ _ _ (search needs) refl (c .before .before .before .feed-back .ensures .0)
+returns c = fed-back _ _ (by-des (c .before .before .before .before .before .before .before .before .before .before .args .t1) _ (c .before .before .before .before .before .before .before .prepare .ensures .1)) _ _ _ _ _ _ (search needs) refl (c .before .before .before .feed-back .ensures)
 
 pub des-stream-spec : {M : Type 1} → statement M
 des-stream-spec =
