@@ -7,10 +7,10 @@ use native.Mathlib.Nat.{add-mod, div-one, div-eq-of-lt, mod-eq-of-lt, div-div-eq
 use native.Mathlib.Decide.{decLt}
 use native.Mathlib.Omega.{arith}
 use lib.Bits.{bitOr, bitXor, differ, or-lt, or-add-and, and-le-l, and-le-r, xor-lt, xor-shr, xor-step}
-use lib.Dec.{ltb}
+use lib.Dec.{ltb, eqb}
 use lib.Pow.{field, mod-mod-pow}
 use lib.ListN.{length, getD}
-use borrow.Author.Tests.{ltb-true, ltb-false, lt-ltb, le-ltb}
+use borrow.Author.Tests.{ltb-true, ltb-false, lt-ltb, le-ltb, ne-eqb}
 use Rattle.octets.specs.Bits.{bit, flip, octet, octetsFrom, Bits, Octets}
 
 pub flip-flip : (a b : ℕ) → a < 2 → flip (flip a b) b ≡ a
@@ -204,3 +204,11 @@ or-below w a b = go (ltb a (2 ^ w)) (ltb b (2 ^ w)) refl refl
     go true true e f = lt-ltb (bitOr a b) (2 ^ w) (or-lt w a b (ltb-true a (2 ^ w) e) (ltb-true b (2 ^ w) f))
     go true false e f = le-ltb (bitOr a b) (2 ^ w) (omega (arith, ltb-false b (2 ^ w) f, or-add-and a b, and-le-l a b))
     go false t e f = le-ltb (bitOr a b) (2 ^ w) (omega (arith, ltb-false a (2 ^ w) e, or-add-and a b, and-le-r a b))
+
+below-one : (a : ℕ) → ltb a 1 ≡ eqb a 0
+below-one zero = refl
+below-one (suc a) = le-ltb (suc a) 1 (omega arith) ∙ sym (ne-eqb (suc a) 0 (λ e. omega arith))
+
+-- an or is zero where both sides are
+pub or-zero : (a b : ℕ) → eqb (bitOr a b) 0 ≡ (eqb a 0 && eqb b 0)
+or-zero a b = sym (below-one (bitOr a b)) ∙ or-below 0 a b ∙ ap₂ _&&_ (below-one a) (below-one b)

@@ -1,18 +1,20 @@
 -- Octets given by a test, and zeros.
-use mathlib.Core.Path.{_≡_, refl}
+use mathlib.Core.Path.{_≡_, refl, _∙_}
 use mathlib.Core.Bool.{true}
 use mathlib.Core.List.{List}
-use Prim.Native.Nat.{ℕ, zero, suc, _-_, _/_, _%_, _^_, _<_}
+use Prim.Native.Nat.{ℕ, zero, suc, _+_, _-_, _/_, _%_, _^_, _<_}
 use native.Mathlib.Nat.{zero-div}
 use native.Mathlib.Decide.{decLt}
 use native.Mathlib.Omega.{arith}
+use lib.Bits.{bitOr}
 use lib.Dec.{ltb, eqb}
 use lib.ListN.{length, getD, replicate, List·getD-eq-default}
 use borrow.Author.Tests.{eq-eqb, ltb-true}
 use Rattle.octets.specs.Tests.{allBelow}
 use Rattle.octets.specs.Lists.{allZero}
 use Rattle.octets.specs.Bits.{bit, Octets}
-use Rattle.octets.proofs.TestLaws.{all-at, all-intro}
+use Rattle.octets.proofs.TestLaws.{all-at, all-step, all-intro}
+use Rattle.octets.proofs.BitLaws.{or-zero}
 
 -- octets, by a test of each
 pub octets-by : (xs : List ℕ) → allBelow (λ i. ltb (getD xs i 0) 256) (length xs) ≡ true → Octets xs
@@ -36,3 +38,8 @@ zeros-octets n i = rw (zeros-at n i) (omega arith)
 
 pub zeros-bit : (n k : ℕ) → bit (replicate n 0) k ≡ 0
 zeros-bit n k = rw (zeros-at n (k / 8), zero-div (2 ^ (7 - k % 8)))
+
+-- the bits of the first i octets and those of the next, none of which is 1 where each octet is zero
+pub zero-more : (xs : List ℕ) (i bits : ℕ) → eqb bits 0 ≡ allBelow (λ j. eqb (getD xs j 0) 0) i
+    → eqb (bitOr bits (getD xs i 0)) 0 ≡ allBelow (λ j. eqb (getD xs j 0) 0) (i + 1)
+zero-more xs i bits e = or-zero bits (getD xs i 0) ∙ rw (e, all-step)

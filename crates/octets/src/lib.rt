@@ -23,18 +23,17 @@ pub fn least(a: usize, b: usize) -> usize
     b
 }
 
-// Whether every octet is zero.
+// Whether every octet is zero. All are looked at, so the compiler takes many at a time.
 pub fn all_zero(xs: &[u8]) -> bool
     ensures { λ r. ⌜ r ≡ allZero (now (xs .entry)) ⌝ }
 {
+    let mut bits: u8 = 0;
     let mut i = 0;
     while i < xs.len() {
-        if xs[i] != 0 {
-            return false;
-        }
+        bits = bits | xs[i];
         i += 1;
     }
-    true
+    bits == 0
 }
 
 // Copies octets into a part of the same length.
