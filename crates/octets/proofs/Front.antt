@@ -43,6 +43,13 @@ module _ (l d₀ : List ℕ) where
   pub front-done : (d : List ℕ) (i : ℕ) → Front l d₀ d i → length l ≤ i → d ≡ l
   front-done d i f h = front-rest d i f (λ j a b. absurd (omega arith))
 
+  -- what lies ahead is as it was
+  pub front-ahead : (d : List ℕ) (i n : ℕ) → Front l d₀ d i → length d₀ ≡ length l → take n (drop i d) ≡ take n (drop i d₀)
+  front-ahead d i n f e =
+      ap (take n)
+      (ext-getD 0 (drop i d) (drop i d₀) (length-drop i d ∙ ap (λ (k : ℕ). k - i) (f .size ∙ sym e) ∙ sym (length-drop i d₀))
+      (λ j h. getD-drop i d j 0 ∙ f .left (i + j) (omega arith) ∙ sym (getD-drop i d₀ j 0)))
+
   pub front-to : (d : List ℕ) (i j : ℕ) → i ≡ j → Front l d₀ d i → Front l d₀ d j
   front-to d i j e f = subst (λ (k : ℕ). Front l d₀ d k) e f
 

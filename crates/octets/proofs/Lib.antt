@@ -8,3 +8,4 @@ pub mod Windows
 pub mod Turning
 pub mod Parts
 pub mod Words
+pub mod Streams

@@ -7,12 +7,11 @@ use native.Mathlib.Decide.{decLt}
 use native.Mathlib.Omega.{arith}
 use lib.Bits.{bitXor, xor-lt, xor-zero-r}
 use lib.ListN.{length, getD, set}
-use Rattle.octets.proofs.Front.{Front, front-start, front-more, front-rest}
+use Rattle.octets.proofs.Front.{Front, front-more}
 use borrow.Author.Tests.{lt-ltb, le-ltb}
 use Rattle.octets.specs.Bits.{bit, flip, Octets}
 use Rattle.octets.proofs.BitLaws.{flip-lt, flip-flip, flip-zero, bit-lt, octets-ext, octet-ext, bit-at, xor-bit, bit-octetsFrom, octets-octetsFrom, length-octetsFrom, octetsFrom-same}
 use Rattle.octets.specs.Turn.{within, turned}
-use Rattle.octets.proofs.Windows.{windowAt, window-lt, window-bit, top-le, top-kept, top-lost}
 
 -- bits inside the width, and past it
 pub within-in : (w : ℕ) (ks : ℕ → ℕ) (k : ℕ) → k < w → within w ks k ≡ ks k
@@ -41,10 +40,10 @@ module _ (w : ℕ) (ks : ℕ → ℕ) (part : List ℕ) where
   turned-stays k h l = bit-turned k h ∙ rw (within-out w ks k l) (flip-zero (bit part k) (bit-lt part k))
 
   -- an octet is turned by the octet of its bits
-  pub turned-at : Octets part → (j v : ℕ) → j < length part → v < 256 → ((k : ℕ) → k < 8 → v / 2 ^ (7 - k) % 2 ≡ within w ks (8 * j + k))
+  pub turned-at : (j v : ℕ) → j < length part → getD part j 0 < 256 → v < 256 → ((k : ℕ) → k < 8 → v / 2 ^ (7 - k) % 2 ≡ within w ks (8 * j + k))
       → bitXor (getD part j 0) v ≡ getD (turned w ks part) j 0
-  turned-at o j v h l e =
-      octet-ext (bitXor (getD part j 0) v) (getD (turned w ks part) j 0) (xor-lt 8 (getD part j 0) v (o j) l) (octets-turned j) same
+  turned-at j v h o l e =
+      octet-ext (bitXor (getD part j 0) v) (getD (turned w ks part) j 0) (xor-lt 8 (getD part j 0) v o l) (octets-turned j) same
     where
       same : (k : ℕ) → k < 8 → bitXor (getD part j 0) v / 2 ^ (7 - k) % 2 ≡ getD (turned w ks part) j 0 / 2 ^ (7 - k) % 2
       same k hk =
@@ -56,7 +55,7 @@ module _ (w : ℕ) (ks : ℕ → ℕ) (part : List ℕ) where
   -- past the width all stays
   pub turned-past : Octets part → (j : ℕ) → j < length part → w ≤ 8 * j → getD part j 0 ≡ getD (turned w ks part) j 0
   turned-past o j h l =
-      sym (xor-zero-r (getD part j 0)) ∙ turned-at o j 0 h (omega arith) (λ k hk. nought (7 - k) ∙ sym (within-out w ks (8 * j + k) (omega arith)))
+      sym (xor-zero-r (getD part j 0)) ∙ turned-at j 0 h (o j) (omega arith) (λ k hk. nought (7 - k) ∙ sym (within-out w ks (8 * j + k) (omega arith)))
     where
       nought : (n : ℕ) → 0 / 2 ^ n % 2 ≡ 0
       nought n = omega (arith, zero-div (2 ^ n))
@@ -98,52 +97,20 @@ turned-none ks part o =
     octets-ext (turned 0 ks part) part (octets-turned 0 ks part) o (length-turned 0 ks part)
     (λ k h. turned-stays 0 ks part k (omega (arith, length-turned 0 ks part)) (omega arith))
 
--- by a stream's octets
-module _ (w from : ℕ) (xs part : List ℕ) (os : Octets xs) (op : Octets part) where
-  abbrev key : ℕ → ℕ
-  key n = bit xs (from + n)
+-- turned alike by keystreams that agree on the part
+pub turned-alike : (v w : ℕ) (ks ls : ℕ → ℕ) (part : List ℕ) → ((k : ℕ) → k < 8 * length part → within v ks k ≡ within w ls k) → turned v ks part ≡ turned w ls part
+turned-alike v w ks ls part e =
+    octets-ext (turned v ks part) (turned w ls part) (octets-turned v ks part) (octets-turned w ls part) (length-turned v ks part ∙ sym (length-turned w ls part))
+    (λ k h.
+    let l : k < 8 * length part = omega (arith, length-turned v ks part) in
+    bit-turned v ks part k l ∙ ap (flip (bit part k)) (e k l) ∙ sym (bit-turned w ls part k l))
 
-  pub turned-whole : (j : ℕ) → j < length part → j < w / 8 → bitXor (getD part j 0) (windowAt xs from j) ≡ getD (turned w key part) j 0
-  turned-whole j h l =
-      turned-at w key part op j (windowAt xs from j) h (window-lt xs from j)
-      (λ k hk. window-bit xs from j k os hk ∙ sym (within-in w key (8 * j + k) (omega arith)))
-
-  pub turned-last : (j : ℕ) → j < length part → j ≡ w / 8
-      → bitXor (getD part j 0) (windowAt xs from j / 2 ^ (8 - w % 8) * 2 ^ (8 - w % 8)) ≡ getD (turned w key part) j 0
-  turned-last j h l =
-      turned-at w key part op j (windowAt xs from j / 2 ^ (8 - w % 8) * 2 ^ (8 - w % 8)) h
-      (omega (arith, top-le (windowAt xs from j) (8 - w % 8), window-lt xs from j)) (λ k hk. go k hk (decLt k (w % 8)))
-    where
-      go : (k : ℕ) → k < 8 → Dec (k < w % 8) → windowAt xs from j / 2 ^ (8 - w % 8) * 2 ^ (8 - w % 8) / 2 ^ (7 - k) % 2 ≡ within w key (8 * j + k)
-      go k hk (yes a) =
-          top-kept (windowAt xs from j) (w % 8) k a (omega arith) ∙ window-bit xs from j k os hk ∙ sym (within-in w key (8 * j + k) (omega arith))
-      go k hk (no a) = top-lost (windowAt xs from j) (w % 8) k (omega arith) hk ∙ sym (within-out w key (8 * j + k) (omega arith))
-
-  -- the loop over the octets: a part d that is turned below i
-  abbrev pub Turning : List ℕ → ℕ → Type 0
-  Turning d i = Front (turned w key part) part d i
-
-  pub turn-start : Turning part 0
-  turn-start = front-start (turned w key part) part (sym (length-turned w key part))
-
-  module _ (d : List ℕ) (i a b v : ℕ) (f : Turning d i) (inside : i < length d)
-      (ea : a ≡ getD xs (from / 8 + i) 0) (eb : b ≡ getD xs (from / 8 + i + 1) 0) (ev : v ≡ (256 * a + b) / 2 ^ (8 - from % 8) % 256) where
-    low : i < length part
-    low = omega (arith, f .size, length-turned w key part)
-
-    is-window : v ≡ windowAt xs from i
-    unfolding windowAt
-    is-window = rw (ev, ea, eb)
-
-    pub turn-more : i < w / 8 → Turning (set d i (bitXor (getD d i 0) v)) (i + 1)
-    turn-more h =
-        front-more (turned w key part) part d i (bitXor (getD d i 0) v) f (omega (arith, f .size))
-        (ap₂ bitXor (f .left i (le-refl i)) is-window ∙ turned-whole i low h)
-
-    pub turn-last : (t : ℕ) → t ≡ v / 2 ^ (8 - w % 8) * 2 ^ (8 - w % 8) → i ≡ w / 8 → set d i (bitXor (getD d i 0) t) ≡ turned w key part
-    turn-last t et h =
-        let last : bitXor (getD d i 0) t ≡ getD (turned w key part) i 0 =
-        ap₂ bitXor (f .left i (le-refl i)) (et ∙ ap (λ (z : ℕ). z / 2 ^ (8 - w % 8) * 2 ^ (8 - w % 8)) is-window) ∙ turned-last i low h in
-        front-rest (turned w key part) part (set d i (bitXor (getD d i 0) t)) (i + 1)
-        (front-more (turned w key part) part d i (bitXor (getD d i 0) t) f (omega (arith, f .size)) last)
-        (λ j g k. turned-past w key part op j (omega (arith, length-turned w key part)) (omega arith))
+-- every bit turned by those of as many octets: a part d that is turned below i
+pub octets-more : (part key d : List ℕ) (i : ℕ) → Front (turned (8 * length part) (bit key) part) part d i → i < length part → getD d i 0 < 256 → getD key i 0 < 256
+    → Front (turned (8 * length part) (bit key) part) part (set d i (bitXor (getD d i 0) (getD key i 0))) (i + 1)
+octets-more part key d i f h od ok =
+    let w : ℕ = 8 * length part in
+    let same : getD d i 0 ≡ getD part i 0 = f .left i (le-refl i) in
+    front-more (turned w (bit key) part) part d i (bitXor (getD d i 0) (getD key i 0)) f (omega (arith, length-turned w (bit key) part))
+    (ap (λ (x : ℕ). bitXor x (getD key i 0)) same
+    ∙ turned-at w (bit key) part i (getD key i 0) h (omega arith) ok (λ k l. sym (bit-at key i k l) ∙ sym (within-in w (bit key) (8 * i + k) (omega arith))))

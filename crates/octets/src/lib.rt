@@ -75,16 +75,6 @@ pub fn octets_of(number: u64) -> [u8; 8]
     out
 }
 
-// Octet i, or 0 past the end: a window may reach an octet further than the bits that count.
-fn octet_or_zero(octets: &[u8], i: usize) -> u8
-    ensures { λ r. ⌜ r ≡ getD (now (octets .entry)) i 0 ⌝ }
-{
-    if i < octets.len() {
-        return octets[i];
-    }
-    0
-}
-
 // The eight bits of two neighbouring octets that start at bit s of the first.
 pub fn window(a: u8, b: u8, s: usize) -> u8
     requires { ⌜ s < 8 ⌝ }
@@ -94,14 +84,65 @@ pub fn window(a: u8, b: u8, s: usize) -> u8
     ((pair >> (8 - s)) % 256) as u8
 }
 
-// The first n bits of an octet, the others zero.
-fn top(x: u8, n: usize) -> u8
-    requires { ⌜ n < 8 ⌝ }
-    ensures { λ r. ⌜ r ≡ x / 2 ^ (8 - n) * 2 ^ (8 - n) ⌝ }
+// How many octets so many bits take, by sums that fit for any number of them.
+fn octets_for(bits: usize) -> usize
+    ensures { λ r. ⌜ r ≡ (bits + 7) / 8 ⌝ }
 {
-    let low = 8 - n;
-    let y = x as u32;
-    ((y >> low) << low) as u8
+    bits / 8 + (bits % 8 + 7) / 8
+}
+
+// The first n bits of a number, the others zero.
+fn top(x: u64, n: usize) -> u64
+    requires { ⌜ (0 < n) × (n ≤ 64) ⌝ }
+    ensures { λ r. ⌜ r ≡ x / 2 ^ (64 - n) * 2 ^ (64 - n) ⌝ }
+{
+    let low = 64 - n;
+    (x >> low) << low
+}
+
+// The bits of a stream from bit s of octet `first` on, in the top of a number: 57 of them, or as many as there are.
+fn bits_from(stream: &[u8], first: usize, s: usize) -> u64
+    requires { ⌜ (first < length (now stream)) × (s < 8) ⌝ }
+    ensures { λ r. ⌜ ((k : ℕ) → k < 57 → 8 * first + s + k < 8 * length (now (stream .entry)) → r / 2 ^ (63 - k) % 2 ≡ bit (now (stream .entry)) (8 * first + s + k)) ⌝ }
+{
+    // A shorter stream is read as if zeros followed.
+    if stream.len() < 8 {
+        let mut eight = [0u8; 8];
+        copy(stream, &mut eight[..stream.len()]);
+        return number_of(&eight) << (8 * first + s);
+    }
+    // Near the stream's end its last eight octets are read.
+    let start = least(first, stream.len() - 8);
+    number_of(&stream[start..start + 8]) << (8 * (first - start) + s)
+}
+
+// Turns over every bit of a part by those of as many octets.
+fn turn_octets(part: &mut [u8], key: &[u8])
+    requires { ⌜ length (now key) ≡ length (now part) ⌝ }
+    ensures { λ _. ⌜ now (part .exit) ≡ turned (8 * length (now (part .entry))) (bit (now (key .entry))) (now (part .entry)) ⌝ }
+{
+    let mut i = 0;
+    while i < part.len() {
+        part[i] = part[i] ^ key[i];
+        i += 1;
+    }
+}
+
+// Turns over the first `width` bits of a part, seven octets at a time: eight octets of the stream have their bits, at whichever bit they begin.
+fn turn_bits(part: &mut [u8], width: usize, stream: &[u8], from: usize)
+    requires { ⌜ from + width ≤ 8 * length (now stream) ⌝ }
+    ensures { λ _. ⌜ now (part .exit) ≡ turned width (λ n. bit (now (stream .entry)) (from + n)) (now (part .entry)) ⌝ }
+{
+    let first = from / 8;
+    let n = least(part.len(), octets_for(width));
+    let mut at = 0;
+    while at < n {
+        let octets = least(7, n - at);
+        let bits = least(56, width - 8 * at);
+        let key = octets_of(top(bits_from(stream, first + at, from % 8), bits));
+        turn_octets(&mut part[at..at + octets], &key[..octets]);
+        at += octets;
+    }
 }
 
 // Turns over the first `width` bits of a part by those of a stream from bit `from` on, which reaches that far.
@@ -109,21 +150,11 @@ pub fn turn(part: &mut [u8], width: usize, stream: &[u8], from: usize)
     requires { ⌜ from + width ≤ 8 * length (now stream) ⌝ }
     ensures { λ _. ⌜ now (part .exit) ≡ turned width (λ n. bit (now (stream .entry)) (from + n)) (now (part .entry)) ⌝ }
 {
-    let first = from / 8;
-    let s = from % 8;
-    let whole = width / 8;
-    let mut i = 0;
-    while i < part.len() {
-        let key = window(
-            octet_or_zero(stream, first + i),
-            octet_or_zero(stream, first + i + 1),
-            s,
-        );
-        if i >= whole {
-            part[i] = part[i] ^ top(key, width % 8);
-            return;
-        }
-        part[i] = part[i] ^ key;
-        i += 1;
+    // Every bit of the part, by whole octets of the stream.
+    if from % 8 == 0 && part.len() <= width / 8 {
+        let first = from / 8;
+        turn_octets(part, &stream[first..first + part.len()]);
+        return;
     }
+    turn_bits(part, width, stream, from);
 }
