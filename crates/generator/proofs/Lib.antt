@@ -1,5 +1,5 @@
-mod Register
 pub mod VectorLaws
+mod Register
 pub mod NotZero
 pub mod OwnNext
 pub mod Examples

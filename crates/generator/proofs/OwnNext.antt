@@ -2,7 +2,7 @@
 use mathlib.Core.Path.{_≡_, refl, sym, ap, ap₂, _∙_}
 use mathlib.Core.List.{List, [], _∷_, map}
 use Prim.Native.Nat.{ℕ, zero, suc, _+_, _-_, _*_, _%_, _<_}
-use native.Mathlib.Nat.{add-zero, add-suc}
+use native.Mathlib.Nat.{add-zero}
 use native.Mathlib.Decide.{decLt}
 use native.Mathlib.Omega.{arith}
 use lib.ListN.{replicate}
@@ -10,7 +10,7 @@ use Rattle.octets.specs.Lists.{iterate}
 use Rattle.octets.specs.Bits.{bit, octet, octetsFrom}
 use Rattle.octets.proofs.BitLaws.{bit-octetsFrom}
 use Rattle.generator.specs.Generator.{IsVector, filled, announced, shifted, nextVector}
-use Rattle.generator.proofs.VectorLaws.{bits-filled, bits-iterate}
+use Rattle.generator.proofs.VectorLaws.{bits-filled, bits-iterate, moved}
 use Rattle.generator.proofs.NotZero.{NoStage, filled-zero}
 
 -- ---- sums over places, of a sequence
@@ -72,16 +72,11 @@ module _ (b : ℕ → ℕ) where
   abbrev out : ℕ → ℕ
   out n = iterate shifted n b 63
 
-  moved : (k n i : ℕ) → iterate shifted (n + k) b (i + k) ≡ iterate shifted n b i
-  unfolding iterate shifted
-  moved zero n i = rw (add-zero n, add-zero i)
-  moved (suc k) n i = rw (add-suc n k, add-suc i k) (moved k n i)
-
   fed : (n : ℕ) → out (n + 64) ≡ (out n + out (n + 2) + out (n + 18) + out (n + 26) + out (n + 37) + out (n + 49)) % 2
   unfolding iterate shifted
   fed n =
       let e : suc n + 63 ≡ n + 64 = omega arith in
-      (rw e at (moved 63 (suc n) 0)) ∙ sym (rw (moved 2 n 61, moved 18 n 45, moved 26 n 37, moved 37 n 26, moved 49 n 14))
+      (rw e at (moved b 63 (suc n) 0)) ∙ sym (rw (moved b 2 n 61, moved b 18 n 45, moved b 26 n 37, moved b 37 n 26, moved b 49 n 14))
 
   -- the register as it was, from what drops out
   first : (j : ℕ) → j < 64 → out j ≡ b (63 - j)
@@ -89,7 +84,7 @@ module _ (b : ℕ → ℕ) where
   first j l =
       let e : 63 - j + j ≡ 63 = omega arith in
       let z : 0 + j ≡ j = omega arith in
-      rw (e, z) at (moved j 0 (63 - j))
+      rw (e, z) at (moved b j 0 (63 - j))
 
   -- what dropped out in 64 shifts drops out once more in the next 64, one shift on
   abbrev Again : ℕ → Type 0
@@ -116,7 +111,7 @@ module _ (b : ℕ → ℕ) where
         let e : 63 - j + j ≡ 63 = omega arith in
         let q : 64 + j ≡ 0 + j + 64 = omega arith in
         let z : 0 + j ≡ j = omega arith in
-        (rw (e, q) at (moved j 64 (63 - j))) ∙ own (63 - j) (omega arith) ∙ sym (rw z (first j l))
+        (rw (e, q) at (moved b j 64 (63 - j))) ∙ own (63 - j) (omega arith) ∙ sym (rw z (first j l))
     again (suc n) j l = again-on n (again n) j l
 
     round : (n : ℕ) → out (n + 64) ≡ out n

@@ -1,7 +1,8 @@
--- The vectors are octets: eight for a session, sixteen for AES.
+-- The register's stages are bits, which shifts move up; the vectors are octets: eight for a session, sixteen for AES.
 use mathlib.Core.Path.{_≡_, _∙_}
 use mathlib.Core.List.{List}
-use Prim.Native.Nat.{ℕ, zero, suc, _-_}
+use Prim.Native.Nat.{ℕ, zero, suc, _+_, _-_}
+use native.Mathlib.Nat.{add-zero, add-suc}
 use native.Mathlib.Omega.{arith}
 use lib.ListN.{length, length-append}
 use Rattle.octets.specs.Lists.{iterate}
@@ -18,6 +19,12 @@ unfolding iterate shifted
 bits-iterate zero b h i = h i
 bits-iterate (suc n) b h zero = omega arith
 bits-iterate (suc n) b h (suc i) = bits-iterate n b h i
+
+-- k shifts on, a bit stands k stages higher
+pub moved : (b : ℕ → ℕ) (k n i : ℕ) → iterate shifted (n + k) b (i + k) ≡ iterate shifted n b i
+unfolding iterate shifted
+moved b zero n i = rw (add-zero n, add-zero i)
+moved b (suc k) n i = rw (add-suc n k, add-suc i k) (moved b k n i)
 
 pub length-announced : (b : ℕ → ℕ) → length (announced b) ≡ 8
 unfolding announced

@@ -1,25 +1,34 @@
 // The vector generator of NXDN TS 1-D (5.3.2.2, 5.3.3.2): announced octets in, announced octets out, and the register of
 // 64 stages between them in one number.
 ghost use mathlib.Core.Path.{_≡_};
-ghost use Prim.Native.Nat.{_<_};
+ghost use Prim.Native.Nat.{ℕ, _^_, _≤_, _<_};
 ghost use lib.ListN.{length};
+ghost use Rattle.octets.specs.Lists.{iterate};
 ghost use Rattle.generator.specs.Generator.{shifted, nextVector, aesVector};
 ghost use Rattle.generator.specs.Held.{stages, Holds};
 use octets::number_of;
 use octets::octets_of;
 
-// What a shift feeds to b0. The lowest bit of a sum is the exclusive or of the lowest bits.
-fn fed(r: u64) -> u64
-    ensures { λ bit. ⌜ (bit ≡ shifted (stages r) 0) × (bit < 2) ⌝ }
+// What k shifts feed, together: stage 14 is the lowest that is fed back, so up to 15 of them feed stages of the register as it stands.
+fn fed(r: u64, k: usize) -> u64
+    requires { ⌜ (0 < k) × (k ≤ 15) ⌝ }
+    ensures { λ bits. ⌜ ((i : ℕ) → i < k → stages bits i ≡ iterate shifted k (stages r) i) × (bits < 2 ^ k) ⌝ }
 {
-    ((r >> 63) + (r >> 61) + (r >> 45) + (r >> 37) + (r >> 26) + (r >> 14)) % 2
+    let bits = (r >> (64 - k))
+        ^ (r >> (62 - k))
+        ^ (r >> (46 - k))
+        ^ (r >> (38 - k))
+        ^ (r >> (27 - k))
+        ^ (r >> (15 - k));
+    bits % (1 << k)
 }
 
-// One shift.
-fn shift(r: u64) -> u64
-    ensures { λ next. ⌜ Holds next (shifted (stages r)) ⌝ }
+// k shifts at once.
+fn shift(r: u64, k: usize) -> u64
+    requires { ⌜ (0 < k) × (k ≤ 15) ⌝ }
+    ensures { λ next. ⌜ Holds next (iterate shifted k (stages r)) ⌝ }
 {
-    (r << 1) + fed(r)
+    (r << k) + fed(r, k)
 }
 
 // L(S), the next session's vector.
@@ -29,11 +38,11 @@ pub fn next_vector(vector: &[u8]) -> [u8; 8]
 {
     let mut register = number_of(vector);
     let mut i: usize = 0;
-    while i < 64 {
-        register = shift(register);
+    while i < 4 {
+        register = shift(register, 15);
         i += 1;
     }
-    octets_of(register)
+    octets_of(shift(register, 4))
 }
 
 // The AES input vector: S, then L(S).

@@ -1,6 +1,6 @@
--- `generator::next_vector` meets its contract: after i turns the number holds the register after i shifts.
+-- `generator::next_vector` meets its contract: after i turns the number holds the register after 15 i shifts.
 use mathlib.Core.Path.{_∙_}
-use Prim.Native.Nat.{_-_, _≤_}
+use Prim.Native.Nat.{_-_, _*_, _≤_}
 use native.Mathlib.Omega.{arith}
 use borrow.Author.Needs.{needs}
 use Rattle.octets.specs.Lists.{iterate}
@@ -11,13 +11,10 @@ use Rattle.generator.proofs.next_vector.Statement.{statement}
 use Rattle.generator.proofs.next_vector.Tie as tie
 
 abbrev Inv-loop : tie.InvT-loop
-Inv-loop vector register₀ i₀ register i = (i ≤ 64) × Holds register (iterate shifted i (filled vector))
+Inv-loop vector register₀ i₀ register i = (i ≤ 4) × Holds register (iterate shifted (15 * i) (filled vector))
 
 abbrev μ-loop : tie.MeasureT-loop
-μ-loop vector register₀ i₀ register i = 64 - i
-
-returns : tie.Need-returns Inv-loop μ-loop
-returns c = c .octets-of .ensures ∙ shift-done _ _ _ (search needs) (c .before .before .loop .inv .1)
+μ-loop vector register₀ i₀ register i = 4 - i
 
 pub next-vector-spec : {M : Type 1} → statement M
 next-vector-spec =
@@ -30,6 +27,7 @@ next-vector-spec =
     (λ c κs. search needs)
     (λ c. omega arith)
     (λ c. omega arith)
-    (λ c. (omega arith, shift-more _ _ _ _ (c .before .before .loop .inv .1) (c .shift .ensures)))
+    (λ c. (omega arith, shift-more _ _ _ _ _ _ (omega arith) (c .before .before .loop .inv .1) (c .shift .ensures)))
     (λ c κs. search needs)
-    returns)
+    (λ c κs. search needs)
+    (λ c. c .octets-of .ensures ∙ shift-done _ _ (shift-more _ _ _ _ _ _ (omega arith) (c .before .before .before .loop .inv .1) (c .before .shift2 .ensures))))

@@ -1,6 +1,6 @@
 -- `generator::shift` meets its contract.
 use borrow.Author.Needs.{needs}
-use Rattle.generator.proofs.Register.{shift-one}
+use Rattle.generator.proofs.Register.{shift-small, shift-held}
 use Rattle.generator.proofs.shift.Statement.{statement}
 use Rattle.generator.proofs.shift.Tie as tie
 
@@ -8,6 +8,7 @@ pub shift-spec : {M : Type 1} → statement M
 shift-spec =
     tie.close
     (tie.spec
-    (λ c κs. search needs)
     (λ c. search needs)
-    (λ c. shift-one (c .before .args .r) (c .fed .result) (c .fed .ensures .0) (c .fed .ensures .1)))
+    (λ c κs. search needs)
+    (λ c. search (needs, shift-small (c .before .args .r) (c .before .args .k) (c .fed .result) (c .before .pre .1) (c .fed .ensures .1)))
+    (λ c. shift-held (c .before .args .r) (c .before .args .k) (c .fed .result) (c .before .pre .1) (c .fed .ensures .1) (c .fed .ensures .0)))
