@@ -35,7 +35,7 @@ use Rattle.data.specs.Opening as opening
 use Rattle.data.specs.Message.{lostRefusals, messageOf}
 use Rattle.data.proofs.MessageLaws.{message-done}
 use Rattle.openings.specs.Samples.{seed, desABCD}
-use Rattle.nxdn.specs.Operations.{Name, Open, Voice, callStep, OpenPacket, Message, packetStep, screenStep}
+use Rattle.nxdn.specs.Operations.{Name, Inventory, Open, Voice, callStep, OpenPacket, Message, packetStep, screenStep}
 use Rattle.demands.specs.Device.{Device, Operation, OfBook, OfScreen, OfCall, OfPacket, step, deviceAfter, history}
 use Rattle.demands.specs.Names.{shownAt}
 use Rattle.demands.specs.Demand1.{WordsTurned, MessageTurned}
@@ -101,11 +101,20 @@ is-loaded =
 abbrev nameShown : Answer × (Device × List ℕ)
 nameShown = step (deviceAfter step loading) (OfScreen (Name 2 0))
 
-pub is-shown : (nameShown .0 ≡ Done) × (nameShown .1 .1 ≡ wardFour) × (shownAt step loading 0 ≡ 2 ∷ 0 ∷ 8 ∷ 1 ∷ wardFour)
-unfolding step screenStep screen.nameOf screen.inventoryOf screen.inventoryRefusals screen.shown operations.entryRefusals rules.bookRefusals rules.entryOf
+-- what it shows of that book
+shows : (screenStep ready (Name 2 0) ≡ (Done, wardFour)) × (screenStep ready (Inventory 0) .1 ≡ 2 ∷ 0 ∷ 8 ∷ 1 ∷ wardFour)
+unfolding screenStep screen.nameOf screen.inventoryOf screen.inventoryRefusals screen.shown operations.entryRefusals rules.bookRefusals rules.entryOf
     rules.apart rules.goodBook rules.findEntry entry.inRange entry.isFor entry.entryRight entry.usedRight entry.readyRight entry.lacks name.nameRight
     name.textOctets name.isPrintable allZero allBelow firstBelow keyAllowed desKey oddOctet
-is-shown = rw is-loaded (refl, refl, refl)
+shows = (refl, refl)
+
+pub is-shown : (nameShown .0 ≡ Done) × (nameShown .1 .1 ≡ wardFour) × (shownAt step loading 0 ≡ 2 ∷ 0 ∷ 8 ∷ 1 ∷ wardFour)
+unfolding step
+is-shown = (
+  ap (λ (d : Device). step d (OfScreen (Name 2 0)) .0) is-loaded ∙ ap (λ (r : Answer × List ℕ). r .0) (shows .0),
+  ap (λ (d : Device). step d (OfScreen (Name 2 0)) .1 .1) is-loaded ∙ ap (λ (r : Answer × List ℕ). r .1) (shows .0),
+  ap (λ (d : Device). step d (OfScreen (Inventory 0)) .1 .1) is-loaded ∙ shows .1,
+)
 
 -- another key may have its name
 shares : book.step (book.Begin 3 0 wardFour) ready .0 ≡ Done

@@ -17,6 +17,7 @@ use Rattle.scramble.specs.Sequence.{keyNumber, stepped, P}
 use Rattle.des.specs.Tables as table
 use Rattle.des.specs.Des.{des, enciphered, rounds, halved, preoutput, cipherF, boxInput, substituted, boxPlace, xorBits, permuted, roundKey, keyState, rotated}
 use Rattle.des.proofs.DesLaws.{length-des, octets-des}
+use Rattle.des.proofs.WorkedBlocks.{bits, octets-work}
 use Rattle.aes.specs.Field as field
 use Rattle.aes.specs.Cipher as aes
 use Rattle.aes.proofs.ScheduleLaws.{length-aes, octets-aes}
@@ -54,10 +55,14 @@ unturned r ks b from f h k l =
 
 -- ---- zeros enciphered: bit 1 is 1
 
+des-bits : enciphered (roundKey (bits 0xABCDEF0123456789)) (bits 0) ≡ bits 0x7229F9D30656652A
+unfolding tab table.IP table.IP⁻¹ table.E table.P table.PC-1 table.PC-2 table.leftShifts table.S enciphered rounds halved preoutput cipherF boxInput substituted boxPlace
+    xorBits permuted roundKey keyState rotated
+des-bits = refl
+
 des-zeros : bit (des keyABCD (replicate 8 0)) 1 ≡ 1
-unfolding octet octetsFrom des tab table.IP table.IP⁻¹ table.E table.P table.PC-1 table.PC-2 table.leftShifts table.S enciphered rounds halved preoutput cipherF boxInput
-    substituted boxPlace xorBits permuted roundKey keyState rotated
-des-zeros = refl
+unfolding octet octetsFrom
+des-zeros = ap (λ (x : List ℕ). bit x 1) (octets-work 0xABCDEF0123456789 0 0x7229F9D30656652A des-bits)
 
 aes-zeros : bit (aes.aes key1F (replicate 16 0)) 1 ≡ 1
 unfolding field.sboxOf field.affine field.inverse field.squares field.mul field.mulBits field.digit field.xtime field.reduce field.around tab

@@ -117,3 +117,10 @@ module _ (width : ℕ) where
     word-in a n p r m ks e same q =
         let its : inMask mask w ≡ true = eq-eqb _ _ e in
         rw (its, sym r, sym p) (put-turned a n width (ofWord width slot w) f m (q ∙ turned-same width ks (ofWord width slot w) same _))
+
+  -- the code's four steps
+  pub four-turned : (slot : ℕ → ℕ) (mask : ℕ) (a b c d e : List ℕ) → b ≡ wordTurned width slot mask 0 a → c ≡ wordTurned width slot mask 1 b
+      → d ≡ wordTurned width slot mask 2 c → e ≡ wordTurned width slot mask 3 d → e ≡ protect width slot mask a
+  unfolding protect
+  four-turned slot mask a b c d e p q r s =
+      s ∙ ap (wordTurned width slot mask 3) (r ∙ ap (wordTurned width slot mask 2) (q ∙ ap (wordTurned width slot mask 1) p))
