@@ -19,9 +19,11 @@ use voice::call::Stepped;
 use voice::call::UNKNOWN;
 use voice::call::good_call;
 use voice::slot::lost;
+use voice::slot::moved_to;
 use voice::slot::session_stream;
 use voice::slot::voice;
 use voice::slot::voice_by;
+use voice::slot::voice_within;
 
 // Octets enough for a session at any rate.
 pub const MOST_SESSION_OCTETS: usize = Full::WIDTH * WORDS * Des::SESSION_SLOTS / 8;
@@ -100,7 +102,7 @@ fn gone_on(before: Call, stepped: Stepped) -> Slot
 }
 
 // A voice slot, whose session's keystream is made if it isn't. Where it can't be held the slot makes its own.
-pub fn voice_slot(call: Call, mask: u8, frame: &mut [u8], session: &mut [u8], made: bool) -> Slot
+fn any_slot(call: Call, mask: u8, frame: &mut [u8], session: &mut [u8], made: bool) -> Slot
     requires { ⌜ Cached made call (now session) ⌝ }
     ensures { λ r. ⌜ (r .answer, (r .call, now (frame .exit))) ≡ voiceOf call mask (now (frame .entry)) ⌝ }
     ensures { λ r. ⌜ Cached (r .made) (r .call) (now (session .exit)) ⌝ }
@@ -110,6 +112,28 @@ pub fn voice_slot(call: Call, mask: u8, frame: &mut [u8], session: &mut [u8], ma
         return anew(stepped, false);
     }
     let stepped = voice_by(call, mask, frame, session);
+    gone_on(call, stepped)
+}
+
+// The same. Most slots are a receiver's that are done in a session which is made already: they come first, since they cost least.
+pub fn voice_slot(call: Call, mask: u8, frame: &mut [u8], session: &mut [u8], made: bool) -> Slot
+    requires { ⌜ Cached made call (now session) ⌝ }
+    ensures { λ r. ⌜ (r .answer, (r .call, now (frame .exit))) ≡ voiceOf call mask (now (frame .entry)) ⌝ }
+    ensures { λ r. ⌜ Cached (r .made) (r .call) (now (session .exit)) ⌝ }
+{
+    if !made {
+        return any_slot(call, mask, frame, session, false);
+    }
+    let within = voice_within(call, mask, frame, session);
+    if !within.done {
+        return any_slot(call, mask, frame, session, true);
+    }
+    let terms = call.terms;
+    let moved = within.moved;
+    let stepped = Stepped {
+        answer: Answer::Done,
+        call: moved_to(terms, moved),
+    };
     gone_on(call, stepped)
 }
 

@@ -1,14 +1,14 @@
 -- Bounds of the sizes that belong to the cipher types and the rates, and the vector that stands for none.
 use mathlib.Core.Path.{_≡_, refl}
 use mathlib.Core.Bool.{Bool, true, false, _||_, false≢true}
-use Prim.Native.Nat.{ℕ, _≤_, _<_}
+use Prim.Native.Nat.{ℕ, _+_, _*_, _%_, _≤_, _<_}
 use native.Mathlib.Omega.{arith}
 use lib.Dec.{eqb}
 use borrow.Author.Tests.{eqb-true}
 use Rattle.octets.specs.Tests.{pick, allBelow}
 use Rattle.octets.specs.Lists.{allZero}
 use Rattle.sizes.specs.Ciphers.{keyOctets, keyRoom, sessionSlots, noVector}
-use Rattle.sizes.specs.Frame.{halfRate, fullRate, isRate, width, frameOctets}
+use Rattle.sizes.specs.Frame.{halfRate, fullRate, isRate, width, frameOctets, slotBits, slotOctets}
 use Rattle.sizes.proofs.Cases.{by-each}
 
 pub key-at-most : (c : ℕ) → keyOctets c ≤ keyRoom
@@ -54,6 +54,10 @@ by-width P half full rate = go (eqb rate fullRate)
 
 pub width-some : (rate : ℕ) → 0 < width rate
 width-some = by-width (λ w. 0 < w) (omega arith) (omega arith)
+
+-- the octets of a slot hold its bits from the octet on in which they begin
+pub slot-held : (rate p : ℕ) → slotBits (width rate) * p % 8 + slotBits (width rate) ≤ 8 * slotOctets (width rate)
+slot-held rate p = by-width (λ w. slotBits w * p % 8 + slotBits w ≤ 8 * slotOctets w) (omega arith) (omega arith) rate
 
 -- frames of different rates have different lengths
 pub same-width : (r s : ℕ) → frameOctets (width r) ≡ frameOctets (width s) → width r ≡ width s

@@ -18,10 +18,10 @@ use Rattle.ciphers.proofs.KeystreamLaws.{bits-stream}
 use Rattle.answers.specs.declared.Answer.the-variants.{Done, Held}
 use Rattle.answers.specs.Numbers.{isDone}
 use Rattle.answers.specs.Outcomes.{settled}
-use Rattle.answers.proofs.OutcomeLaws.{neverDone, among-not-done, by-refusals}
+use Rattle.answers.proofs.OutcomeLaws.{NoneHolds, neverDone, among-not-done, by-refusals}
 use Rattle.voice.specs.declared.counts.Counts.{Counts}
 use Rattle.voice.specs.declared.call.Call.{Call}
-use Rattle.sizes.specs.Frame.{slotBits, sessionBits}
+use Rattle.sizes.specs.Frame.{frameOctets, slotBits, sessionBits}
 use Rattle.voice.specs.Frame.{ofSlot}
 use Rattle.voice.specs.Call.{goodCall, knownVector, knownBy, Standing, sending, receiving, standing, written, isBad, knows, widthOf}
 use Rattle.voice.specs.Counts.{plus, lostWords, arrivedWords}
@@ -29,7 +29,7 @@ use Rattle.voice.proofs.CountLaws.{Fits, lost-fits, arrived-fits}
 use Rattle.voice.specs.Slot.{goingOn, ridden, slotOn, isFull, lostRefusals, lostOf, voiceRefusals, streamOf, inSlot, voiceAfter, voiceBy, voiceOf, voiceByOctets, sessionStreamOf, IsSession}
 use Rattle.voice.proofs.FrameLaws.{protect-same}
 use Rattle.voice.proofs.CallLaws.{by-stands, is-sender, knows-good, knows-inside, known-width, known-written}
-use Rattle.voice.proofs.SlotLaws.{by-long, slot-fits}
+use Rattle.voice.proofs.SlotLaws.{by-long, slot-fits, none-long, none-full, taken-none, taken-call, lent-turned}
 use Rattle.voice.proofs.GoodLaws.{read-written, scramble-right, slot-good-if}
 
 -- ---- a slot rests on the bits of the call's own session
@@ -58,6 +58,24 @@ module _ (st su : Call → ℕ → ℕ) (c : Call) (same : (n : ℕ) → n < ses
 pub voice-by-is-voice : (c : Call) (session : List ℕ) → IsSession c session → (mask : ℕ) (frame : List ℕ)
     → voiceByOctets session c mask frame ≡ voiceOf c mask frame
 voice-by-is-voice c session i mask frame = by-long session c mask frame (rw (known-width c (i .known)) (i .long)) ∙ voice-same (λ d. bit session) streamOf c (i .bits) mask frame
+
+-- a slot that is done, as the code does it by such octets
+module _ (c : Call) (mask : ℕ) (frame : List ℕ) (done : Done ≡ voiceOf c mask frame .0) where
+  none : NoneHolds (voiceRefusals c mask frame)
+  none = taken-none c mask frame Done done (omega arith)
+
+  pub done-long : length frame ≡ frameOctets (widthOf (c .terms))
+  done-long = none-long c mask frame none
+
+  pub done-below : isFull (standing c) (c .counts) ≡ false
+  done-below = none-full c mask frame none
+
+pub within-done : (c : Call) (session : List ℕ) → IsSession c session → (mask : ℕ) (frame : List ℕ) → Done ≡ voiceOf c mask frame .0
+    → {d : Call} → d ≡ written (plus (c .counts) (arrivedWords mask true)) (slotOn (standing c)) → {g : List ℕ} → g ≡ inSlot (λ e. bit session) mask frame c
+    → (Done, (d, g)) ≡ voiceOf c mask frame
+within-done c session i mask frame done {d} on {g} turned =
+    lent-turned session c mask frame Done d (done, taken-call c mask frame Done done (omega arith) refl refl on) (omega arith) (i .long) refl g turned
+    ∙ voice-by-is-voice c session i mask frame
 
 -- ---- a session made
 

@@ -2,13 +2,12 @@
 use mathlib.Core.Path.{_≡_, refl, sym, ap, _∙_}
 use mathlib.Core.Bool.{Bool, true, false, not, true≢false}
 use mathlib.Core.List.{List}
-use Prim.Native.Nat.{ℕ, _+_, _*_, _≤_, _<_}
-use native.Mathlib.Nat.{zero-add}
+use Prim.Native.Nat.{ℕ, _+_, _*_, _/_, _%_, _≤_, _<_}
 use native.Mathlib.Omega.{arith}
 use lib.Dec.{ltb, eqb}
 use lib.ListN.{length}
 use borrow.Author.Tests.{eq-eqb, eqb-true, le-leb, lt-leb, leb-true, leb-false, lt-ltb, le-ltb, not-true, not-false}
-use Rattle.sizes.proofs.SizeLaws.{slots-at-most}
+use Rattle.sizes.proofs.SizeLaws.{slots-at-most, slot-held}
 use Rattle.ciphers.proofs.KeystreamLaws.{bits-stream}
 use Rattle.octets.specs.Tests.{pick}
 use Rattle.octets.specs.Bits.{bit, octetsFrom}
@@ -24,7 +23,7 @@ use Rattle.answers.proofs.OutcomeLaws.{NoneHolds, none-settles, in-a-row, or-la
 use Rattle.voice.specs.declared.counts.Counts.{Counts}
 use Rattle.voice.specs.declared.call.Terms.{Terms}
 use Rattle.voice.specs.declared.call.Call.{Call}
-use Rattle.sizes.specs.Frame.{frameOctets, slotBits, sessionBits, sessionOctets, mostWords}
+use Rattle.sizes.specs.Frame.{frameOctets, slotBits, slotOctets, sessionBits, sessionOctets, mostWords}
 use Rattle.octets.proofs.Words.{word-ends}
 use Rattle.voice.specs.Frame.{ofSlot, protect}
 use Rattle.voice.specs.Call.{closedEnd, receivingEnd, unknownVector, carriedVector, byDefault, goodCall, carried, isKnown, knownNumber, knownVector, knownBy, untold, Standing, sending, receiving, standing, callAt, widthOf, written, widthIn, stands, knows}
@@ -94,18 +93,23 @@ module _ (c : Call) where
 
 -- ---- voice
 
--- a slot's own octets turn the frame as its session does
-pub by-slot : (c : Call) (mask : ℕ) (frame slot g : List ℕ) (width from size : ℕ) → width ≡ widthOf (c .terms) → slotBits width ≤ 8 * size
-    → from ≡ slotBits width * c .position → slot ≡ octetsFrom size (λ n. streamOf c (from + n)) → g ≡ protect width (λ n. bit slot (0 + n)) mask frame
+-- as many octets as a slot needs hold it from the one on in which it begins
+pub slot-room : (c : Call) {width from size : ℕ} → width ≡ widthOf (c .terms) → from ≡ slotBits width * c .position → size ≡ slotOctets (widthOf (c .terms))
+    → from % 8 + slotBits width ≤ 8 * size
+slot-room c its f long = rw (f, its, long) (slot-held (c .terms .rate) (c .position))
+
+-- a slot's own octets, from the one on in which it begins, turn the frame as its session does
+pub by-slot : (c : Call) (mask : ℕ) (frame slot g : List ℕ) (width from size : ℕ) → width ≡ widthOf (c .terms) → from % 8 + slotBits width ≤ 8 * size
+    → from ≡ slotBits width * c .position → slot ≡ octetsFrom size (λ n. streamOf c (8 * (from / 8) + n)) → g ≡ protect width (λ n. bit slot (from % 8 + n)) mask frame
     → g ≡ inSlot streamOf mask frame c
 by-slot c mask frame slot g width from size its room f e h =
     h
-    ∙ protect-same width (λ n. bit slot (0 + n)) (ofSlot width (streamOf c) (c .position)) mask
+    ∙ protect-same width (λ n. bit slot (from % 8 + n)) (ofSlot width (streamOf c) (c .position)) mask
     (λ n l.
-    ap (bit slot) (zero-add n)
-    ∙ ap (λ (xs : List ℕ). bit xs n) e
-    ∙ bit-octetsFrom size (λ i. streamOf c (from + i)) (λ i. bits-stream (c .terms .cipher) (c .terms .key) (c .vector) (from + i)) n (omega arith)
-    ∙ ap (λ (z : ℕ). streamOf c (z + n)) f)
+    let at : 8 * (from / 8) + (from % 8 + n) ≡ slotBits width * c .position + n = omega arith in
+    ap (λ (xs : List ℕ). bit xs (from % 8 + n)) e
+    ∙ bit-octetsFrom size (λ i. streamOf c (8 * (from / 8) + i)) (λ i. bits-stream (c .terms .cipher) (c .terms .key) (c .vector) (8 * (from / 8) + i)) (from % 8 + n) (omega arith)
+    ∙ ap (streamOf c) at)
     frame
     ∙ ap (λ (w : ℕ). protect w (ofSlot w (streamOf c) (c .position)) mask frame) its
 

@@ -16,10 +16,11 @@ use Rattle.generator.specs.Generator.{nextVector}
 use Rattle.voice.specs.declared.counts.Counts.{Counts}
 use Rattle.voice.specs.declared.call.Terms.{Terms}
 use Rattle.voice.specs.declared.call.Call.{Call}
+use Rattle.voice.specs.declared.slot.Moved.{Moved}
 use Rattle.sizes.specs.Frame.{words, frameOctets, sessionBits, sessionOctets, mostWords}
 use Rattle.voice.specs.Frame.{ofSlot, protect}
 use Rattle.voice.specs.Counts.{plus, total, lostWords, arrivedWords}
-use Rattle.voice.specs.Call.{byDefault, Known, carried, isKnown, knownVector, untold, Standing, closed, bad, sending, receiving, standing, widthOf, widthIn, written, isBad, stands, receives, knows}
+use Rattle.voice.specs.Call.{receivingEnd, byDefault, Known, carried, isKnown, knownVector, untold, Standing, closed, bad, sending, receiving, standing, callAt, widthOf, widthIn, written, isBad, stands, receives, knows}
 
 -- ---- a slot on
 
@@ -41,6 +42,10 @@ slotOn closed = closed
 slotOn bad = bad
 slotOn (sending t p v) = pick (ltb (p + 1) (sessionSlots (t .cipher))) (sending t (p + 1) v) (sending t 0 (goingOn (t .cipher) v))
 slotOn (receiving t p k) = pick (ltb (p + 1) (sessionSlots (t .cipher))) (receiving t (p + 1) k) (receiving t 0 (ridden t k))
+
+-- a receiver's call, by its terms and what slots move of it
+abbrev pub movedTo : Terms → Moved → Call
+movedTo t m = callAt receivingEnd t (m .position) (m .known) (m .vector) (m .counts)
 
 -- a receiver was told of as many slots as it may be; a sender has no limit
 abbrev pub isFull : Standing → Counts → Bool

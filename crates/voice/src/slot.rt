@@ -1,15 +1,16 @@
 // A voice slot of a call, arrived or lost.
 ghost use mathlib.Core.Path.{_≡_};
-ghost use Prim.Native.Nat.{_<_};
+ghost use Prim.Native.Nat.{_≤_, _<_};
 ghost use lib.ListN.{length};
 ghost use mathlib.Core.Bool.{true, false, not};
 ghost use lib.Dec.{eqb};
 ghost use Rattle.sizes.specs.Ciphers.{sessionSlots};
-ghost use Rattle.sizes.specs.Frame.{words, frameOctets, slotOctets};
+ghost use Rattle.sizes.specs.Frame.{words, frameOctets, slotOctets, sessionOctets};
 ghost use Rattle.octets.specs.Lists.{allZero};
-ghost use Rattle.voice.specs.Call.{closedEnd, receivingEnd, unknownVector, vectorRight, goodCall, knownBy, sending, receiving, standing, widthOf, written};
+ghost use Rattle.octets.specs.Bits.{bit};
+ghost use Rattle.voice.specs.Call.{closedEnd, receivingEnd, unknownVector, vectorRight, goodCall, knownBy, sending, receiving, standing, widthOf, written, knows};
 ghost use Rattle.voice.specs.Counts.{noCounts, plus, total};
-ghost use Rattle.voice.specs.Slot.{goingOn, rides, ridden, slotOn, isFull, lostOf, streamOf, inSlot, voiceOf, voiceByOctets, sessionStreamOf};
+ghost use Rattle.voice.specs.Slot.{goingOn, rides, ridden, slotOn, movedTo, isFull, lostOf, streamOf, inSlot, voiceOf, voiceByOctets, sessionStreamOf, IsSession};
 use crate::call::CARRIED;
 use crate::call::CLOSED;
 use crate::call::Call;
@@ -63,14 +64,32 @@ fn is_riding(terms: Terms, known: u8) -> bool
     known != UNKNOWN
 }
 
+// What a slot moves of a receiver's call: all but what its opening fixed.
+pub struct Moved {
+    pub position: u8,
+    pub known: u8,
+    pub vector: [u8; VECTOR_OCTETS],
+    pub counts: Counts,
+}
+
 // A receiver as its next session starts.
-fn next_session(terms: Terms, known: u8, vector: [u8; VECTOR_OCTETS], counts: Counts) -> Call
-    ensures { λ r. ⌜ r ≡ written counts (receiving terms 0 (ridden terms (knownBy known vector))) ⌝ }
+fn next_session(terms: Terms, known: u8, vector: [u8; VECTOR_OCTETS], counts: Counts) -> Moved
+    ensures { λ r. ⌜ movedTo terms r ≡ written counts (receiving terms 0 (ridden terms (knownBy known vector))) ⌝ }
 {
     if is_riding(terms, known) {
-        return receiver(terms, 0, CARRIED, generator::next_vector(&vector), counts);
+        return Moved {
+            position: 0,
+            known: CARRIED,
+            vector: generator::next_vector(&vector),
+            counts,
+        };
     }
-    receiver(terms, 0, untold(terms.cipher), [0; VECTOR_OCTETS], counts)
+    Moved {
+        position: 0,
+        known: untold(terms.cipher),
+        vector: [0; VECTOR_OCTETS],
+        counts,
+    }
 }
 
 // A receiver after a slot.
@@ -80,15 +99,29 @@ fn receiver_on(
     known: u8,
     vector: [u8; VECTOR_OCTETS],
     counts: Counts,
-) -> Call
+) -> Moved
     requires { ⌜ (position < sessionSlots (terms .cipher)) × (vectorRight receivingEnd (terms .cipher) (terms .strictness) known (allZero vector) ≡ true) ⌝ }
-    ensures { λ r. ⌜ r ≡ written counts (slotOn (receiving terms position (knownBy known vector))) ⌝ }
+    ensures { λ r. ⌜ movedTo terms r ≡ written counts (slotOn (receiving terms position (knownBy known vector))) ⌝ }
 {
     let heard = position + 1;
     if wide(heard) < session_slots(terms.cipher) {
-        return receiver(terms, heard, known, vector, counts);
+        return Moved {
+            position: heard,
+            known,
+            vector,
+            counts,
+        };
     }
     next_session(terms, known, vector, counts)
+}
+
+// A receiver's call, moved.
+pub fn moved_to(terms: Terms, moved: Moved) -> Call
+    ensures { λ r. ⌜ r ≡ movedTo terms moved ⌝ }
+{
+    let vector = moved.vector;
+    let counts = moved.counts;
+    receiver(terms, moved.position, moved.known, vector, counts)
 }
 
 // The vector of a sender's next session.
@@ -124,7 +157,8 @@ fn slot_on(call: Call, slot: Counts) -> Call
         return sender_on(terms, call.position, vector);
     }
     let counts = call.counts;
-    receiver_on(terms, call.position, call.known, vector, plus(counts, slot))
+    let moved = receiver_on(terms, call.position, call.known, vector, plus(counts, slot));
+    moved_to(terms, moved)
 }
 
 // Whether a receiver was told of as many slots as it may be.
@@ -161,8 +195,8 @@ pub fn lost(call: Call) -> Stepped
 
 // ---- a voice slot
 
-// The frame turned by the bits of the session's slot, which stand for all words, in the mask or not. They are made in lent octets, with DES by its plain engine:
-// the audio task has little stack.
+// The frame turned by the bits of the session's slot, which stand for all words, in the mask or not. They are made in lent octets, from the octet on in which they
+// begin, and with DES by its plain engine: the audio task has little stack.
 fn turn_in(call: Call, mask: u8, frame: &mut [u8], slot: &mut [u8])
     requires { ⌜ (call .position < sessionSlots (call .terms .cipher)) × (length (now frame) ≡ frameOctets (widthOf (call .terms))) × (length (now slot) ≡ slotOctets (widthOf (call .terms))) ⌝ }
     ensures { λ _. ⌜ now (frame .exit) ≡ inSlot streamOf mask (now (frame .entry)) call ⌝ }
@@ -170,14 +204,9 @@ fn turn_in(call: Call, mask: u8, frame: &mut [u8], slot: &mut [u8])
     let key = call.terms.key;
     let vector = call.vector;
     let width = width(call.terms.rate);
-    plain::keystream(
-        call.terms.cipher,
-        key,
-        vector,
-        slot_bits(width) * wide(call.position),
-        slot,
-    );
-    turn_frame(frame, width, mask, slot, 0);
+    let from = slot_bits(width) * wide(call.position);
+    plain::keystream(call.terms.cipher, key, vector, from / 8, slot);
+    turn_frame(frame, width, mask, slot, from % 8);
 }
 
 // The same, in room for a slot at any rate.
@@ -245,6 +274,16 @@ pub fn voice(call: Call, mask: u8, frame: &mut [u8]) -> Stepped
 
 // ---- a session's keystream, made once
 
+// The frame turned by the slot's bits of lent octets that are enough for a session.
+fn turn_by(call: Call, mask: u8, frame: &mut [u8], session: &[u8])
+    requires { ⌜ (call .position < sessionSlots (call .terms .cipher)) × (length (now frame) ≡ frameOctets (widthOf (call .terms))) × (sessionOctets (widthOf (call .terms)) ≤ length (now session)) ⌝ }
+    ensures { λ _. ⌜ now (frame .exit) ≡ inSlot (λ d. bit (now (session .entry))) mask (now (frame .entry)) call ⌝ }
+{
+    let width = width(call.terms.rate);
+    let place = slot_bits(width) * wide(call.position);
+    turn_frame(frame, width, mask, session, place);
+}
+
 // The same slot, turned by lent octets that hold the session's keystream. Fewer than a session's would leave speech in clear.
 pub fn voice_by(call: Call, mask: u8, frame: &mut [u8], session: &[u8]) -> Stepped
     ensures { λ r. ⌜ (r .answer, (r .call, now (frame .exit))) ≡ voiceByOctets (now (session .entry)) call mask (now (frame .entry)) ⌝ }
@@ -254,16 +293,63 @@ pub fn voice_by(call: Call, mask: u8, frame: &mut [u8], session: &[u8]) -> Stepp
     if answer.number() > 1 {
         return stepped;
     }
-    let width = width(call.terms.rate);
-    if session.len() < session_octets(width) {
+    if session.len() < session_octets(width(call.terms.rate)) {
         return refused(Answer::WrongLength, call);
     }
     if answer.number() != 0 {
         return stepped;
     }
-    let from = slot_bits(width) * wide(call.position);
-    turn_frame(frame, width, mask, session, from);
+    turn_by(call, mask, frame, session);
     stepped
+}
+
+// Whether the slot is a receiver's, and done. A call whose session is at hand is good: that isn't tested anew for each slot.
+fn is_done(call: Call, mask: u8, frame: &[u8]) -> bool
+    requires { ⌜ knows (standing call) ≡ true ⌝ }
+    ensures { λ r. ⌜ (r ≡ true → (call .end ≡ receivingEnd) × (Answer.Done ≡ voiceOf call mask (now (frame .entry)) .0)) ⌝ }
+{
+    if mask > TOP_MASK {
+        return false;
+    }
+    if call.end != RECEIVING {
+        return false;
+    }
+    if is_full(call) {
+        return false;
+    }
+    frame.len() == frame_octets(width(call.terms.rate))
+}
+
+// Whether a slot was done, and what it moved.
+pub struct Within {
+    pub done: bool,
+    pub moved: Moved,
+}
+
+// A receiver's slot by the octets of its session, where it is done; what is refused, and a sender's, is left to `voice_by`, with the frame as it came.
+pub fn voice_within(call: Call, mask: u8, frame: &mut [u8], session: &[u8]) -> Within
+    requires { ⌜ IsSession call (now session) ⌝ }
+    ensures { λ r. ⌜ (r .done ≡ true → (Answer.Done, (movedTo (call .terms) (r .moved), now (frame .exit))) ≡ voiceOf call mask (now (frame .entry))) ⌝ }
+    ensures { λ r. ⌜ (r .done ≡ false → now (frame .exit) ≡ now (frame .entry)) ⌝ }
+{
+    let vector = call.vector;
+    let counts = call.counts;
+    if !is_done(call, mask, frame) {
+        return Within {
+            done: false,
+            moved: Moved {
+                position: call.position,
+                known: call.known,
+                vector,
+                counts,
+            },
+        };
+    }
+    turn_by(call, mask, frame, session);
+    let terms = call.terms;
+    let slot = plus(counts, arrived_words(mask, true));
+    let moved = receiver_on(terms, call.position, call.known, vector, slot);
+    Within { done: true, moved }
 }
 
 // The keystream of the call's session from bit 0 on, into lent octets of any length, with DES by its joined tables. Without a known vector they stay as they are.
