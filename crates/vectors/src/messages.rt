@@ -30,7 +30,7 @@ fn turn_plain(packet: Packet, octets: &mut [u8]) -> bool {
     }
     let key = packet.key;
     let vector = packet.vector;
-    let from = 8 * part * (packet.count as usize);
+    let from = part * (packet.count as usize);
     let mut stream = [0u8; MOST_PROTECTED];
     ciphers::plain::keystream(packet.cipher, key, vector, from, &mut stream);
     octets::turn(

@@ -1,17 +1,23 @@
 -- `vectors::messages::turn_plain` is safe and ends: a message's place fits.
-use Prim.Native.Nat.{_*_, _≤_}
+use Prim.Native.Nat.{ℕ, _*_, _≤_}
 use native.Mathlib.Nat.{mul-le-mul}
 use native.Mathlib.Omega.{arith}
 use borrow.Author.Needs.{needs}
 use Rattle.vectors.proofs.messages.turn_plain.Statement.{statement}
 use Rattle.vectors.proofs.messages.turn_plain.Tie as tie
 
-mul-from-2 : tie.Need-mul-from-2
-mul-from-2 c =
+place-fits : (part count : ℕ) → part ≤ 20 → count ≤ 65535 → part * count ≤ 1310700
+place-fits part count p n = mul-le-mul p n
+
+mul-from : tie.Need-mul-from
+mul-from c =
     let d = c .before .before .before .before .before .before .before .before .before .before .before in
-    let part : 8 * (d .protected-octets .result) ≤ 160 = omega arith in
-    let count : d .before .before .args .packet .count ≤ 65535 = omega arith in
-    omega (arith, mul-le-mul part count)
+    omega (arith, place-fits (d .protected-octets .result) (d .before .before .args .packet .count) (omega arith) (omega arith))
+
+keystream-requires : tie.Need-keystream-requires
+keystream-requires c κs =
+    let d = c .before .before .before .before .before .before .before .before .before .before .before .before in
+    (search needs, search needs, omega (arith, place-fits (d .protected-octets .result) (d .before .before .args .packet .count) (omega arith) (omega arith)))
 
 pub turn-plain-spec : {M : Type 1} → statement M
 turn-plain-spec =
@@ -22,10 +28,9 @@ turn-plain-spec =
     (λ c. search needs)
     (λ c. search needs)
     (λ c. search needs)
+    mul-from
     (λ c. search needs)
-    mul-from-2
-    (λ c. search needs)
-    (λ c κs. search needs)
+    keystream-requires
     (λ c. search needs)
     (λ c. search needs)
     (λ c. search needs)
