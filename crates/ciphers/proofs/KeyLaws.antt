@@ -1,17 +1,18 @@
 -- The cases of the keys' definitions, each as a way through the code meets it.
-use Prim.Native.Nat.{ℕ, _-_, _≤_, _<_}
+use Prim.Native.Nat.{ℕ, _+_, _-_, _/_, _%_, _≤_, _<_}
 use native.Mathlib.Omega.{arith}
 use mathlib.Core.Path.{_≡_, refl, sym, ap, _∙_, fun-ext}
 use mathlib.Core.Bool.{Bool, true, false, _&&_, not, true≢false}
 use mathlib.Core.List.{List, _++_}
 use lib.ListN.{length, getD, take, drop, replicate}
+use lib.Bits.{bitXor}
 use lib.Dec.{ltb, eqb}
 use borrow.Author.Tests.{lt-ltb, le-ltb, eq-eqb, ne-eqb, eqb-true}
 use borrow.Rule.Slice.PartAt.{part-to-end}
 use Rattle.octets.specs.Tests.{pick, allBelow}
 use Rattle.octets.specs.Lists.{allZero}
-use Rattle.ciphers.specs.Keys.{oddOctet, scrambleKey, desKey, keyAllowed, keyRight}
-use Rattle.octets.proofs.TestLaws.{and-left, all-fails}
+use Rattle.ciphers.specs.Keys.{ones, oddOctet, scrambleKey, desKey, keyAllowed, keyRight}
+use Rattle.octets.proofs.TestLaws.{and-left, all-step, agree}
 use Rattle.octets.proofs.ListLaws.{padded-at}
 use Rattle.sizes.specs.Ciphers.{byCipher}
 
@@ -28,13 +29,26 @@ module _ (k : List ℕ) where
   unfolding scrambleKey
   scramble-low h e = rw (lt-ltb _ _ h, eq-eqb _ _ e)
 
-  pub des-fails : (i : ℕ) → i < 8 → oddOctet (getD k i 0) ≡ false → false ≡ desKey k
-  unfolding desKey
-  des-fails i h e = sym (all-fails _ 8 i h e)
+  -- the first i octets have odd parity, and the next
+  pub des-more : (i : ℕ) (odd next : Bool) → odd ≡ allBelow (λ j. oddOctet (getD k j 0)) i → next ≡ oddOctet (getD k i 0)
+      → (odd && next) ≡ allBelow (λ j. oddOctet (getD k j 0)) (i + 1)
+  des-more i odd next e f = rw (e, f, all-step)
 
-  pub des-all : (i : ℕ) → i ≤ 8 → 8 ≤ i → allBelow (λ j. oddOctet (getD k j 0)) i ≡ true → true ≡ desKey k
+  pub des-all : (i : ℕ) (odd : Bool) → i ≤ 8 → 8 ≤ i → odd ≡ allBelow (λ j. oddOctet (getD k j 0)) i → odd ≡ desKey k
   unfolding desKey
-  des-all i h h' e = let z : i ≡ 8 = omega arith in sym (rw z at e)
+  des-all i odd h h' e = let z : i ≡ 8 = omega arith in rw z at e
+
+-- the bits above a place, folded onto those below it
+abbrev foldAt : ℕ → ℕ → ℕ
+foldAt n x = bitXor x (x / n)
+
+-- an octet folded to one bit, by a test of each octet
+pub odd-folded : (x : ℕ) → x < 256
+    → eqb (foldAt 2 (foldAt 4 (foldAt 16 x)) % 2) 1 ≡ oddOctet x
+unfolding oddOctet allBelow
+odd-folded x h =
+    ap (λ (n : ℕ). eqb n 1)
+    (agree (λ x. foldAt 2 (foldAt 4 (foldAt 16 x)) % 2) (λ x. ones x % 2) 256 refl x h)
 
 -- zeros after a key change no rule of it
 pub padded-allowed : (xs : List ℕ) (n c : ℕ) → keyAllowed c (xs ++ replicate n 0) ≡ keyAllowed c xs

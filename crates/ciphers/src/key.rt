@@ -10,18 +10,13 @@ use sizes::cipher::KEY_ROOM;
 use sizes::cipher::Scramble;
 use sizes::cipher::key_octets;
 
-// Whether an odd number of an octet's bits are 1.
+// Whether an odd number of an octet's bits are 1. Each half is folded onto the other, and the last bit is the sum of all.
 fn odd_octet(x: u8) -> bool
     ensures { λ r. ⌜ r ≡ oddOctet x ⌝ }
 {
-    let ones = x % 2
-        + x / 2 % 2
-        + x / 4 % 2
-        + x / 8 % 2
-        + x / 16 % 2
-        + x / 32 % 2
-        + x / 64 % 2
-        + x / 128 % 2;
+    let fours = x ^ (x >> 4);
+    let twos = fours ^ (fours >> 2);
+    let ones = twos ^ (twos >> 1);
     ones % 2 == 1
 }
 
@@ -39,19 +34,18 @@ fn scramble_key(key: &[u8]) -> bool
     key[1] != 0
 }
 
-// Odd parity in every octet.
+// Odd parity in every octet. All are looked at, so the compiler takes many at a time.
 fn des_key(key: &[u8]) -> bool
     requires { ⌜ 8 ≤ length (now key) ⌝ }
     ensures { λ r. ⌜ r ≡ desKey (now (key .entry)) ⌝ }
 {
+    let mut odd = true;
     let mut i = 0;
     while i < Des::KEY_OCTETS {
-        if !odd_octet(key[i]) {
-            return false;
-        }
+        odd = odd & odd_octet(key[i]);
         i += 1;
     }
-    true
+    odd
 }
 
 // Whether a key is allowed; its octets come first.
