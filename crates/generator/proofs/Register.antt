@@ -35,7 +35,14 @@ unfolding iterate shifted
 fed-stage b k i few l =
     let e : suc (k - suc i) + i ≡ k = omega arith in
     (rw (e, zero-add i) at (moved b i (suc (k - suc i)) 0))
-    ∙ rw (tap 63 (64 - k + i) (omega arith), tap 61 (62 - k + i) (omega arith), tap 45 (46 - k + i) (omega arith), tap 37 (38 - k + i) (omega arith), tap 26 (27 - k + i) (omega arith), tap 14 (15 - k + i) (omega arith))
+    ∙ rw (
+      tap 63 (64 - k + i) (omega arith),
+      tap 61 (62 - k + i) (omega arith),
+      tap 45 (46 - k + i) (omega arith),
+      tap 37 (38 - k + i) (omega arith),
+      tap 26 (27 - k + i) (omega arith),
+      tap 14 (15 - k + i) (omega arith),
+    )
   where
     tap : (j m : ℕ) → m + (k - suc i) ≡ j → iterate shifted (k - suc i) b j ≡ b m
     tap j m e = rw (e, zero-add (k - suc i)) at (moved b (k - suc i) 0 m)
@@ -56,12 +63,15 @@ stage-six a b c d e f i =
 module _ (r k : ℕ) (few : k ≤ 15) where
   -- the six stages that are fed back, each with those below it
   abbrev taps : ℕ
-  taps = bitXor (bitXor (bitXor (bitXor (bitXor (r / 2 ^ (64 - k)) (r / 2 ^ (62 - k))) (r / 2 ^ (46 - k))) (r / 2 ^ (38 - k))) (r / 2 ^ (27 - k))) (r / 2 ^ (15 - k))
+  taps =
+      bitXor (bitXor (bitXor (bitXor (bitXor (r / 2 ^ (64 - k)) (r / 2 ^ (62 - k))) (r / 2 ^ (46 - k))) (r / 2 ^ (38 - k))) (r / 2 ^ (27 - k)))
+      (r / 2 ^ (15 - k))
 
   taps-stage : (i : ℕ) → i < k → stages taps i ≡ iterate shifted k (stages r) i
   taps-stage i l =
       stage-six (r / 2 ^ (64 - k)) (r / 2 ^ (62 - k)) (r / 2 ^ (46 - k)) (r / 2 ^ (38 - k)) (r / 2 ^ (27 - k)) (r / 2 ^ (15 - k)) i
-      ∙ rw (shr-shr r (64 - k) i, shr-shr r (62 - k) i, shr-shr r (46 - k) i, shr-shr r (38 - k) i, shr-shr r (27 - k) i, shr-shr r (15 - k) i) (sym (fed-stage (stages r) k i few l))
+      ∙ rw (shr-shr r (64 - k) i, shr-shr r (62 - k) i, shr-shr r (46 - k) i, shr-shr r (38 - k) i, shr-shr r (27 - k) i, shr-shr r (15 - k) i)
+      (sym (fed-stage (stages r) k i few l))
 
   pub width-is : 1 * 2 ^ k % 2 ^ 64 ≡ 2 ^ k
   width-is = shl-exact {a = 1} 1 k 64 (omega arith) (omega arith) ∙ one-mul (2 ^ k)
@@ -110,10 +120,13 @@ module _ (b : ℕ → ℕ) where
   unfolding iterate
   shift-start r h = h
 
-  pub shift-more : (n k m r next : ℕ) → k + n ≡ m → Holds r (iterate shifted n b) → Holds next (iterate shifted k (stages r)) → Holds next (iterate shifted m b)
+  pub shift-more : (n k m r next : ℕ) → k + n ≡ m → Holds r (iterate shifted n b) → Holds next (iterate shifted k (stages r))
+      → Holds next (iterate shifted m b)
   unfolding Holds
   shift-more n k m r next e h more i l =
-      more i l ∙ shifts-agree k (stages r) (iterate shifted n b) h i l ∙ ap (λ (c : ℕ → ℕ). c i) (iterate-add shifted k n b ∙ ap (λ (z : ℕ). iterate shifted z b) e)
+      more i l
+      ∙ shifts-agree k (stages r) (iterate shifted n b) h i l
+      ∙ ap (λ (c : ℕ → ℕ). c i) (iterate-add shifted k n b ∙ ap (λ (z : ℕ). iterate shifted z b) e)
 
 -- the number's octets announce L(S)
 pub shift-done : (s : List ℕ) (r : ℕ) → Holds r (iterate shifted 64 (filled s)) → octetsFrom 8 (λ k. stages r (63 - k)) ≡ nextVector s
