@@ -8,7 +8,7 @@ use Rattle.octets.specs.Lists.{tab, iterate}
 use Rattle.octets.specs.Bits.{bit, octet, octetsFrom}
 use Rattle.des.specs.Tables as table
 use Rattle.des.specs.Des.{des, enciphered, rounds, halved, preoutput, cipherF, boxInput, substituted, boxPlace, xorBits, permuted, roundKey, keyState, rotated}
-use Rattle.des.proofs.WorkedBlocks.{bits, octets-work}
+use Rattle.des.proofs.BlockNumbers.{bits, octets-work}
 use Rattle.aes.specs.Cipher.{aes}
 use Rattle.aes.proofs.Examples.{sessions-differ}
 use Rattle.generator.specs.Generator.{nextVector, aesVector}

@@ -17,7 +17,7 @@ use Rattle.scramble.specs.Sequence.{keyNumber, stepped, P}
 use Rattle.des.specs.Tables as table
 use Rattle.des.specs.Des.{des, enciphered, rounds, halved, preoutput, cipherF, boxInput, substituted, boxPlace, xorBits, permuted, roundKey, keyState, rotated}
 use Rattle.des.proofs.DesLaws.{length-des, octets-des}
-use Rattle.des.proofs.WorkedBlocks.{bits, octets-work}
+use Rattle.des.proofs.BlockNumbers.{bits, octets-work}
 use Rattle.aes.specs.Field as field
 use Rattle.aes.specs.Cipher as aes
 use Rattle.aes.proofs.ScheduleLaws.{length-aes, octets-aes}

@@ -14,4 +14,4 @@ pub mod DesLaws
 pub mod JoinedLaws
 pub mod BoxBitLaws
 pub mod BothEngines
-pub mod WorkedBlocks
+pub mod BlockNumbers

@@ -1,14 +1,16 @@
 -- An example past slot 0 and word 0 at each rate, bad and good calls of every kind, and what becomes of a slot's words.
-use mathlib.Core.Path.{_≡_, refl}
+use mathlib.Core.Path.{_≡_, refl, sym, ap, _∙_}
 use mathlib.Core.Bool.{Bool, true, false, _&&_, not}
 use mathlib.Core.List.{List, [], _∷_, _++_}
-use Prim.Native.Nat.{ℕ, _*_}
+use Prim.Native.Nat.{ℕ, _+_, _*_, _%_}
+use native.Mathlib.Omega.{arith}
 use lib.Dec.{eqb}
 use lib.ListN.{replicate}
 use Rattle.octets.specs.Tests.{pick, allBelow}
 use Rattle.octets.specs.Lists.{replaced, allZero, iterate}
 use Rattle.octets.specs.Bits.{octet, octetsFrom}
 use Rattle.octets.specs.Turn.{within, turned, turnedIn}
+use Rattle.octets.proofs.ListLaws.{iterate-add}
 use Rattle.scramble.specs.Sequence.{keyNumber, stepped, P}
 use Rattle.ciphers.specs.Keys.{oddOctet, scrambleKey, desKey, keyAllowed, keyRight}
 use Rattle.ciphers.specs.Keystream.{stream}
@@ -17,8 +19,9 @@ use Rattle.openings.specs.Samples.{scramble0001, desABCD, seed}
 use Rattle.voice.specs.declared.call.Terms.{Terms}
 use Rattle.voice.specs.declared.call.Call.{Call}
 use Rattle.voice.specs.Counts.{countsOf, noCounts, lostWords, arrivedWords}
-use Rattle.sizes.specs.Frame.{halfRate, fullRate, isRate, width, frameOctets}
+use Rattle.sizes.specs.Frame.{halfRate, fullRate, isRate, width, frameOctets, slotBits}
 use Rattle.voice.specs.Frame.{ofSlot, wordTurned, protect}
+use Rattle.voice.proofs.FrameLaws.{protect-same}
 use Rattle.voice.specs.Call.{byDefault, strict, termsRight, vectorRight, countsRight, closedTests, openTests, isClosed, isOpen, goodCall, sending, termsOf, callAt, noCall, written}
 
 -- slot 3, words 1 and 3: 00000000000000A043C1888533000000000000000080BD038E092400, by a script of the recurrence P(n+15) = P(n+1) xor P(n);
@@ -26,15 +29,27 @@ use Rattle.voice.specs.Call.{byDefault, strict, termsRight, vectorRight,
 abbrev past : ℕ → List ℕ
 past w = protect w (ofSlot w (stream 1 scramble0001 noVector) 3) 10 (replicate (frameOctets w) 0)
 
+-- by what the register holds as the slot begins
+from : (w register : ℕ) → iterate stepped (slotBits w * 3) (keyNumber scramble0001) ≡ register
+    → past w ≡ protect w (λ n. iterate stepped n register % 2) 10 (replicate (frameOctets w) 0)
+unfolding stream P
+from w register e =
+    protect-same w (ofSlot w (stream 1 scramble0001 noVector) 3) (λ n. iterate stepped n register % 2) 10
+    (λ n l.
+    let sum : slotBits w * 3 + n ≡ n + slotBits w * 3 = omega arith in
+    ap (λ (r : ℕ). r % 2)
+    (ap (λ (k : ℕ). iterate stepped k (keyNumber scramble0001)) sum ∙ sym (iterate-add stepped n (slotBits w * 3) (keyNumber scramble0001)) ∙ ap (iterate stepped n) e))
+    (replicate (frameOctets w) 0)
+
 pub example-past : past (width halfRate) ≡ replicate 7 0 ++ (0xA0 ∷ 0x43 ∷ 0xC1 ∷ 0x88 ∷ 0x85 ∷ 0x33 ∷ replicate 8 0 ++ (0x80 ∷ 0xBD ∷ 0x03 ∷ 0x8E ∷ 0x09 ∷ 0x24 ∷ 0x00 ∷ []))
-unfolding protect wordTurned turnedIn turned within replaced octetsFrom octet stream P iterate stepped keyNumber
-example-past = refl
+unfolding protect wordTurned turnedIn turned within replaced octetsFrom octet iterate stepped keyNumber
+example-past = from (width halfRate) 0x19E6 refl
 
 pub example-past-full : past (width fullRate)
     ≡ replicate 9 0 ++ (0xBE ∷ 0xBF ∷ 0x87 ∷ 0x81 ∷ 0x11 ∷ 0x06 ∷ 0x66 ∷ 0x15 ∷ 0x54 ∷ replicate 9 0
     ++ (0x90 ∷ 0x17 ∷ 0x60 ∷ 0x73 ∷ 0x41 ∷ 0x2B ∷ 0x86 ∷ 0xF9 ∷ 0x16 ∷ []))
-unfolding protect wordTurned turnedIn turned within replaced octetsFrom octet stream P iterate stepped keyNumber
-example-past-full = refl
+unfolding protect wordTurned turnedIn turned within replaced octetsFrom octet iterate stepped keyNumber
+example-past-full = from (width fullRate) 0x58BE refl
 
 -- a call that lost as many slots as its position says, which is right for a receiver; a sender and no call count nothing
 abbrev at : ℕ → Terms → ℕ → ℕ → List ℕ → Call

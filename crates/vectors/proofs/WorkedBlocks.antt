@@ -1,26 +1,12 @@
--- Worked blocks, which compute: a textbook's, and rows of SP 500-20's and SP 800-17's known answers, so chosen that together they look at each of the 512
--- selection entries.
+-- Worked blocks of DES, which antt computes: a textbook's, and rows of SP 500-20's and SP 800-17's known answers, so chosen that together they look at each of
+-- the 512 selection entries. They are des's, and stand here so that they are worked out once, and not for each edit of des.
 use mathlib.Core.Path.{_≡_, refl}
 use mathlib.Core.List.{List, [], _∷_}
-use Prim.Native.Nat.{ℕ, _-_, _/_, _%_, _^_}
-use native.Mathlib.Omega.{arith}
+use Prim.Native.Nat.{ℕ}
 use Rattle.octets.specs.Lists.{tab, Each}
-use Rattle.octets.specs.Bits.{bit, octet, octetsFrom}
-use Rattle.octets.proofs.BitLaws.{bit-octetsFrom}
-use Rattle.octets.proofs.ListLaws.{tab-same}
 use Rattle.des.specs.Tables.{IP, IP⁻¹, E, P, PC-1, PC-2, leftShifts, S}
 use Rattle.des.specs.Des.{des, enciphered, rounds, halved, preoutput, cipherF, boxInput, substituted, boxPlace, xorBits, permuted, roundKey, keyState, rotated}
-
--- bit k of a number of 64 bits, the most significant first
-abbrev numberBit : ℕ → ℕ → ℕ
-numberBit n k = n / 2 ^ (63 - k) % 2
-
--- the eight octets, and the 64 bits, that such a number writes
-abbrev pub octets : ℕ → List ℕ
-octets n = octetsFrom 8 (numberBit n)
-
-abbrev pub bits : ℕ → List ℕ
-bits n = tab (numberBit n) 64
+use Rattle.des.proofs.BlockNumbers.{octets, bits, octets-work}
 
 -- key, block and enciphered block
 pub rows : List (ℕ × ℕ × ℕ)
@@ -43,14 +29,6 @@ rows =
 bits-work : Each (λ (r : ℕ × ℕ × ℕ). enciphered (roundKey (bits (r .0))) (bits (r .1)) ≡ bits (r .2)) rows
 unfolding rows tab IP IP⁻¹ E P PC-1 PC-2 leftShifts S enciphered rounds halved preoutput cipherF boxInput substituted boxPlace xorBits permuted roundKey keyState rotated
 bits-work = (refl, (refl, (refl, (refl, (refl, (refl, (refl, (refl, (refl, (refl, (refl, (refl, (refl, tt)))))))))))))
-
-octets-bits : (n : ℕ) → tab (bit (octets n)) 64 ≡ bits n
-octets-bits n = tab-same _ _ 64 (λ k h. bit-octetsFrom 8 (numberBit n) (λ i. omega arith) k (omega arith))
-
--- so a block that its bits work out
-pub octets-work : (key block out : ℕ) → enciphered (roundKey (bits key)) (bits block) ≡ bits out → des (octets key) (octets block) ≡ octets out
-unfolding des tab octet octetsFrom
-octets-work key block out e = rw (octets-bits key, octets-bits block, e) refl
 
 each-works : (rs : List (ℕ × ℕ × ℕ)) → Each (λ (r : ℕ × ℕ × ℕ). enciphered (roundKey (bits (r .0))) (bits (r .1)) ≡ bits (r .2)) rs
     → Each (λ (r : ℕ × ℕ × ℕ). des (octets (r .0)) (octets (r .1)) ≡ octets (r .2)) rs
