@@ -4,7 +4,6 @@ pub mod ListLaws
 pub mod BitLaws
 pub mod Numbers
 pub mod Front
-pub mod Windows
 pub mod Turning
 pub mod Parts
 pub mod Words

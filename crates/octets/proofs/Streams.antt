@@ -111,6 +111,16 @@ module _ (w from : ℕ) (xs part : List ℕ) (reach : from + w ≤ 8 * length xs
             ∙ sym (within-in w key (8 * at + k) (omega arith))
         go (no l) = top-lost b bits k (omega arith) (omega arith) ∙ sym (within-out w key (8 * at + k) (omega arith))
 
+    -- so do its first octets
+    key-bits : (octets : List ℕ) → octets ≡ octetsFrom 8 (λ k. t / 2 ^ (63 - k) % 2) → (n k : ℕ) → n ≤ 7 → k < 8 * n → bit (take n octets) k ≡ within w key (8 * at + k)
+    key-bits octets eo n k h l =
+        let z : 8 * 0 + k ≡ k = omega arith in
+        part-bit 0 n octets k l
+        ∙ ap (bit octets) z
+        ∙ ap (λ (o : List ℕ). bit o k) eo
+        ∙ bit-octetsFrom 8 (λ k. t / 2 ^ (63 - k) % 2) (λ k. omega arith) k (omega arith)
+        ∙ turns k (omega arith)
+
     pub turn-more : (d p octets : List ℕ) (n : ℕ) → Front goal part d at → n ≤ 7 → at + n ≤ length part → octets ≡ octetsFrom 8 (λ k. t / 2 ^ (63 - k) % 2)
         → p ≡ turned (8 * length (take (at + n - at) (drop at d))) (bit (take n octets)) (take (at + n - at) (drop at d)) → Front goal part (putMid at (at + n - at) d p) (at + n)
     turn-more d p octets n f h fits eo ep =
@@ -118,20 +128,24 @@ module _ (w from : ℕ) (xs part : List ℕ) (reach : from + w ≤ 8 * length xs
         rw m
         (front-piece goal part d p at n f (omega (arith, length-turned w key part))
         (rw (m, front-ahead goal part d at n f (sym (length-turned w key part))) at ep
-        ∙ turned-part at n w key part fits (8 * length (take n (drop at part))) (bit (take n octets)) agrees))
+        ∙ turned-part at n w key part fits (8 * length (take n (drop at part))) (bit (take n octets))
+        (λ k l. within-in (8 * length (take n (drop at part))) (bit (take n octets)) k (omega (arith, long)) ∙ key-bits octets eo n k h l)))
       where
         long : length (take n (drop at part)) ≡ n
         long = length-take-le n (drop at part) (omega (arith, length-drop at part))
 
-        agrees : (k : ℕ) → k < 8 * n → within (8 * length (take n (drop at part))) (bit (take n octets)) k ≡ within w key (8 * at + k)
-        agrees k l =
-            let z : 8 * 0 + k ≡ k = omega arith in
-            within-in (8 * length (take n (drop at part))) (bit (take n octets)) k (omega (arith, long))
-            ∙ part-bit 0 n octets k l
-            ∙ ap (bit octets) z
-            ∙ ap (λ (o : List ℕ). bit o k) eo
-            ∙ bit-octetsFrom 8 (λ k. t / 2 ^ (63 - k) % 2) (λ k. omega arith) k (omega arith)
-            ∙ turns k (omega arith)
+  -- a part of seven octets whose bits one number has
+  pub turned-seven : (b t : ℕ) (p octets : List ℕ) → length part ≡ 7 → 0 < w → w ≤ 56
+      → ((k : ℕ) → k < 57 → 8 * (from / 8) + from % 8 + k < 8 * length xs → b / 2 ^ (63 - k) % 2 ≡ bit xs (8 * (from / 8) + from % 8 + k))
+      → t ≡ b / 2 ^ (64 - w) * 2 ^ (64 - w) → octets ≡ octetsFrom 8 (λ k. t / 2 ^ (63 - k) % 2) → p ≡ turned (8 * length part) (bit (take 7 octets)) part → p ≡ goal
+  turned-seven b t p octets long some few has is-top eo e =
+      e
+      ∙ turned-alike (8 * length part) w (bit (take 7 octets)) key part
+      (λ k l.
+      let z : 8 * 0 + k ≡ k = omega arith in
+      within-in (8 * length part) (bit (take 7 octets)) k l
+      ∙ key-bits 0 w b t some (omega arith) (λ j h m. let q : from / 8 + 0 ≡ from / 8 = omega arith in rw q (has j h (omega arith))) is-top octets eo 7 k (omega arith) (omega arith)
+      ∙ ap (within w key) z)
 
   pub turn-done : Octets part → (d : List ℕ) (at n : ℕ) → Front goal part d at → n ≡ min (length part) ((w + 7) / 8) → n ≤ at → d ≡ goal
   turn-done o d at n f e h =

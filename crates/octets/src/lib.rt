@@ -75,15 +75,6 @@ pub fn octets_of(number: u64) -> [u8; 8]
     out
 }
 
-// The eight bits of two neighbouring octets that start at bit s of the first.
-pub fn window(a: u8, b: u8, s: usize) -> u8
-    requires { ⌜ s < 8 ⌝ }
-    ensures { λ r. ⌜ r ≡ (256 * a + b) / 2 ^ (8 - s) % 256 ⌝ }
-{
-    let pair = 256 * (a as u32) + (b as u32);
-    ((pair >> (8 - s)) % 256) as u8
-}
-
 // How many octets so many bits take, by sums that fit for any number of them.
 fn octets_for(bits: usize) -> usize
     ensures { λ r. ⌜ r ≡ (bits + 7) / 8 ⌝ }
@@ -154,6 +145,12 @@ pub fn turn(part: &mut [u8], width: usize, stream: &[u8], from: usize)
     if from % 8 == 0 && part.len() <= width / 8 {
         let first = from / 8;
         turn_octets(part, &stream[first..first + part.len()]);
+        return;
+    }
+    // A word at half rate: one number has its bits, and the compiler knows how many octets they turn.
+    if part.len() == 7 && 0 < width && width <= 56 {
+        let key = octets_of(top(bits_from(stream, from / 8, from % 8), width));
+        turn_octets(part, &key[..7]);
         return;
     }
     turn_bits(part, width, stream, from);
