@@ -2,7 +2,7 @@
 use mathlib.Core.Path.{_≡_, refl, sym, ap, _∙_}
 use mathlib.Core.Bool.{Bool, true, false, _&&_, _||_, not, true≢false}
 use mathlib.Core.Logic.{_⊎_, inl, inr}
-use mathlib.Core.List.{List}
+use mathlib.Core.List.{List, _++_}
 use Prim.Native.Nat.{ℕ, _+_, _≤_, _<_}
 use native.Mathlib.Omega.{arith}
 use lib.Dec.{eqb}
@@ -10,6 +10,7 @@ use lib.ListN.{length}
 use borrow.Author.Tests.{eq-eqb, ne-eqb, le-leb}
 use Rattle.octets.specs.Tests.{pick, allBelow}
 use Rattle.octets.specs.Lists.{allZero}
+use Rattle.octets.specs.Bits.{bit}
 use Rattle.octets.proofs.TestLaws.{and-right}
 use Rattle.answers.specs.declared.Answer.{Answer}
 use Rattle.answers.specs.declared.Answer.the-variants.{Done, WrongLength, OutOfRange, ZeroVector}
@@ -25,9 +26,9 @@ use Rattle.data.specs.declared.packet.Packet.{Packet}
 use Rattle.data.specs.Kinds.{isKind}
 use Rattle.data.specs.Packet.{mostMessages, closedTests, openTests, isClosed, isOpen, goodPacket, noPacket, endRefusals, endOf}
 use Rattle.data.specs.Opening.{toReceive, toSend, isEnd, openRefusals, newPacket, openOf}
-use Rattle.data.specs.Message.{counted, lostRefusals, lostOf, messageRefusals, messageTurned, messageOf}
+use Rattle.data.specs.Message.{counted, lostRefusals, lostOf, messageRefusals, messageTurnedBy, messageTurned, messageOf, shortRefusals, messageByOctets}
 use Rattle.data.proofs.PacketLaws.{open-kind, open-key, open-vector, open-is-good}
-use Rattle.data.proofs.MessageLaws.{none-open, none-few}
+use Rattle.data.proofs.MessageLaws.{none-open, none-few, none-lost}
 
 pub closed-good : goodPacket noPacket ≡ true
 unfolding goodPacket isClosed closedTests allZero allBelow
@@ -137,7 +138,14 @@ module _ (p : Packet) (good : goodPacket p ≡ true) where
   lost-good = leaves Good p (lostRefusals p) (Done, counted p) good on-good
 
   pub message-good : (message : List ℕ) → goodPacket (messageOf p message .1 .0) ≡ true
-  unfolding messageOf messageRefusals
+  unfolding messageOf
   message-good message =
       leaves (λ (o : Packet × List ℕ). Good (o .0)) (p, message) (messageRefusals p message) (Done, (counted p, messageTurned p message)) good
-      (λ n. on-good (none-left (lostRefusals p) _ n))
+      (λ n. on-good (none-lost p message n))
+
+  pub message-by-good : (lent message : List ℕ) → goodPacket (messageByOctets lent p message .1 .0) ≡ true
+  unfolding messageByOctets
+  message-by-good lent message =
+      leaves (λ (o : Packet × List ℕ). Good (o .0)) (p, message) (messageRefusals p message ++ shortRefusals p lent)
+      (Done, (counted p, messageTurnedBy (bit lent) p message)) good
+      (λ n. on-good (none-lost p message (none-left (messageRefusals p message) (shortRefusals p lent) n)))

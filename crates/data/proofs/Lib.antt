@@ -5,5 +5,6 @@ pub mod MessageLaws
 pub mod Settled
 pub mod GoodLaws
 pub mod MessageBits
+pub mod PacketOnce
 pub mod ExchangeLaws
 pub mod Examples

@@ -6,22 +6,22 @@ use Prim.Native.Nat.{ℕ, _+_, _*_, _≤_, _<_}
 use native.Mathlib.Omega.{arith}
 use lib.ListN.{length, getD, take, drop, length-drop}
 use lib.Seq.{length-take-le}
-use borrow.Author.Tests.{eq-eqb, eqb-true, not-false}
+use borrow.Author.Tests.{eq-eqb}
 use Rattle.octets.specs.Bits.{bit, flip, Octets}
 use Rattle.octets.specs.Turn.{turned, turnedIn}
 use Rattle.octets.proofs.Turning.{length-turned, within-in}
 use Rattle.octets.proofs.Parts.{replaced-before, replaced-after, length-turnedIn, octets-turnedIn, bit-inside, bit-outside}
 use Rattle.answers.specs.declared.Answer.the-variants.{Done}
 use Rattle.answers.specs.Numbers.{numberOf}
-use Rattle.answers.proofs.OutcomeLaws.{NoneHolds, neverDone, refusal-keeps, none-left, none-right, none-settles, done-none}
+use Rattle.answers.proofs.OutcomeLaws.{NoneHolds, refusal-keeps, none-settles}
 use Rattle.ciphers.specs.Keystream.{stream}
 use Rattle.data.specs.declared.packet.Packet.{Packet}
 use Rattle.data.specs.Kinds.{isKind, messageOctets, headOctets, protectedOctets, protectedBits}
 use Rattle.data.specs.Packet.{isOpen}
-use Rattle.data.specs.Message.{counted, lostRefusals, messageRefusals, ofMessage, messageTurned, messageOf}
+use Rattle.data.specs.Message.{counted, messageRefusals, ofMessage, messageTurned, messageOf}
 use Rattle.data.proofs.KindLaws.{kind-fits}
 use Rattle.data.proofs.PacketLaws.{open-kind}
-use Rattle.data.proofs.MessageLaws.{none-open}
+use Rattle.data.proofs.MessageLaws.{none-open, done-none-holds, none-lost, none-long}
 
 -- a message of a kind's length, turned
 module _ (p : Packet) (message : List ℕ) (is : isKind (p .kind) ≡ true) (long : length message ≡ messageOctets (p .kind)) where
@@ -70,25 +70,18 @@ module _ (p : Packet) (message : List ℕ) (done : numberOf (messageOf p message
   abbrev pub after : List ℕ
   after = messageOf p message .1 .1
 
-  never : neverDone (messageRefusals p message) ≡ true
-  unfolding messageRefusals lostRefusals
-  never = refl
-
   none : NoneHolds (messageRefusals p message)
-  unfolding messageOf
-  none = done-none (messageRefusals p message) (p, message) (counted p, messageTurned p message) never (eq-eqb _ _ done)
+  none = done-none-holds p message (eq-eqb _ _ done)
 
   -- it is one of an open packet
   pub done-open : isOpen p ≡ true
-  unfolding messageRefusals
-  done-open = none-open p (none-left (lostRefusals p) _ none)
+  done-open = none-open p (none-lost p message none)
 
   is : isKind (p .kind) ≡ true
   is = open-kind p done-open
 
   pub done-long : length message ≡ messageOctets (p .kind)
-  unfolding messageRefusals
-  done-long = eqb-true _ _ (not-false _ (none-right (lostRefusals p) _ none .0))
+  done-long = none-long p message none
 
   pub done-turned : messageOf p message .1 ≡ (counted p, messageTurned p message)
   unfolding messageOf

@@ -2,10 +2,11 @@
 -- nothing.
 use mathlib.Core.Path.{_≡_, sym, ap, _∙_}
 use mathlib.Core.Bool.{false, _&&_, not, true≢false}
-use mathlib.Core.List.{List}
+use mathlib.Core.List.{List, _++_}
 use Prim.Native.Nat.{ℕ}
 use lib.Dec.{eqb}
 use native.Mathlib.Omega.{arith}
+use Rattle.octets.specs.Bits.{bit}
 use Rattle.answers.specs.declared.Answer.{Answer}
 use Rattle.answers.specs.declared.Answer.the-variants.{Done}
 use Rattle.answers.proofs.OutcomeLaws.{Refusal, keeps, some-refuses, one-outcome}
@@ -15,7 +16,7 @@ use Rattle.data.specs.declared.packet.Packet.{Packet}
 use Rattle.data.specs.Kinds.{isKind}
 use Rattle.data.specs.Packet.{isClosed, goodPacket, noPacket, endRefusals, endOf}
 use Rattle.data.specs.Opening.{toSend, isEnd, openRefusals, newPacket, openOf}
-use Rattle.data.specs.Message.{counted, lostRefusals, lostOf, messageRefusals, messageTurned, messageOf}
+use Rattle.data.specs.Message.{counted, lostRefusals, lostOf, messageRefusals, messageTurnedBy, messageTurned, messageOf, shortRefusals, messageByOctets, packetStreamOf}
 use Rattle.data.proofs.PacketLaws.{not-closed}
 
 -- ---- any two outcomes are equal
@@ -30,10 +31,21 @@ module _ (a b : Answer) (x y : Packet) (p : Packet) where
   pub one-lost : (a, x) ≡ lostOf p → (b, y) ≡ lostOf p → (a ≡ b) × (x ≡ y)
   one-lost = one-outcome a b x y
 
-  pub one-message : (message f g : List ℕ) → (a, (x, f)) ≡ messageOf p message → (b, (y, g)) ≡ messageOf p message → (a ≡ b) × (x ≡ y) × (f ≡ g)
-  one-message message f g e h =
-      let o = one-outcome a b (x, f) (y, g) e h in
-      (o .0, ap (λ (r : Packet × List ℕ). r .0) (o .1), ap (λ (r : Packet × List ℕ). r .1) (o .1))
+  module _ (f g : List ℕ) where
+    both : {o : Answer × (Packet × List ℕ)} → (a, (x, f)) ≡ o → (b, (y, g)) ≡ o → (a ≡ b) × (x ≡ y) × (f ≡ g)
+    both e h =
+        let s = one-outcome a b (x, f) (y, g) e h in
+        (s .0, ap (λ (r : Packet × List ℕ). r .0) (s .1), ap (λ (r : Packet × List ℕ). r .1) (s .1))
+
+    pub one-message : (message : List ℕ) → (a, (x, f)) ≡ messageOf p message → (b, (y, g)) ≡ messageOf p message → (a ≡ b) × (x ≡ y) × (f ≡ g)
+    one-message message = both
+
+    pub one-message-by : (lent message : List ℕ) → (a, (x, f)) ≡ messageByOctets lent p message → (b, (y, g)) ≡ messageByOctets lent p message
+        → (a ≡ b) × (x ≡ y) × (f ≡ g)
+    one-message-by lent message = both
+
+pub one-stream : (f g : List ℕ) (p : Packet) (out : List ℕ) → f ≡ packetStreamOf p out → g ≡ packetStreamOf p out → f ≡ g
+one-stream f g p out e h = e ∙ sym h
 
 -- ---- a refusal changes nothing
 
@@ -53,6 +65,12 @@ module _ (p : Packet) where
   pub message-keeps : (message : List ℕ) → Refusal (messageOf p message .0) → messageOf p message .1 ≡ (p, message)
   unfolding messageOf
   message-keeps message = keeps (p, message) (messageRefusals p message) (Done, (counted p, messageTurned p message)) (omega arith)
+
+  pub message-by-keeps : (lent message : List ℕ) → Refusal (messageByOctets lent p message .0) → messageByOctets lent p message .1 ≡ (p, message)
+  unfolding messageByOctets
+  message-by-keeps lent message =
+      keeps (p, message) (messageRefusals p message ++ shortRefusals p lent)
+      (Done, (counted p, messageTurnedBy (bit lent) p message)) (omega arith)
 
 -- ---- while a packet stands
 

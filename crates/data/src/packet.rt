@@ -51,7 +51,7 @@ fn is_closed(packet: Packet) -> bool
     all_zero(&vector)
 }
 
-fn is_open(packet: Packet) -> bool
+pub fn is_open(packet: Packet) -> bool
     ensures { λ r. ⌜ r ≡ isOpen packet ⌝ }
 {
     if !is_kind(packet.kind) {
