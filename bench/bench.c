@@ -1,5 +1,5 @@
 /* Times the proved functions beside OpenSSL's in one run, and first sees that both give the same octets.
-   The least of several batches is printed, in nanoseconds of processor time; a packet's messages are timed once, in milliseconds. */
+   The least of several batches is printed, in nanoseconds of processor time. */
 #define OPENSSL_API_COMPAT 0x10100000L
 #define OPENSSL_SUPPRESS_DEPRECATED
 #include <openssl/aes.h>
@@ -17,8 +17,9 @@ void timed_joined_blocks(const octet *key, size_t key_len, octet *block, size_t 
 void timed_session(bool plain, octet cipher, const octet *key, size_t key_len, const octet *vector, size_t vector_len, octet *out, size_t out_len);
 
 void timed_message(octet cipher, const octet *key, size_t key_len, const octet *vector, size_t vector_len, unsigned short count, octet *message, size_t message_len);
+void timed_messages(octet cipher, const octet *key, size_t key_len, const octet *vector, size_t vector_len, octet *stream, size_t stream_len, octet *message, size_t message_len, size_t n);
 
-enum { MESSAGES = 1000, DCALL_OCTETS = 22, BATCHES = 40, BLOCKS = 2000, STREAM_OCTETS = 8 * BLOCKS, SESSIONS = 200, SESSION_OCTETS = 196, SCRAMBLE_OCTETS = 98 };
+enum { MESSAGES = 1000, PACKET_BATCHES = 10, DCALL_OCTETS = 22, PROTECTED_OCTETS = 20, BATCHES = 40, BLOCKS = 2000, STREAM_OCTETS = 8 * BLOCKS, SESSIONS = 200, SESSION_OCTETS = 196, SCRAMBLE_OCTETS = 98 };
 
 static const octet des_key[8] = {0xAB, 0xCD, 0xEF, 0x01, 0x23, 0x45, 0x67, 0x89};
 static const octet aes_key[32] = {0xAB, 0xCD, 0xEF, 0x01, 0x23, 0x45, 0x67, 0x89, 0xCD, 0xEF, 0x01, 0x23, 0x45, 0x67, 0x89, 0xAB,
@@ -84,14 +85,33 @@ static void key_of(int cipher, octet *key) {
     else memcpy(key, aes_key, 32);
 }
 
-/* All the messages that a packet has, in milliseconds: each needs the keystream from the session's start to its own place. */
-static double packet(int cipher) {
-    octet key[32] = {0}, vector[8] = {0}, message[DCALL_OCTETS] = {0};
+/* A packet's first n messages, each the octets of the one before. By itself each needs the keystream from the packet's start to its own place. */
+static void messages(int cipher, octet *message, size_t n) {
+    octet key[32] = {0}, vector[8] = {0};
     key_of(cipher, key);
     if (cipher != 1) memcpy(vector, seed, 8);
-    double t = now();
-    for (int n = 0; n < MESSAGES; n++) timed_message(cipher, key, 32, vector, 8, n, message, DCALL_OCTETS);
-    return (now() - t) / 1e6;
+    for (size_t i = 0; i < n; i++) timed_message(cipher, key, 32, vector, 8, i, message, DCALL_OCTETS);
+}
+
+/* The same by the packet's keystream, which is made first. */
+static void messages_by(int cipher, octet *message, size_t n) {
+    static octet stream[PROTECTED_OCTETS * MESSAGES];
+    octet key[32] = {0}, vector[8] = {0};
+    key_of(cipher, key);
+    if (cipher != 1) memcpy(vector, seed, 8);
+    timed_messages(cipher, key, 32, vector, 8, stream, PROTECTED_OCTETS * n, message, DCALL_OCTETS, n);
+}
+
+/* A batch is as many packets of n messages as have a whole packet's messages together. */
+static double per_message(void (*run)(int, octet *, size_t), int cipher, octet *message, size_t n) {
+    double best = 1e30;
+    for (int b = 0; b < PACKET_BATCHES; b++) {
+        double t = now();
+        for (size_t m = 0; m < MESSAGES; m += n) run(cipher, message, n);
+        t = (now() - t) / MESSAGES;
+        if (t < best) best = t;
+    }
+    return best;
 }
 
 static void our_session(int cipher, octet *out) {
@@ -128,7 +148,7 @@ static double per_session(void (*run)(int, octet *), int cipher, octet *out) {
 
 static void same(const char *what, const octet *a, const octet *b, size_t n) {
     if (memcmp(a, b, n) == 0) return;
-    printf("%s: not the same octets as OpenSSL's\n", what);
+    printf("%s: not the same octets\n", what);
     exit(1);
 }
 
@@ -145,6 +165,10 @@ int main(void) {
     for (int cipher = 2; cipher <= 3; cipher++) our_session(cipher, a), openssl_session(cipher, b), same("a session", a, b, SESSION_OCTETS);
     our_plain_session(2, a), openssl_session(2, b), same("a session by the plain engine", a, b, SESSION_OCTETS);
     our_feedback(a, BLOCKS), openssl_feedback(b, BLOCKS), same("output feedback", a, b, STREAM_OCTETS);
+    for (int cipher = 1; cipher <= 3; cipher++) {
+        octet m[DCALL_OCTETS] = {0}, by[DCALL_OCTETS] = {0};
+        messages(cipher, m, MESSAGES), messages_by(cipher, by, MESSAGES), same("a packet by message and by message_by", m, by, DCALL_OCTETS);
+    }
     double openssl = per_block(openssl_des, b);
     row("DES block, plain engine", per_block(our_des, a), openssl);
     row("DES block, joined tables", per_block(our_joined, a), openssl);
@@ -155,6 +179,10 @@ int main(void) {
     row("DES session, plain engine", per_session(our_plain_session, 2, a), openssl);
     row("DES session, joined tables", per_session(our_session, 2, a), openssl);
     row("AES session, 196 octets", per_session(our_session, 3, a), per_session(openssl_session, 3, b));
-    for (int cipher = 1; cipher <= 3; cipher++) printf("packet of %d DCALL messages, cipher type %d %14.0f ms\n", MESSAGES, cipher, packet(cipher));
+    for (int cipher = 1; cipher <= 3; cipher++)
+        for (int n = 10; n <= MESSAGES; n *= 10) {
+            double alone = per_message(messages, cipher, a, n), by = per_message(messages_by, cipher, b, n);
+            printf("a DCALL message of %4d, cipher type %d: by message %8.0f ns, by message_by %6.0f ns\n", n, cipher, alone, by);
+        }
     return 0;
 }

@@ -110,7 +110,20 @@ pub extern "C" fn timed_session(
     ciphers::joined::keystream(cipher, thirty_two(key), eight(vector), 0, out);
 }
 
-// A packet's DCALL message after so many others. The key is 32 octets, its own first.
+// A DCALL packet that has had so many messages. The key is 32 octets, its own first.
+fn packet_of(cipher: u8, key: &[u8], vector: &[u8], count: u16) -> Packet
+    requires { ⌜ (length (now key) ≡ 32) × (length (now vector) ≡ 8) ⌝ }
+{
+    Packet {
+        kind: DCALL,
+        cipher,
+        key: thirty_two(key),
+        count,
+        vector: eight(vector),
+    }
+}
+
+// A packet's message after so many others.
 #[no_mangle]
 pub extern "C" fn timed_message(
     cipher: u8,
@@ -125,14 +138,33 @@ pub extern "C" fn timed_message(
     if vector.len() != 8 {
         return;
     }
-    let packet = Packet {
-        kind: DCALL,
-        cipher,
-        key: thirty_two(key),
-        count,
-        vector: eight(vector),
-    };
-    data::message::message(packet, message);
+    data::message::message(packet_of(cipher, key, vector, count), message);
+}
+
+// A packet's first n messages, each the octets of the one before, by its keystream, made once in lent octets.
+#[no_mangle]
+pub extern "C" fn timed_messages(
+    cipher: u8,
+    key: &[u8],
+    vector: &[u8],
+    stream: &mut [u8],
+    message: &mut [u8],
+    n: usize,
+) {
+    if key.len() != 32 {
+        return;
+    }
+    if vector.len() != 8 {
+        return;
+    }
+    let mut packet = packet_of(cipher, key, vector, 0);
+    data::message::packet_stream(packet, stream);
+    let mut i = 0;
+    while i < n {
+        let taken = data::message::message_by(packet, message, stream);
+        packet = taken.packet;
+        i += 1;
+    }
 }
 
 // n slots of all words, received by value one after the other in a call that rides on from its opening; nothing where it can't be opened.
