@@ -1,20 +1,18 @@
 -- Laws of the columns: the four rows of each, and that a mixed column is the sum of its four octets' columns, each rotated to its row.
-use mathlib.Core.Path.{_≡_, refl, sym, ap, _∙_}
+use mathlib.Core.Path.{_≡_, refl, ap, _∙_}
 use mathlib.Core.List.{List, [], _∷_}
-use Prim.Native.Nat.{ℕ, zero, suc, _+_, _*_, _/_, _%_, _≤_, _<_}
-use native.Mathlib.Nat.{add-zero}
+use Prim.Native.Nat.{ℕ, zero, suc, _+_, _*_, _/_, _%_, _<_}
 use native.Mathlib.Omega.{arith}
 use lib.Bits.{bitOr, bitXor, xor-comm, xor-lt, xor-zero-r}
-use lib.ListN.{length, getD, set, length-set}
+use lib.ListN.{getD}
 use Rattle.octets.specs.Lists.{tab}
 use Rattle.octets.proofs.BitLaws.{xor-assoc}
-use Rattle.octets.proofs.Front.{Front, front-start, front-four, front-to, front-done}
 use Rattle.octets.proofs.ListLaws.{length-tab, getD-tab}
 use Rattle.aes.specs.Field.{xtime, reduce, digit, mulBits, mul, sboxOf}
 use Rattle.aes.specs.Cipher.{mixed, mixColumns}
-use Rattle.aes.specs.Prepared.{asWord, wordIn, mixedAlone, IsColumns}
-use Rattle.aes.proofs.FieldLaws.{mul-two, mul-three}
-use Rattle.aes.proofs.WordLaws.{word-same, rotated-8, rotated-16, rotated-24, word-xor}
+use Rattle.aes.specs.Prepared.{asWord, wordIn, octetOf, mixedAlone, IsColumns}
+use Rattle.aes.proofs.FieldLaws.{mul-two, mul-three, sbox-lt}
+use Rattle.aes.proofs.WordLaws.{word-same, octet-word, rotated-8, rotated-16, rotated-24, word-xor}
 use Rattle.aes.proofs.StateLaws.{mixed-lt, octets-first, column-law}
 
 -- ---- the rows of a column
@@ -106,49 +104,17 @@ module _ (a b c d : ℕ) (ha : a < 256) (hb : b < 256) (hc : c < 256) (hd : d < 
 
 -- ---- the table, as `aes::columns` makes it
 
-unfoldable pub allColumns : List ℕ
-allColumns = tab (λ i. mixedAlone (sboxOf (i / 4)) (i % 4)) 1024
+abbrev pub columnOf : ℕ → ℕ
+columnOf x = asWord (mixedAlone (sboxOf x))
 
-length-allColumns : length allColumns ≡ 1024
-unfolding allColumns
-length-allColumns = length-tab _ 1024
+pub column-is : (x s d : ℕ) → s ≡ sboxOf x → d ≡ xtime s → d + 256 * s + 65536 * s + 16777216 * bitXor s d ≡ columnOf x
+unfolding asWord
+column-is x s d es ed = rw (ed, es, alone-0, alone-1, alone-2, alone-3)
 
-allColumns-at : (x r : ℕ) → x < 256 → r < 4 → getD allColumns (4 * x + r) 0 ≡ mixedAlone (sboxOf x) r
-unfolding allColumns
-allColumns-at x r hx hr =
-    let d : (4 * x + r) / 4 ≡ x = omega arith in
-    let m : (4 * x + r) % 4 ≡ r = omega arith in
-    getD-tab (λ i. mixedAlone (sboxOf (i / 4)) (i % 4)) 1024 (4 * x + r) (omega arith) ∙ rw (d, m)
+pub columns-done : (t : List ℕ) → t ≡ tab columnOf 256 → IsColumns t
+columns-done t e = rw e (record { size = length-tab columnOf 256; rule = getD-tab columnOf 256 })
 
-pub columns-start : (d : List ℕ) → length d ≡ 1024 → Front allColumns d d 0
-columns-start d e = front-start allColumns d (e ∙ sym length-allColumns)
-
-pub four-in : (o : List ℕ) (x t s : ℕ) → x < 256 → length o ≡ 1024
-    → (4 * x + 1 < length (set o (4 * x) t)) × (4 * x + 2 < length (set (set o (4 * x) t) (4 * x + 1) s))
-    × (4 * x + 3 < length (set (set (set o (4 * x) t) (4 * x + 1) s) (4 * x + 2) s))
-four-in o x t s h l = simp length-set (omega arith, omega arith, omega arith)
-
-pub columns-more : (d₀ d : List ℕ) (x s t : ℕ) → x < 256 → s ≡ sboxOf x → t ≡ xtime s → Front allColumns d₀ d (4 * x)
-    → Front allColumns d₀ (set (set (set (set d (4 * x) t) (4 * x + 1) s) (4 * x + 2) s) (4 * x + 3) (bitXor s t)) (4 * (x + 1))
-columns-more d₀ d x s t h es et f =
-    let at : (r : ℕ) → r < 4 → getD allColumns (4 * x + r) 0 ≡ mixedAlone (sboxOf x) r = λ r. allColumns-at x r h in
-    front-to _ _ _ (4 * x + 4) (4 * (x + 1)) (omega arith)
-    (front-four _ _ d (4 * x) _ _ _ _ f (omega (arith, length-allColumns))
-    (et ∙ ap xtime es ∙ sym (simp add-zero at (at 0 (omega arith)) ∙ alone-0 (sboxOf x)))
-    (es ∙ sym (at 1 (omega arith) ∙ alone-1 (sboxOf x)))
-    (es ∙ sym (at 2 (omega arith) ∙ alone-2 (sboxOf x)))
-    (rw (et, es) (sym (at 3 (omega arith) ∙ alone-3 (sboxOf x)))))
-
-pub columns-done : (d₀ d : List ℕ) (x : ℕ) → Front allColumns d₀ d (4 * x) → 256 ≤ x → IsColumns d
-columns-done d₀ d x f h =
-    rw (front-done allColumns d₀ d (4 * x) f (omega (arith, length-allColumns))) (record { size = length-allColumns; rule = allColumns-at })
-
--- ---- an entry, as `aes::entry` reads it
-
-pub entry-is : (t : List ℕ) (x : ℕ) → IsColumns t → x < 256 → wordIn t x ≡ asWord (mixedAlone (sboxOf x))
-unfolding wordIn
-entry-is t x c h = word-same _ (mixedAlone (sboxOf x)) (λ r. c .rule x r h)
-
--- and the S-box's value in it
-pub entry-sub : (t : List ℕ) (x : ℕ) → IsColumns t → x < 256 → getD t (4 * x + 1) 0 ≡ sboxOf x
-entry-sub t x c h = c .rule x 1 h (omega arith) ∙ alone-1 (sboxOf x)
+-- the S-box's value in an entry
+pub entry-sub : (x w : ℕ) → x < 256 → w ≡ columnOf x → octetOf w 1 ≡ sboxOf x
+entry-sub x w h e =
+    ap (λ (v : ℕ). octetOf v 1) e ∙ octet-word (mixedAlone (sboxOf x)) (λ r. alone-lt (sboxOf x) r (sbox-lt x h)) 1 (omega arith) ∙ alone-1 (sboxOf x)

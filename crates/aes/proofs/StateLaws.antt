@@ -1,5 +1,5 @@
 -- Laws of the state: its places, its columns, its size, and that its elements are octets.
-use mathlib.Core.Path.{_≡_, sym, ap, ap₂, _∙_}
+use mathlib.Core.Path.{_≡_, refl, sym, ap, ap₂, _∙_}
 use mathlib.Core.List.{List, [], _∷_}
 use Prim.Native.Nat.{ℕ, zero, suc, _+_, _*_, _/_, _%_, _<_}
 use native.Mathlib.Nat.{add-zero, add-comm}
@@ -13,9 +13,9 @@ use Rattle.octets.specs.Lists.{tab}
 use Rattle.octets.proofs.ListLaws.{length-tab, getD-tab, octets-tab}
 use Rattle.aes.specs.Field.{sboxOf}
 use Rattle.aes.specs.Cipher.{word, cell, subBytes, shiftRows, mixed, mixColumns, addRoundKey, rounds, cipher}
-use Rattle.aes.specs.Prepared.{wordIn, octetOf, octetsIn}
+use Rattle.aes.specs.Prepared.{octetOf, octetsIn}
 use Rattle.aes.proofs.FieldLaws.{mul-lt, sbox-lt}
-use Rattle.aes.proofs.WordLaws.{octet-xor, word-octet, four-at, octets-at, length-octetsIn, octets-octetsIn}
+use Rattle.aes.proofs.WordLaws.{octet-xor, four-at, octets-at, length-octetsIn, octets-octetsIn}
 
 -- ---- sizes
 
@@ -95,30 +95,31 @@ pub shifted-at : (s : List ℕ) (i : ℕ) → i < 16 → octetOf (getD s (5 * i 
 shifted-at s i h = sym (shift-at (octetsIn 4 s) i h ∙ octets-at 4 s (5 * i % 16) (omega arith))
 
 -- the sum of a state and a round key
-module _ (w s : List ℕ) (n a b c d : ℕ) (o : Octets w)
-    (ea : a ≡ wordIn w (4 * n)) (eb : b ≡ wordIn w (4 * n + 1)) (ec : c ≡ wordIn w (4 * n + 2)) (ed : d ≡ wordIn w (4 * n + 3)) where
+module _ (w s : List ℕ) (n : ℕ) (h : n < 15) where
   abbrev sums : List ℕ
-  sums = bitXor (getD s 0 0) a ∷ bitXor (getD s 1 0) b ∷ bitXor (getD s 2 0) c ∷ bitXor (getD s 3 0) d ∷ []
+  sums =
+      bitXor (getD s 0 0) (getD w (4 * n) 0) ∷ bitXor (getD s 1 0) (getD w (4 * n + 1) 0)
+      ∷ bitXor (getD s 2 0) (getD w (4 * n + 2) 0) ∷ bitXor (getD s 3 0) (getD w (4 * n + 3) 0) ∷ []
 
-  sum-at : (q : ℕ) → q < 4 → getD sums q 0 ≡ bitXor (getD s q 0) (wordIn w (4 * n + q))
-  sum-at = four-at (λ q. bitXor (getD s q 0) (wordIn w (4 * n + q))) (rw (ea, add-zero)) (rw eb) (rw ec) (rw ed)
+  sum-at : (q : ℕ) → q < 4 → getD sums q 0 ≡ bitXor (getD s q 0) (getD w (4 * n + q) 0)
+  sum-at = four-at (λ q. bitXor (getD s q 0) (getD w (4 * n + q) 0)) (rw add-zero) refl refl refl
 
-  key-octet : (i : ℕ) → octetOf (wordIn w (4 * n + i / 4)) (i % 4) ≡ getD w (16 * n + i) 0
-  key-octet i =
+  key-octet : (i : ℕ) → i < 16 → octetOf (getD w (4 * n + i / 4) 0) (i % 4) ≡ getD (octetsIn 60 w) (16 * n + i) 0
+  key-octet i l =
       let e : 4 * n + i / 4 ≡ (16 * n + i) / 4 = omega arith in
       let f : i % 4 ≡ (16 * n + i) % 4 = omega arith in
-      rw (e, f) (word-octet w o (16 * n + i))
+      rw (e, f) (sym (octets-at 60 w (16 * n + i) (omega arith)))
 
-  pub key-added : octetsIn 4 sums ≡ addRoundKey w (octetsIn 4 s) n
+  pub key-added : octetsIn 4 sums ≡ addRoundKey (octetsIn 60 w) (octetsIn 4 s) n
   key-added =
-      ext-getD 0 (octetsIn 4 sums) (addRoundKey w (octetsIn 4 s) n) (length-octetsIn 4 sums ∙ sym (length-addRoundKey w (octetsIn 4 s) n))
-      (λ i h.
+      ext-getD 0 (octetsIn 4 sums) (addRoundKey (octetsIn 60 w) (octetsIn 4 s) n) (length-octetsIn 4 sums ∙ sym (length-addRoundKey (octetsIn 60 w) (octetsIn 4 s) n))
+      (λ i l.
       let k : i < 16 = omega (arith, length-octetsIn 4 sums) in
       octets-at 4 sums i k
       ∙ ap (λ (v : ℕ). octetOf v (i % 4)) (sum-at (i / 4) (omega arith))
-      ∙ octet-xor (getD s (i / 4) 0) (wordIn w (4 * n + i / 4)) (i % 4)
-      ∙ ap₂ bitXor (sym (octets-at 4 s i k)) (key-octet i)
-      ∙ addRoundKey-at w (octetsIn 4 s) n i k)
+      ∙ octet-xor (getD s (i / 4) 0) (getD w (4 * n + i / 4) 0) (i % 4)
+      ∙ ap₂ bitXor (sym (octets-at 4 s i k)) (key-octet i k)
+      ∙ addRoundKey-at (octetsIn 60 w) (octetsIn 4 s) n i k)
 
 -- ---- the rounds, as `aes::cipher` makes them
 

@@ -3,7 +3,7 @@
 use mathlib.Core.Path.{_≡_}
 use mathlib.Core.List.{List, [], _∷_}
 use Prim.Native.Nat.{ℕ, _<_, _+_, _*_, _/_, _%_, _^_}
-use lib.ListN.{length, getD, take, drop}
+use lib.ListN.{length, getD, drop}
 use Rattle.octets.specs.Lists.{tab}
 use Rattle.aes.specs.Field.{sboxOf}
 use Rattle.aes.specs.Cipher.{mixed, keyExpansion}
@@ -27,7 +27,10 @@ wordIn x i = asWord (λ r. getD x (4 * i + r) 0)
 unfoldable pub octetOf : ℕ → ℕ → ℕ
 octetOf w r = w / 2 ^ (8 * r) % 256
 
--- the octets of n words
+-- the four octets of a word, and those of n words
+unfoldable pub octetsOf : ℕ → List ℕ
+octetsOf w = tab (octetOf w) 4
+
 unfoldable pub octetsIn : ℕ → List ℕ → List ℕ
 octetsIn n w = tab (λ i. octetOf (getD w (i / 4) 0) (i % 4)) (4 * n)
 
@@ -37,18 +40,18 @@ octetsIn n w = tab (λ i. octetOf (getD w (i / 4) 0) (i % 4)) (4 * n)
 unfoldable pub mixedAlone : ℕ → ℕ → ℕ
 mixedAlone v r = mixed (v ∷ 0 ∷ 0 ∷ 0 ∷ []) r 0
 
--- t is these columns as a table: octets 4 x to 4 x + 3 are the column of the S-box's value at x
+-- t is these columns as a table: word x is the column of the S-box's value at x
 pub record IsColumns (t : List ℕ) : Type 0 where
-  pub size : length t ≡ 1024
-  pub rule : (x r : ℕ) → x < 256 → r < 4 → getD t (4 * x + r) 0 ≡ mixedAlone (sboxOf x) r
+  pub size : length t ≡ 256
+  pub rule : (x : ℕ) → x < 256 → getD t x 0 ≡ asWord (mixedAlone (sboxOf x))
 
--- ---- the prepared key
+-- ---- the prepared key, in words
 
 -- the key that was prepared: it is the first eight words of its schedule (5.2)
 unfoldable pub keyOf : List ℕ → List ℕ
-keyOf p = take 32 p
+keyOf p = octetsIn 8 p
 
 -- the key's schedule, and the columns
 pub record Prepared (p : List ℕ) : Type 0 where
-  pub schedule : take 240 p ≡ keyExpansion (keyOf p)
-  pub columns : IsColumns (drop 240 p)
+  pub schedule : octetsIn 60 p ≡ keyExpansion (keyOf p)
+  pub columns : IsColumns (drop 60 p)

@@ -6,15 +6,13 @@ ghost use Prim.Native.Nat.{_+_, _*_, _/_, _%_, _^_, _-_, _<_, _≤_};
 ghost use lib.Bits.{bitOr};
 ghost use lib.ListN.{length, getD};
 ghost use Rattle.aes.specs.Field.{sboxOf, xtime as xtimeOf};
-ghost use Rattle.aes.specs.Cipher.{word, subBytes, shiftRows, mixColumns, addRoundKey, cipher as cipherOf, xors, rconOf, rotWord, subWord, temp as tempOf, nextWord, keyExpansion, aes};
-ghost use Rattle.aes.specs.Prepared.{IsSbox, asWord, wordIn, octetOf, octetsIn, mixedAlone, IsColumns, keyOf, Prepared};
+ghost use Rattle.aes.specs.Cipher.{subBytes, shiftRows, mixColumns, addRoundKey, cipher as cipherOf, rconOf, rotWord, subWord, temp as tempOf, nextWord, keyExpansion, aes};
+ghost use Rattle.aes.specs.Prepared.{IsSbox, asWord, wordIn, octetOf, octetsOf, octetsIn, mixedAlone, IsColumns, keyOf, Prepared};
 
-// Where the parts of a prepared key stand: its schedule, and the columns.
-const AT_SCHEDULE: usize = 0;
+// Where the parts of a prepared key stand, in words: its schedule, and the columns.
+const AT_COLUMNS: usize = 60;
 
-const AT_COLUMNS: usize = AT_SCHEDULE + 240;
-
-const END: usize = AT_COLUMNS + 1024;
+const END: usize = AT_COLUMNS + 256;
 
 // The S-box. A constant that is indexed is made anew at each read, so this is called once.
 fn sbox() -> [u8; 256]
@@ -30,27 +28,23 @@ fn xtime(b: u8) -> u8
     (b << 1) ^ ((b >> 7) * 0x1b)
 }
 
-// SubBytes and MixColumns of each octet alone, which a round's columns are sums of.
-fn columns(sbox: &[u8], o: &mut [u8])
-    requires { ⌜ IsSbox (now sbox) × (length (now o) ≡ 1024) ⌝ }
-    ensures { λ _. ⌜ IsColumns (now (o .exit)) ⌝ }
-{
-    for x in 0..256usize {
-        let s = sbox[x];
-        let d = xtime(s);
-        let i = 4 * x;
-        o[i] = d;
-        o[i + 1] = s;
-        o[i + 2] = s;
-        o[i + 3] = s ^ d;
-    }
-}
-
 // Four octets as a word, the first lowest. Of neighbours the compiler makes one load.
 fn as_word(a: u8, b: u8, c: u8, d: u8) -> u32
     ensures { λ r. ⌜ r ≡ a + 256 * b + 65536 * c + 16777216 * d ⌝ }
 {
     a as u32 + 256 * (b as u32) + 65536 * (c as u32) + 16777216 * (d as u32)
+}
+
+// SubBytes and MixColumns of each octet alone, which a round's columns are sums of.
+fn columns(sbox: &[u8], o: &mut [u32])
+    requires { ⌜ IsSbox (now sbox) × (length (now o) ≡ 256) ⌝ }
+    ensures { λ _. ⌜ IsColumns (now (o .exit)) ⌝ }
+{
+    for x in 0..256usize {
+        let s = sbox[x];
+        let d = xtime(s);
+        o[x] = as_word(d, s, s, s ^ d);
+    }
 }
 
 // Word i of octets.
@@ -102,20 +96,20 @@ fn shifted(s: &[u32; 4], i: usize) -> u8
     octet(s[k / 4], k % 4)
 }
 
-// The columns' entry for x, as a word.
-fn entry(columns: &[u8], x: u8) -> u32
+// The columns' entry for x.
+fn entry(columns: &[u32], x: u8) -> u32
     requires { ⌜ IsColumns (now columns) ⌝ }
     ensures { λ r. ⌜ r ≡ asWord (mixedAlone (sboxOf x)) ⌝ }
 {
-    word_in(columns, x as usize)
+    columns[x as usize]
 }
 
 // The S-box's value at x, which its entry has in two of its rows.
-fn substituted(columns: &[u8], x: u8) -> u8
+fn substituted(columns: &[u32], x: u8) -> u8
     requires { ⌜ IsColumns (now columns) ⌝ }
     ensures { λ r. ⌜ r ≡ sboxOf x ⌝ }
 {
-    columns[4 * x as usize + 1]
+    octet(entry(columns, x), 1)
 }
 
 // A word rotated by n bits, of which eight are a row.
@@ -127,7 +121,7 @@ fn rotated(w: u32, n: u32) -> u32
 }
 
 // Column q of the state after SubBytes, ShiftRows and MixColumns: the sum of its four octets' entries, each rotated to its row.
-fn mixed_column(columns: &[u8], s: &[u32; 4], q: usize) -> u32
+fn mixed_column(columns: &[u32], s: &[u32; 4], q: usize) -> u32
     requires { ⌜ IsColumns (now columns) ⌝ }
     requires { ⌜ q < 4 ⌝ }
     ensures { λ r. ⌜ r ≡ wordIn (mixColumns (shiftRows (subBytes (octetsIn 4 (now (s .entry)))))) q ⌝ }
@@ -140,7 +134,7 @@ fn mixed_column(columns: &[u8], s: &[u32; 4], q: usize) -> u32
 }
 
 // Column q of the state after SubBytes and ShiftRows.
-fn shifted_column(columns: &[u8], s: &[u32; 4], q: usize) -> u32
+fn shifted_column(columns: &[u32], s: &[u32; 4], q: usize) -> u32
     requires { ⌜ IsColumns (now columns) ⌝ }
     requires { ⌜ q < 4 ⌝ }
     ensures { λ r. ⌜ r ≡ wordIn (shiftRows (subBytes (octetsIn 4 (now (s .entry))))) q ⌝ }
@@ -155,24 +149,24 @@ fn shifted_column(columns: &[u8], s: &[u32; 4], q: usize) -> u32
 }
 
 // AddRoundKey (5.1.4).
-fn add_round_key(schedule: &[u8], s: &[u32; 4], n: usize) -> [u32; 4]
-    requires { ⌜ (length (now schedule) ≡ 240) × (n < 15) ⌝ }
-    ensures { λ r. ⌜ octetsIn 4 r ≡ addRoundKey (now (schedule .entry)) (octetsIn 4 (now (s .entry))) n ⌝ }
+fn add_round_key(schedule: &[u32], s: &[u32; 4], n: usize) -> [u32; 4]
+    requires { ⌜ (length (now schedule) ≡ 60) × (n < 15) ⌝ }
+    ensures { λ r. ⌜ octetsIn 4 r ≡ addRoundKey (octetsIn 60 (now (schedule .entry))) (octetsIn 4 (now (s .entry))) n ⌝ }
 {
     let k = 4 * n;
     [
-        s[0] ^ word_in(schedule, k),
-        s[1] ^ word_in(schedule, k + 1),
-        s[2] ^ word_in(schedule, k + 2),
-        s[3] ^ word_in(schedule, k + 3),
+        s[0] ^ schedule[k],
+        s[1] ^ schedule[k + 1],
+        s[2] ^ schedule[k + 2],
+        s[3] ^ schedule[k + 3],
     ]
 }
 
 // A round before the last (5.1).
-fn round(columns: &[u8], schedule: &[u8], s: &[u32; 4], n: usize) -> [u32; 4]
+fn round(columns: &[u32], schedule: &[u32], s: &[u32; 4], n: usize) -> [u32; 4]
     requires { ⌜ IsColumns (now columns) ⌝ }
-    requires { ⌜ (length (now schedule) ≡ 240) × (n < 15) ⌝ }
-    ensures { λ r. ⌜ octetsIn 4 r ≡ addRoundKey (now (schedule .entry)) (mixColumns (shiftRows (subBytes (octetsIn 4 (now (s .entry)))))) n ⌝ }
+    requires { ⌜ (length (now schedule) ≡ 60) × (n < 15) ⌝ }
+    ensures { λ r. ⌜ octetsIn 4 r ≡ addRoundKey (octetsIn 60 (now (schedule .entry))) (mixColumns (shiftRows (subBytes (octetsIn 4 (now (s .entry)))))) n ⌝ }
 {
     let t = [
         mixed_column(columns, s, 0),
@@ -184,10 +178,10 @@ fn round(columns: &[u8], schedule: &[u8], s: &[u32; 4], n: usize) -> [u32; 4]
 }
 
 // The last round, which mixes no columns.
-fn last_round(columns: &[u8], schedule: &[u8], s: &[u32; 4]) -> [u32; 4]
+fn last_round(columns: &[u32], schedule: &[u32], s: &[u32; 4]) -> [u32; 4]
     requires { ⌜ IsColumns (now columns) ⌝ }
-    requires { ⌜ length (now schedule) ≡ 240 ⌝ }
-    ensures { λ r. ⌜ octetsIn 4 r ≡ addRoundKey (now (schedule .entry)) (shiftRows (subBytes (octetsIn 4 (now (s .entry))))) 14 ⌝ }
+    requires { ⌜ length (now schedule) ≡ 60 ⌝ }
+    ensures { λ r. ⌜ octetsIn 4 r ≡ addRoundKey (octetsIn 60 (now (schedule .entry))) (shiftRows (subBytes (octetsIn 4 (now (s .entry))))) 14 ⌝ }
 {
     let t = [
         shifted_column(columns, s, 0),
@@ -199,10 +193,10 @@ fn last_round(columns: &[u8], schedule: &[u8], s: &[u32; 4]) -> [u32; 4]
 }
 
 // The cipher under a key schedule (5.1), in place.
-fn cipher(columns: &[u8], schedule: &[u8], block: &mut [u8])
+fn cipher(columns: &[u32], schedule: &[u32], block: &mut [u8])
     requires { ⌜ IsColumns (now columns) ⌝ }
-    requires { ⌜ (length (now schedule) ≡ 240) × (length (now block) ≡ 16) ⌝ }
-    ensures { λ _. ⌜ now (block .exit) ≡ cipherOf (now (schedule .entry)) (now (block .entry)) ⌝ }
+    requires { ⌜ (length (now schedule) ≡ 60) × (length (now block) ≡ 16) ⌝ }
+    ensures { λ _. ⌜ now (block .exit) ≡ cipherOf (octetsIn 60 (now (schedule .entry))) (now (block .entry)) ⌝ }
 {
     let mut s = add_round_key(schedule, &state_of(block), 0);
     for n in 0..13 {
@@ -212,15 +206,11 @@ fn cipher(columns: &[u8], schedule: &[u8], block: &mut [u8])
 }
 
 // Enciphers a block in place, under the key that was prepared.
-pub fn encipher(prepared: &[u8], block: &mut [u8])
+pub fn encipher(prepared: &[u32], block: &mut [u8])
     requires { ⌜ Prepared (now prepared) × (length (now block) ≡ 16) ⌝ }
     ensures { λ _. ⌜ now (block .exit) ≡ aes (keyOf (now (prepared .entry))) (now (block .entry)) ⌝ }
 {
-    cipher(
-        &prepared[AT_COLUMNS..END],
-        &prepared[AT_SCHEDULE..AT_COLUMNS],
-        block,
-    );
+    cipher(&prepared[AT_COLUMNS..END], &prepared[..AT_COLUMNS], block);
 }
 
 // The first octet of round constant n, {02} to the n - 1, which none of these n has to reduce.
@@ -231,10 +221,10 @@ fn rcon(n: usize) -> u8
     1 << (n - 1)
 }
 
-fn rot_word(t: &[u8; 4]) -> [u8; 4]
-    ensures { λ r. ⌜ r ≡ rotWord (now (t .entry)) ⌝ }
+fn rot_word(t: u32) -> u32
+    ensures { λ r. ⌜ octetsOf r ≡ rotWord (octetsOf t) ⌝ }
 {
-    [t[1], t[2], t[3], t[0]]
+    rotated(t, 24)
 }
 
 fn sub_byte(sbox: &[u8], x: u8) -> u8
@@ -244,89 +234,72 @@ fn sub_byte(sbox: &[u8], x: u8) -> u8
     sbox[x as usize]
 }
 
-fn sub_word(sbox: &[u8], t: &[u8; 4]) -> [u8; 4]
+fn sub_word(sbox: &[u8], t: u32) -> u32
     requires { ⌜ IsSbox (now sbox) ⌝ }
-    ensures { λ r. ⌜ r ≡ subWord (now (t .entry)) ⌝ }
+    ensures { λ r. ⌜ octetsOf r ≡ subWord (octetsOf t) ⌝ }
 {
-    let mut o = [0u8; 4];
-    for i in 0..4 {
-        o[i] = sub_byte(sbox, t[i]);
-    }
-    o
+    as_word(
+        sub_byte(sbox, octet(t, 0)),
+        sub_byte(sbox, octet(t, 1)),
+        sub_byte(sbox, octet(t, 2)),
+        sub_byte(sbox, octet(t, 3)),
+    )
 }
 
 // What is added to word i - 8 to make word i, where t is word i - 1.
-fn temp(sbox: &[u8], t: &[u8; 4], i: usize) -> [u8; 4]
+fn temp(sbox: &[u8], t: u32, i: usize) -> u32
     requires { ⌜ IsSbox (now sbox) ⌝ }
     requires { ⌜ (8 ≤ i) × (i < 60) ⌝ }
-    ensures { λ r. ⌜ r ≡ tempOf (now (t .entry)) i ⌝ }
+    ensures { λ r. ⌜ octetsOf r ≡ tempOf (octetsOf t) i ⌝ }
 {
     if i % 8 == 0 {
-        let u = rot_word(t);
-        let mut v = sub_word(sbox, &u);
-        v[0] = v[0] ^ rcon(i / 8);
-        return v;
+        return sub_word(sbox, rot_word(t)) ^ (rcon(i / 8) as u32);
     }
     if i % 8 == 4 {
         return sub_word(sbox, t);
     }
-    *t
-}
-
-// Word i of a schedule.
-fn word_at(w: &[u8], i: usize) -> [u8; 4]
-    requires { ⌜ (length (now w) ≡ 240) × (i < 60) ⌝ }
-    ensures { λ r. ⌜ r ≡ word (now (w .entry)) i ⌝ }
-{
-    let mut o = [0u8; 4];
-    for k in 0..4 {
-        o[k] = w[4 * i + k];
-    }
-    o
-}
-
-fn add_words(a: &[u8; 4], b: &[u8; 4]) -> [u8; 4]
-    ensures { λ r. ⌜ r ≡ xors (now (a .entry)) (now (b .entry)) ⌝ }
-{
-    let mut o = [0u8; 4];
-    for i in 0..4 {
-        o[i] = a[i] ^ b[i];
-    }
-    o
+    t
 }
 
 // Word i, made of the words before it.
-fn next_word(sbox: &[u8], w: &[u8], i: usize) -> [u8; 4]
+fn next_word(sbox: &[u8], w: &[u32], i: usize) -> u32
     requires { ⌜ IsSbox (now sbox) ⌝ }
-    requires { ⌜ (length (now w) ≡ 240) × (8 ≤ i) × (i < 60) ⌝ }
-    ensures { λ r. ⌜ r ≡ nextWord (now (w .entry)) i ⌝ }
+    requires { ⌜ (length (now w) ≡ 60) × (8 ≤ i) × (i < 60) ⌝ }
+    ensures { λ r. ⌜ octetsOf r ≡ nextWord (octetsIn i (now (w .entry))) i ⌝ }
 {
-    let t = temp(sbox, &word_at(w, i - 1), i);
-    add_words(&word_at(w, i - 8), &t)
+    w[i - 8] ^ temp(sbox, w[i - 1], i)
 }
 
-// The key schedule of a key (5.2), whose first eight words are the key.
-fn key_expansion(sbox: &[u8], key: &[u8], w: &mut [u8])
-    requires { ⌜ IsSbox (now sbox) ⌝ }
-    requires { ⌜ (length (now key) ≡ 32) × (length (now w) ≡ 240) ⌝ }
-    ensures { λ _. ⌜ now (w .exit) ≡ keyExpansion (now (key .entry)) ⌝ }
+// The words of a key, the first eight of its schedule.
+fn key_words(key: &[u8], w: &mut [u32])
+    requires { ⌜ (length (now key) ≡ 32) × (length (now w) ≡ 60) ⌝ }
+    ensures { λ _. ⌜ octetsIn 8 (now (w .exit)) ≡ now (key .entry) ⌝ }
 {
-    octets::copy(key, &mut w[..32]);
+    for i in 0..8 {
+        w[i] = word_in(key, i);
+    }
+}
+
+// The key schedule of a key (5.2).
+fn key_expansion(sbox: &[u8], key: &[u8], w: &mut [u32])
+    requires { ⌜ IsSbox (now sbox) ⌝ }
+    requires { ⌜ (length (now key) ≡ 32) × (length (now w) ≡ 60) ⌝ }
+    ensures { λ _. ⌜ octetsIn 60 (now (w .exit)) ≡ keyExpansion (now (key .entry)) ⌝ }
+{
+    key_words(key, w);
     for i in 8..60 {
-        let v = next_word(sbox, w, i);
-        let a = 4 * i;
-        octets::copy(&v, &mut w[a..a + 4]);
+        w[i] = next_word(sbox, w, i);
     }
 }
 
 // Prepares a key: all that depends on no block is made here, once.
-pub fn prepare(key: &[u8]) -> [u8; END]
+pub fn prepare(key: &[u8]) -> [u32; END]
     requires { ⌜ length (now key) ≡ 32 ⌝ }
     ensures { λ r. ⌜ Prepared r × (keyOf r ≡ now (key .entry)) ⌝ }
 {
     let sbox = sbox();
-    let mut prepared = [0u8; END];
-    key_expansion(&sbox, key, &mut prepared[AT_SCHEDULE..AT_COLUMNS]);
+    let mut prepared = [0u32; END];
+    key_expansion(&sbox, key, &mut prepared[..AT_COLUMNS]);
     columns(&sbox, &mut prepared[AT_COLUMNS..END]);
     prepared
 }

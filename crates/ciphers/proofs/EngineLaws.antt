@@ -26,10 +26,10 @@ fed-back E F e r v u m w from l q p =
     ∙ octetsFrom-same m (λ k. feedback E (8 * length v) v (from + k)) (λ k. feedback F w u (from + k))
     (λ k. rw (q, l) (feedback-same E F w u e (from + k)))
 
-pub by-des : (key prepared : List ℕ) → forDes.keyOf prepared ≡ take 8 key → (block : List ℕ) → blockBy Des prepared block ≡ des key block
+pub by-des : (key octets words : List ℕ) → forDes.keyOf octets ≡ take 8 key → (block : List ℕ) → blockBy Des octets words block ≡ des key block
 unfolding blockBy
-by-des key prepared e block = ap (λ (k : List ℕ). des k block) e ∙ first-eight key block
+by-des key octets words e block = ap (λ (k : List ℕ). des k block) e ∙ first-eight key block
 
-pub by-aes : (key prepared : List ℕ) → forAes.keyOf prepared ≡ key → (block : List ℕ) → blockBy Aes prepared block ≡ aes key block
+pub by-aes : (key octets words : List ℕ) → forAes.keyOf words ≡ key → (block : List ℕ) → blockBy Aes octets words block ≡ aes key block
 unfolding blockBy
-by-aes key prepared e block = ap (λ (k : List ℕ). aes k block) e
+by-aes key octets words e block = ap (λ (k : List ℕ). aes k block) e

@@ -9,10 +9,10 @@ use Rattle.sizes.specs.Ciphers.{blockBits}
 use Rattle.ciphers.specs.declared.feedback.Engine.{Engine}
 use Rattle.ciphers.specs.declared.feedback.Engine.the-variants.{Des, Aes}
 
--- the key was prepared for the engine
-abbrev pub PreparedFor : Engine → List ℕ → Type 0
-PreparedFor Des p = forDes.Prepared p
-PreparedFor Aes p = forAes.Prepared p
+-- the key was prepared for the engine: in the octets for DES, in the words for AES
+abbrev pub PreparedFor : Engine → List ℕ → List ℕ → Type 0
+PreparedFor Des octets words = forDes.Prepared octets
+PreparedFor Aes octets words = forAes.Prepared words
 
 -- its block's octets
 abbrev pub blockOctets : Engine → ℕ
@@ -20,6 +20,6 @@ blockOctets Des = blockBits 2 / 8
 blockOctets Aes = blockBits 3 / 8
 
 -- a block under that key
-unfoldable pub blockBy : Engine → List ℕ → List ℕ → List ℕ
-blockBy Des p block = des (forDes.keyOf p) block
-blockBy Aes p block = aes (forAes.keyOf p) block
+unfoldable pub blockBy : Engine → List ℕ → List ℕ → List ℕ → List ℕ
+blockBy Des octets words block = des (forDes.keyOf octets) block
+blockBy Aes octets words block = aes (forAes.keyOf words) block

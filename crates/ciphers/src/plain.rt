@@ -22,7 +22,7 @@ fn des_stream(key: [u8; KEY_ROOM], vector: [u8; VECTOR_OCTETS], from: usize, out
 {
     let prepared = des::prepare(&key[..Des::KEY_OCTETS]);
     let mut block: [u8; Des::BLOCK_BITS / 8] = vector;
-    feed_back(Engine::Des, &prepared, &mut block, from, out);
+    feed_back(Engine::Des, &prepared, &[], &mut block, from, out);
 }
 
 fn aes_stream(key: [u8; KEY_ROOM], vector: [u8; VECTOR_OCTETS], from: usize, out: &mut [u8])
@@ -30,7 +30,7 @@ fn aes_stream(key: [u8; KEY_ROOM], vector: [u8; VECTOR_OCTETS], from: usize, out
 {
     let prepared = aes::prepare(&key);
     let mut block: [u8; Aes::BLOCK_BITS / 8] = generator::aes_vector(&vector);
-    feed_back(Engine::Aes, &prepared, &mut block, from, out);
+    feed_back(Engine::Aes, &[], &prepared, &mut block, from, out);
 }
 
 // The bits of a session from octet `from` on. The key's own octets come first in `key`.

@@ -10,7 +10,7 @@ use Rattle.aes.proofs.cipher.Statement.{statement}
 use Rattle.aes.proofs.cipher.Tie as tie
 
 abbrev Inv-loop : tie.InvT-loop
-Inv-loop columns schedule block s₀ n₀ s n = (n ≤ 13) × (octetsIn 4 s ≡ rounds schedule block n)
+Inv-loop columns schedule block s₀ n₀ s n = (n ≤ 13) × (octetsIn 4 s ≡ rounds (octetsIn 60 schedule) block n)
 
 abbrev μ-loop : tie.MeasureT-loop
 μ-loop columns schedule block s₀ n₀ s n = 13 - n

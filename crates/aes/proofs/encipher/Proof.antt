@@ -1,27 +1,25 @@
 -- `aes::encipher` meets its contract.
-use mathlib.Core.Path.{ap, _∙_}
+use mathlib.Core.Path.{sym, ap, _∙_}
 use mathlib.Core.List.{List}
 use Prim.Native.Nat.{ℕ}
 use native.Mathlib.Omega.{arith}
 use borrow.Author.Needs.{needs}
 use denote.Ref.{now}
 use Rattle.aes.specs.Cipher.{cipher as cipherOf, aes}
-use Rattle.aes.proofs.PreparedLaws.{within, columns-part, length-schedule}
+use Rattle.aes.proofs.PreparedLaws.{within, columns-part, length-schedule, schedule-part}
 use Rattle.aes.proofs.encipher.Statement.{statement}
 use Rattle.aes.proofs.encipher.Tie as tie
 
-part-cipher-end : tie.Need-part-cipher-end
-part-cipher-end c = within _ (c .before .before .pre .0) (omega arith)
-
-part-cipher-end-2 : tie.Need-part-cipher-end-2
-part-cipher-end-2 c = within _ (c .before .before .before .pre .0) (omega arith)
-
 cipher-requires : tie.Need-cipher-requires
-cipher-requires c κs = (columns-part _ (c .before .before .before .before .before .pre .0), (length-schedule _ (c .before .before .before .before .before .pre .0), search needs))
+cipher-requires c κs =
+    let is = c .before .before .before .before .before .pre .0 in
+    (columns-part _ is, (length-schedule _ is, search needs))
 
 returns : tie.Need-returns
 unfolding aes
-returns c = c .before .before .cipher .ensures ∙ ap (λ (w : List ℕ). cipherOf w (now (c .before .before .before .before .before .before .before .before .args .block))) (c .before .before .before .before .before .before .before .before .pre .0 .schedule)
+returns c =
+    let at = c .before .before .before .before .before .before .before .before in
+    c .before .before .cipher .ensures ∙ ap (λ (w : List ℕ). cipherOf w (now (at .args .block))) (schedule-part _ (at .pre .0))
 
 pub encipher-spec : {M : Type 1} → statement M
 encipher-spec =
@@ -29,10 +27,8 @@ encipher-spec =
     (tie.spec
     (λ c. search needs)
     (λ c. search needs)
-    part-cipher-end
-    (λ c. search needs)
-    (λ c. search needs)
-    part-cipher-end-2
+    (λ c. within _ (c .before .before .pre .0) (omega arith))
+    (λ c. sym (length-schedule _ (c .before .before .before .before .pre .0)))
     cipher-requires
     (λ c. search needs)
     returns)

@@ -1,17 +1,18 @@
 -- `aes::prepare` meets its contract.
 use mathlib.Core.Path.{refl}
 use borrow.Author.Needs.{needs}
-use denote.Ref.{now}
 use lib.ListN.{replicate}
 use Rattle.aes.proofs.PreparedLaws.{put-long, put-all}
 use Rattle.aes.proofs.prepare.Statement.{statement}
 use Rattle.aes.proofs.prepare.Tie as tie
 
-part-prepared-end-2 : tie.Need-part-prepared-end-2
-part-prepared-end-2 c = put-long (replicate 1264 0) (now (c .before .before .before .before .before .before .before .args .key)) _ refl (c .before .before .before .before .before .before .before .pre) (c .before .before .key-expansion .ensures)
+part-prepared-end : tie.Need-part-prepared-end
+part-prepared-end c = put-long (replicate 316 0) (c .before .before .key-expansion .last .1 .1 .0) refl (search needs)
 
 returns : tie.Need-returns
-returns c = put-all (replicate 1264 0) (now (c .before .before .before .before .before .before .before .before .before .before .args .key)) _ refl (c .before .before .before .before .before .before .before .before .before .before .pre) (c .before .before .before .before .before .key-expansion .ensures) _ (c .before .columns .ensures) _ refl
+returns c =
+    put-all (replicate 316 0) _ refl (search needs) _ (c .before .before .before .before .before .before .before .before .before .before .pre)
+    (c .before .before .before .before .before .key-expansion .ensures) _ (c .before .columns .ensures) _ refl
 
 pub prepare-spec : {M : Type 1} → statement M
 prepare-spec =
@@ -21,11 +22,10 @@ prepare-spec =
     (λ c. search needs)
     (λ c. search needs)
     (λ c. search needs)
-    (λ c. search needs)
     (λ c κs. search needs)
     (λ c. search needs)
     (λ c. search needs)
     (λ c. search needs)
-    part-prepared-end-2
+    part-prepared-end
     (λ c κs. search needs)
     returns)

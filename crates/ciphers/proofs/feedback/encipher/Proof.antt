@@ -5,10 +5,10 @@ use Rattle.ciphers.proofs.feedback.encipher.Statement.{statement}
 use Rattle.ciphers.proofs.feedback.encipher.Tie as tie
 
 encipher-requires : tie.Need-encipher-requires
-encipher-requires c κs = let q = c .before .enum-told .given .1 in (rw q at (c .before .before .before .before .before .pre .0), rw q at (c .before .before .before .before .before .pre .1))
+encipher-requires c κs = let q = c .before .enum-told .given .1 in (rw q at (c .before .before .before .before .before .before .pre .0), rw q at (c .before .before .before .before .before .before .pre .1))
 
 encipher-requires-2 : tie.Need-encipher-requires-2
-encipher-requires-2 c κs = let q = c .before .enum-told2 .given .1 in (rw q at (c .before .before .before .before .before .pre .0), rw q at (c .before .before .before .before .before .pre .1))
+encipher-requires-2 c κs = let q = c .before .enum-told2 .given .1 in (rw q at (c .before .before .before .before .before .before .pre .0), rw q at (c .before .before .before .before .before .before .pre .1))
 
 returns : tie.Need-returns
 unfolding blockBy

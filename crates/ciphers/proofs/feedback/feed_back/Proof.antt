@@ -14,25 +14,25 @@ use Rattle.ciphers.proofs.feedback.feed_back.Tie as tie
 
 -- the loop begins with the block after `skip`, of whichever vector that comes
 abbrev Inv-loop : tie.InvT-loop
-Inv-loop engine prepared block₀ from out₀ size at₀ i₀ block out at i =
+Inv-loop engine octets words block₀ from out₀ size at₀ i₀ block out at i =
     (length out ≡ length out₀) × (i ≤ length out₀) × (at < size) × (length block ≡ size)
-    × ((vector : List ℕ) → block₀ ≡ iterate (blockBy engine prepared) (from / size + 1) vector → Fed (blockBy engine prepared) (λ b. b) vector size from out₀ out block at i)
+    × ((vector : List ℕ) → block₀ ≡ iterate (blockBy engine octets words) (from / size + 1) vector → Fed (blockBy engine octets words) (λ b. b) vector size from out₀ out block at i)
 
 abbrev μ-loop : tie.MeasureT-loop
-μ-loop engine prepared block₀ from out₀ size at₀ i₀ block out at i = length out₀ - i
+μ-loop engine octets words block₀ from out₀ size at₀ i₀ block out at i = length out₀ - i
 
 div-skip : tie.Need-div-skip Inv-loop μ-loop
-div-skip c = let a = c .before .before .before .before in omega (arith, wide-bounds _ (wide (a .args .engine) _ (a .pre .1)))
+div-skip c = let a = c .before .before .before .before .before in omega (arith, wide-bounds _ (wide (a .args .engine) _ (a .pre .1)))
 
 add-skip : tie.Need-add-skip Inv-loop μ-loop
-add-skip c = let a = c .before .before .before .before in record { fits = omega (arith, block-le _ (a .args .from) (wide (a .args .engine) _ (a .pre .1))) }
+add-skip c = let a = c .before .before .before .before .before in record { fits = omega (arith, block-le _ (a .args .from) (wide (a .args .engine) _ (a .pre .1))) }
 
 rem-at : tie.Need-rem-at Inv-loop μ-loop
-rem-at c = let a = c .before .before .before .before .before .before .before in omega (arith, wide-bounds _ (wide (a .args .engine) _ (a .pre .1)))
+rem-at c = let a = c .before .before .before .before .before .before .before .before in omega (arith, wide-bounds _ (wide (a .args .engine) _ (a .pre .1)))
 
 loop-holds : tie.Need-loop-holds Inv-loop μ-loop
 loop-holds c =
-    let a = c .before .before .before .before .before .before .before in
+    let a = c .before .before .before .before .before .before .before .before in
     (refl, omega arith, place-lt _ (a .args .from) (wide (a .args .engine) _ (a .pre .1)), search needs, λ vector e. fed-start {A = List ℕ} _ _ _ _ _ _ _ e)
 
 less : tie.Need-loop-less Inv-loop μ-loop
@@ -45,7 +45,7 @@ loop-again : tie.Need-loop-again Inv-loop μ-loop
 loop-again c =
     let d = c .before .before .before .before .before .before in
     let e = d .before .before .before .before .before .before in
-    let a = e .before .before .before .before .before .before .before .before in (
+    let a = e .before .before .before .before .before .before .before .before .before in (
       search needs,
       search needs,
       search needs,

@@ -11,11 +11,11 @@ use Rattle.ciphers.proofs.feedback.skip.Statement.{statement}
 use Rattle.ciphers.proofs.feedback.skip.Tie as tie
 
 abbrev Inv-loop : tie.InvT-loop
-Inv-loop engine prepared block₀ n i₀ block i =
-    (i ≤ n) × (length block ≡ length block₀) × (block ≡ iterate (blockBy engine prepared) i block₀)
+Inv-loop engine octets words block₀ n i₀ block i =
+    (i ≤ n) × (length block ≡ length block₀) × (block ≡ iterate (blockBy engine octets words) i block₀)
 
 abbrev μ-loop : tie.MeasureT-loop
-μ-loop engine prepared block₀ n i₀ block i = n - i
+μ-loop engine octets words block₀ n i₀ block i = n - i
 
 loop-holds : tie.Need-loop-holds Inv-loop μ-loop
 unfolding iterate
@@ -33,13 +33,13 @@ loop-less c = search needs
 loop-again : tie.Need-loop-again Inv-loop μ-loop
 unfolding iterate
 loop-again c =
-    (search needs, search needs, c .before .before .encipher .ensures ∙ rw add-one (ap (blockBy _ _) (c .before .before .before .before .before .loop .inv .2)))
+    (search needs, search needs, c .before .before .encipher .ensures ∙ rw add-one (ap (blockBy _ _ _) (c .before .before .before .before .before .loop .inv .2)))
 
 same-length : tie.Need-same-length Inv-loop μ-loop
 same-length c = search needs
 
 returns : tie.Need-returns Inv-loop μ-loop
-returns c = let e : c .before .loop .i ≡ c .before .before .before .before .args .n = omega arith in rw e at (c .before .loop .inv .2)
+returns c = let e : c .before .loop .i ≡ c .before .before .before .before .before .args .n = omega arith in rw e at (c .before .loop .inv .2)
 
 pub skip-spec : {M : Type 1} → statement M
 skip-spec =
