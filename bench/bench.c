@@ -18,6 +18,7 @@ void timed_session(bool plain, octet cipher, const octet *key, size_t key_len, c
 
 void timed_message(octet cipher, const octet *key, size_t key_len, const octet *vector, size_t vector_len, unsigned short count, octet *message, size_t message_len);
 void timed_messages(octet cipher, const octet *key, size_t key_len, const octet *vector, size_t vector_len, octet *stream, size_t stream_len, octet *message, size_t message_len, size_t n);
+void timed_session_slots(octet cipher, const octet *key, size_t key_len, octet rate, const octet *vector, size_t vector_len, octet *frame, size_t frame_len, size_t n);
 
 enum { MESSAGES = 1000, PACKET_BATCHES = 10, DCALL_OCTETS = 22, PROTECTED_OCTETS = 20, BATCHES = 40, BLOCKS = 2000, STREAM_OCTETS = 8 * BLOCKS, SESSIONS = 200, SESSION_OCTETS = 196, SCRAMBLE_OCTETS = 98 };
 
@@ -46,11 +47,8 @@ static void openssl_aes(octet *block, size_t n) {
 }
 
 /* Output feedback as NXDN has it: the first enciphered block is not used. */
-static void openssl_stream(int cipher, octet *out, int octets) {
-    octet block[16];
+static void openssl_feed_back(int cipher, octet *block, octet *out, int octets) {
     int width = cipher == 2 ? 8 : 16, at;
-    memcpy(block, seed, 8);
-    memcpy(block + 8, after_seed, 8);
     DES_key_schedule ks;
     AES_KEY k;
     if (cipher == 2) DES_set_key_unchecked((const_DES_cblock *)des_key, &ks);
@@ -60,6 +58,13 @@ static void openssl_stream(int cipher, octet *out, int octets) {
         else AES_encrypt(block, block, &k);
         if (at >= 0) memcpy(out + at, block, at + width <= octets ? width : octets - at);
     }
+}
+
+static void openssl_stream(int cipher, octet *out, int octets) {
+    octet block[16];
+    memcpy(block, seed, 8);
+    memcpy(block + 8, after_seed, 8);
+    openssl_feed_back(cipher, block, out, octets);
 }
 
 static void openssl_session(int cipher, octet *out) { openssl_stream(cipher, out, SESSION_OCTETS); }
@@ -146,6 +151,66 @@ static double per_session(void (*run)(int, octet *), int cipher, octet *out) {
     return best;
 }
 
+/* Slots of all words in a call that goes on from session to session with the generator's next vector, in memory: the keystream of each made once, its words
+   turned. Ours is slotcheck's and nxdn_batch's, with all that a call tests and counts; the other is plain C over OpenSSL. */
+enum { HALF, FULL, SLOTS = 8000 };
+static const int widths[] = {49, 72}, word_octets[] = {7, 9};
+
+static void our_slots(int cipher, int rate, octet *frame) {
+    octet key[32] = {0}, vector[8] = {0};
+    key_of(cipher, key);
+    if (cipher != 1) memcpy(vector, seed, 8);
+    timed_session_slots(cipher, key, 32, rate, vector, 8, frame, 4 * word_octets[rate], SLOTS);
+}
+
+static unsigned long long following(unsigned long long r) {
+    for (int i = 0; i < 64; i++) r = r << 1 | ((r >> 63 ^ r >> 61 ^ r >> 45 ^ r >> 37 ^ r >> 26 ^ r >> 14) & 1);
+    return r;
+}
+
+static void put64(octet *out, unsigned long long x) { for (int i = 0; i < 8; i++) out[i] = x >> (56 - 8 * i); }
+
+static void scramble_stream(const octet *key, octet *out, int octets) {
+    unsigned p = key[0] << 8 | key[1];
+    for (int i = 0; i < octets; i++) {
+        octet x = 0;
+        for (int k = 0; k < 8; k++) { x = x << 1 | (p & 1); p = p >> 1 | ((p ^ p >> 1) & 1) << 14; }
+        out[i] = x;
+    }
+}
+
+static void openssl_slots(int cipher, int rate, octet *frame) {
+    octet key[32] = {0}, stream[288 + 8], block[16];
+    int width = widths[rate], slots = cipher == 1 ? 4 : 8, octets = width * 4 * slots / 8;
+    unsigned long long vector = 0xABCDEF1234567890;
+    key_of(cipher, key);
+    for (int n = 0; n < SLOTS; n++) {
+        if (n % slots == 0) {
+            put64(block, vector), put64(block + 8, vector = following(vector));
+            if (cipher == 1) scramble_stream(key, stream, octets);
+            else openssl_feed_back(cipher, block, stream, octets);
+        }
+        for (int w = 0; w < 4; w++) {
+            int from = 4 * width * (n % slots) + width * w, s = from % 8;
+            const octet *in = stream + from / 8;
+            octet *word = frame + word_octets[rate] * w;
+            for (int i = 0; i < width / 8; i++) word[i] ^= (in[i] << 8 | in[i + 1]) >> (8 - s);
+            if (width % 8) word[width / 8] ^= (in[width / 8] << s) & 128;
+        }
+    }
+}
+
+static double per_slot(void (*run)(int, int, octet *), int cipher, int rate, octet *frame) {
+    double best = 1e30;
+    for (int b = 0; b < BATCHES; b++) {
+        double t = now();
+        run(cipher, rate, frame);
+        t = (now() - t) / SLOTS;
+        if (t < best) best = t;
+    }
+    return best;
+}
+
 static void same(const char *what, const octet *a, const octet *b, size_t n) {
     if (memcmp(a, b, n) == 0) return;
     printf("%s: not the same octets\n", what);
@@ -153,12 +218,13 @@ static void same(const char *what, const octet *a, const octet *b, size_t n) {
 }
 
 static void row(const char *what, double ours, double theirs) {
-    if (theirs > 0) printf("%-28s %9.0f ns   OpenSSL %9.0f ns   %6.2f times\n", what, ours, theirs, ours / theirs);
-    else printf("%-28s %9.0f ns\n", what, ours);
+    if (theirs > 0) printf("%-36s %9.0f ns   OpenSSL %9.0f ns   %6.2f times\n", what, ours, theirs, ours / theirs);
+    else printf("%-36s %9.0f ns\n", what, ours);
 }
 
-int main(void) {
-    static octet a[STREAM_OCTETS], b[STREAM_OCTETS];
+static const char *ciphers[] = {"", "scramble", "DES", "AES"}, *rates[] = {"half", "full"};
+
+static void see_the_same(octet *a, octet *b) {
     our_des(a, 1000), openssl_des(b, 1000), same("DES", a, b, 8);
     our_joined(a, 1000), openssl_des(b, 1000), same("DES by its joined tables", a, b, 8);
     our_aes(a, 1000), openssl_aes(b, 1000), same("AES-256", a, b, 16);
@@ -168,7 +234,22 @@ int main(void) {
     for (int cipher = 1; cipher <= 3; cipher++) {
         octet m[DCALL_OCTETS] = {0}, by[DCALL_OCTETS] = {0};
         messages(cipher, m, MESSAGES), messages_by(cipher, by, MESSAGES), same("a packet by message and by message_by", m, by, DCALL_OCTETS);
+        for (int rate = HALF; rate <= FULL; rate++) memset(a, 0, 36), memset(b, 0, 36), our_slots(cipher, rate, a), openssl_slots(cipher, rate, b), same("slots", a, b, 36);
     }
+}
+
+/* For bench/run: of a half-rate slot of each cipher its keystream's part, and all that is done with it in memory. */
+static void shares(octet *a) {
+    for (int cipher = 1; cipher <= 3; cipher++)
+        printf("%.0f %.0f\n", per_session(our_session, cipher, a) / (cipher == 1 ? 4 : 8), per_slot(our_slots, cipher, HALF, a));
+}
+
+int main(int argc, char **argv) {
+    static octet a[STREAM_OCTETS], b[STREAM_OCTETS];
+    char what[64];
+    (void)argv;
+    see_the_same(a, b);
+    if (argc == 2) { shares(a); return 0; }
     double openssl = per_block(openssl_des, b);
     row("DES block, plain engine", per_block(our_des, a), openssl);
     row("DES block, joined tables", per_block(our_joined, a), openssl);
@@ -180,9 +261,14 @@ int main(void) {
     row("DES session, joined tables", per_session(our_session, 2, a), openssl);
     row("AES session, 196 octets", per_session(our_session, 3, a), per_session(openssl_session, 3, b));
     for (int cipher = 1; cipher <= 3; cipher++)
+        for (int rate = HALF; rate <= FULL; rate++) {
+            snprintf(what, sizeof what, "slot in memory, %s, %s rate", ciphers[cipher], rates[rate]);
+            row(what, per_slot(our_slots, cipher, rate, a), per_slot(openssl_slots, cipher, rate, b));
+        }
+    for (int cipher = 1; cipher <= 3; cipher++)
         for (int n = 10; n <= MESSAGES; n *= 10) {
             double alone = per_message(messages, cipher, a, n), by = per_message(messages_by, cipher, b, n);
-            printf("a DCALL message of %4d, cipher type %d: by message %8.0f ns, by message_by %6.0f ns\n", n, cipher, alone, by);
+            printf("a DCALL message of %4d, %s: by message %8.0f ns, by message_by %6.0f ns\n", n, ciphers[cipher], alone, by);
         }
     return 0;
 }

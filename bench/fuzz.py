@@ -21,7 +21,7 @@ KEYS = {
 }
 VECTORS = ["ABCDEF1234567890", "0000000000000001", "8000000000000000", "0000000000000000", "FFFFFFFFFFFFFFFF"]
 ODD = [bytes([octet]) for octet in b"\t\r\0 \n\x0b\xffaf0G-+/:@KVA"]
-LONG = [95, 96, 97, 98, 1000, 65535, 65536, 65537, 200000]
+LONG = [95, 96, 97, 98, 1000, 131071, 131072, 131073, 200000]
 
 
 def hexed(n):
@@ -89,7 +89,7 @@ def main(seconds=60.0, seed=1):
     random.seed(int(seed))
     while time.time() < end:
         octets = text()
-        most = random.choice([1, 3, 7, 62, 98] if len(octets) < 20000 else [4000, 65536, 200000])
+        most = random.choice([1, 3, 7, 62, 98] if len(octets) < 20000 else [4000, 131072, 200000])
         if printed(octets, most) != expected(octets):
             with open(os.path.join(ROOT, "target", "fuzz.in"), "wb") as file:
                 file.write(octets)

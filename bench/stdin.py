@@ -10,7 +10,7 @@ import sys
 HERE = os.path.dirname(os.path.abspath(__file__))
 FILES = os.path.join(HERE, "..", "crates", "slotcheck")
 MARK = b"# the lines below are made by bench/stdin.py\n"
-PIECE = 65536
+PIECE = 131072
 VECTORS = ["ABCDEF1234567890", "8B8DDEEB890F4CF1", "C83AB2073A8D80E8"]
 ZEROS = "0" * 16
 FRAME = "0123456789ABCDEFFEDCBA987654321000112233445566778899AABB"
@@ -65,7 +65,7 @@ def main():
     text = across(text, 2 * PIECE, 2, 5, 1)
     text = across(text, 3 * PIECE, 3, 7, record - 1)
     text += line("O", 3, 0, VECTORS[0]) + voice()
-    text = up_to(text, 4 * PIECE - 10) + line("V", 15, "F" * 70000) + voice() + b"E"
+    text = up_to(text, 4 * PIECE - 10) + line("V", 15, "F" * 140000) + voice() + b"E"
     with open(os.path.join(FILES, "stdin"), "wb") as file:
         file.write(text)
     printed = subprocess.run([sys.executable, os.path.join(HERE, "model.py"), "slotcheck"], input=text, capture_output=True, check=True).stdout

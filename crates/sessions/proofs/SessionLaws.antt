@@ -1,12 +1,13 @@
 -- Lent octets that hold a session: when they are made, and what keeps them.
 use mathlib.Core.Path.{_≡_, refl, sym, ap, _∙_}
 use mathlib.Core.Bool.{Bool, true, false, _&&_, false≢true}
-use mathlib.Core.List.{List}
-use Prim.Native.Nat.{ℕ, _≤_, _<_}
+use mathlib.Core.List.{List, _++_}
+use Prim.Native.Nat.{ℕ, _-_, _/_, _%_, _^_, _≤_, _<_}
 use native.Mathlib.Decide.{decLt}
 use native.Mathlib.Omega.{arith}
 use lib.Dec.{leb}
-use lib.ListN.{length}
+use lib.ListN.{length, take, drop, length-append, List·getD-append}
+use lib.Seq.{length-take-le}
 use borrow.Author.Tests.{le-leb, lt-leb}
 use Rattle.answers.specs.declared.Answer.{Answer}
 use Rattle.answers.specs.Numbers.{numberOf}
@@ -29,6 +30,15 @@ unmade c session = record { holds = λ e. absurd (false≢true e) }
 pub slot-is : {a b : Answer} {c d : Call} {f : List ℕ} {o : Answer × (Call × List ℕ)} → (a ≡ b) × (c ≡ d) → (b, (d, f)) ≡ o → (a, (c, f)) ≡ o
 slot-is same e = rw (same .0, same .1) e
 
+-- octets that hold a session may be followed by any
+session-longer : (c : Call) (xs ys : List ℕ) → IsSession c xs → IsSession c (xs ++ ys)
+session-longer c xs ys i =
+    record {
+      known = i .known;
+      long = rw (length-append xs ys) (omega (arith, i .long));
+      bits = λ n l. ap (λ (x : ℕ). x / 2 ^ (7 - n % 8) % 2) (List·getD-append xs ys 0 (n / 8) (omega (arith, i .long))) ∙ i .bits n l;
+    }
+
 module _ (c : Call) (session : List ℕ) where
   -- ---- made
 
@@ -48,16 +58,18 @@ module _ (c : Call) (session : List ℕ) where
       go true = sym (rw (lt-leb (sessionOctets (widthOf (c .terms))) (length session) l))
       go false = refl
 
-  -- a session that is written is held, if the call is good
-  pub made-holds : (after : List ℕ) {good : Bool} → after ≡ sessionStreamOf c session → sessionOctets (widthOf (c .terms)) ≤ length session
-      → (c .known ≡ unknownVector → ⊥) → good ≡ goodCall c → (good ≡ canHold c session) × Cached good c after
+  -- a session that is written over the first octets is held, if the call is good
+  pub made-holds : (n : ℕ) (first : List ℕ) {good : Bool} → first ≡ sessionStreamOf c (take n session) → n ≡ sessionOctets (widthOf (c .terms)) → n ≤ length session
+      → (c .known ≡ unknownVector → ⊥) → good ≡ goodCall c → (good ≡ canHold c session) × Cached good c (first ++ drop n session)
   unfolding canHold
-  made-holds after {good} e l k g =
-      let h : good ≡ knows (standing c) = g ∙ sym (knows-yes c k) in
-      (go (knows (standing c)) h, record { holds = λ t. rw e (session-made c (sym h ∙ t) session (omega arith)) })
+  made-holds n first {good} e size l k g =
+      let h : good ≡ knows (standing c) = g ∙ sym (knows-yes c k) in (
+        go (knows (standing c)) h,
+        record { holds = λ t. rw e (session-longer c _ (drop n session) (session-made c (sym h ∙ t) (take n session) (rw (length-take-le n session l) (omega arith)))) },
+      )
     where
-      go : (n : Bool) → good ≡ n → good ≡ (n && leb (sessionOctets (widthOf (c .terms))) (length session))
-      go true p = p ∙ sym (rw (le-leb (sessionOctets (widthOf (c .terms))) (length session) l))
+      go : (b : Bool) → good ≡ b → good ≡ (b && leb (sessionOctets (widthOf (c .terms))) (length session))
+      go true p = p ∙ sym (rw (le-leb (sessionOctets (widthOf (c .terms))) (length session) (omega arith)))
       go false p = p
 
   -- ---- kept

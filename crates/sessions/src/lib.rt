@@ -46,10 +46,11 @@ fn hold_session(call: Call, session: &mut [u8], made: bool) -> bool
     if call.known == UNKNOWN {
         return false;
     }
-    if session.len() < session_octets(width(call.terms.rate)) {
+    let octets = session_octets(width(call.terms.rate));
+    if session.len() < octets {
         return false;
     }
-    session_stream(call, session);
+    session_stream(call, &mut session[..octets]);
     good_call(call)
 }
 

@@ -15,6 +15,9 @@ use records::reader::finish;
 use records::reader::start;
 use records::reader::take;
 
+// How much is read at a time, and the room for output. docs/SPEED.md has what other sizes cost.
+const PIECE_OCTETS: usize = 131072;
+
 // What is carried on, and whether to go on.
 struct Pass {
     carry: Carry,
@@ -94,9 +97,15 @@ fn run(book: &mut [u8], piece: &mut [u8], out: &mut [u8])
     }
 }
 
+fn room() -> [u8; PIECE_OCTETS]
+    ensures { λ r. ⌜ length r ≡ 131072 ⌝ }
+{
+    [0; PIECE_OCTETS]
+}
+
 fn main() {
     let mut book = [0u8; BOOK_OCTETS];
-    let mut piece = io::large_buffer();
-    let mut out = io::large_buffer();
+    let mut piece = room();
+    let mut out = room();
     run(&mut book, &mut piece, &mut out);
 }

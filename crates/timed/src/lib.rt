@@ -3,8 +3,15 @@ ghost use mathlib.Core.Path.{_≡_};
 ghost use lib.ListN.{length};
 use data::kind::DCALL;
 use data::packet::Packet;
+use sessions::MOST_SESSION_OCTETS;
+use sessions::voice_slot;
+use voice::call::Call;
 use voice::call::DEFAULT;
+use voice::call::RECEIVING;
+use voice::call::TOLD;
+use voice::call::Terms;
 use voice::call::no_call;
+use voice::counts::Counts;
 
 fn des_chain(key: &[u8], block: &mut [u8], n: usize)
     requires { ⌜ (length (now key) ≡ 8) × (length (now block) ≡ 8) ⌝ }
@@ -184,6 +191,58 @@ pub extern "C" fn timed_slots(
     while i < n {
         let stepped = voice::slot::voice(call, 15, frame);
         call = stepped.call;
+        i += 1;
+    }
+}
+
+// A receiver at the start of a session whose vector it was told. The key is 32 octets, its own first.
+fn receiver_of(cipher: u8, key: &[u8], rate: u8, vector: &[u8]) -> Call
+    requires { ⌜ (length (now key) ≡ 32) × (length (now vector) ≡ 8) ⌝ }
+{
+    Call {
+        end: RECEIVING,
+        terms: Terms {
+            cipher,
+            key: thirty_two(key),
+            rate,
+            strictness: DEFAULT,
+        },
+        position: 0,
+        known: TOLD,
+        vector: eight(vector),
+        counts: Counts {
+            opened: 0,
+            held: 0,
+            replaced: 0,
+            lost: 0,
+        },
+    }
+}
+
+// n slots of all words in such a call, which rides on, each session's keystream made once.
+#[no_mangle]
+pub extern "C" fn timed_session_slots(
+    cipher: u8,
+    key: &[u8],
+    rate: u8,
+    vector: &[u8],
+    frame: &mut [u8],
+    n: usize,
+) {
+    if key.len() != 32 {
+        return;
+    }
+    if vector.len() != 8 {
+        return;
+    }
+    let mut call = receiver_of(cipher, key, rate, vector);
+    let mut session = [0; MOST_SESSION_OCTETS];
+    let mut made = false;
+    let mut i = 0;
+    while i < n {
+        let slot = voice_slot(call, 15, frame, &mut session, made);
+        call = slot.call;
+        made = slot.made;
         i += 1;
     }
 }

@@ -1,6 +1,10 @@
 -- `sessions::hold_session` meets its contract.
-use borrow.Author.Needs.{needs}
+use mathlib.Core.Path.{sym, ap, _∙_}
+use native.Mathlib.Omega.{arith}
+use lib.Seq.{length-take-le}
+use Rattle.sizes.specs.Frame.{sessionOctets}
 use Rattle.sessions.proofs.SessionLaws.{unmade, made-can, unknown-cannot, short-cannot, made-holds}
+use borrow.Author.Needs.{needs}
 use Rattle.sessions.proofs.hold_session.Statement.{statement}
 use Rattle.sessions.proofs.hold_session.Tie as tie
 
@@ -13,13 +17,11 @@ returns-2 c = (unknown-cannot _ _ (c .if2 .taken), unmade _ _)
 returns-3 : tie.Need-returns-3
 returns-3 c = (short-cannot _ _ (rw (c .before .session-octets .ensures, c .before .before .width .ensures .0) at (c .if3 .taken)), unmade _ _)
 
+slice-aggregate-session-stream : tie.Need-slice-aggregate-session-stream
+slice-aggregate-session-stream c = sym (length-take-le (c .before .before .session-octets .result) _ (omega (arith, c .before .if3 .left)))
+
 returns-4 : tie.Need-returns-4
-returns-4 c =
-    let size = c .before .before .before .before .before .before .session-octets .ensures in
-    let wide = c .before .before .before .before .before .before .before .width .ensures .0 in
-    let fits = c .before .before .before .before .before .if3 .left in
-    let some = c .before .before .before .before .before .before .before .before .if2 .left in
-    made-holds _ _ _ (c .before .before .before .session-stream .ensures) (rw (size, wide) at fits) some (c .good-call .ensures)
+returns-4 c = made-holds _ _ (c .before .before .before .before .before .before .session-octets .result) _ (c .before .before .before .session-stream .ensures) (c .before .before .before .before .before .before .session-octets .ensures ∙ ap sessionOctets (c .before .before .before .before .before .before .before .width .ensures .0)) (omega (arith, c .before .before .before .before .before .if3 .left)) (c .before .before .before .before .before .before .before .before .if2 .left) (c .good-call .ensures)
 
 pub hold-session-spec : {M : Type 1} → statement M
 hold-session-spec =
@@ -30,6 +32,8 @@ hold-session-spec =
     (λ c κs. search needs)
     (λ c κs. search needs)
     returns-3
+    (λ c. search needs)
+    slice-aggregate-session-stream
     (λ c κs. search needs)
     (λ c κs. search needs)
     (λ c. search needs)
