@@ -45,13 +45,14 @@ loop-again : tie.Need-loop-again Inv-loop μ-loop
 loop-again c =
     let d = c .before .before .before .before .before .before in
     let e = d .before .before .before .before .before .before in
-    let a = e .before .before .before .before .before .before .before .before .before in (
+    let a = e .before .before .before .before .before .before .before .before .before in
+    let w = wide (a .args .engine) _ (a .pre .1) in (
       search needs,
       search needs,
-      search needs,
+      omega (arith, wide-bounds _ w .0),
       search needs,
       λ vector is.
-          fed-more {A = List ℕ} _ _ vector _ _ _ (wide (a .args .engine) _ (a .pre .1)) _ _ _ _ (e .loop .inv .4 vector is) (search needs) _ _ _ _ (d .before .before .before .encipher .ensures) (search needs)
+          fed-more {A = List ℕ} _ _ vector _ _ _ w _ _ _ _ (e .loop .inv .4 vector is) (search needs) _ _ _ _ (d .before .before .before .encipher .ensures) (search needs)
           (λ i. d .before .slice-known4 .given i .fits) refl (least-by _ (e .loop .at) (e .loop .i) (d .least .ensures .2) (e .loop .inv .0)) (c .before .before .copy .ensures),
     )
 
