@@ -102,8 +102,9 @@ fn gone_on(before: Call, stepped: Stepped) -> Slot
     }
 }
 
-// A voice slot, whose session's keystream is made if it isn't. Where it can't be held the slot makes its own.
-fn any_slot(call: Call, mask: u8, frame: &mut [u8], session: &mut [u8], made: bool) -> Slot
+// A voice slot, whose session's keystream is made if it isn't. Where it can't be held the slot makes its own. Most slots are a receiver's that are done: they cost
+// least.
+pub fn voice_slot(call: Call, mask: u8, frame: &mut [u8], session: &mut [u8], made: bool) -> Slot
     requires { ⌜ Cached made call (now session) ⌝ }
     ensures { λ r. ⌜ (r .answer, (r .call, now (frame .exit))) ≡ voiceOf call mask (now (frame .entry)) ⌝ }
     ensures { λ r. ⌜ Cached (r .made) (r .call) (now (session .exit)) ⌝ }
@@ -112,22 +113,10 @@ fn any_slot(call: Call, mask: u8, frame: &mut [u8], session: &mut [u8], made: bo
         let stepped = voice(call, mask, frame);
         return anew(stepped, false);
     }
-    let stepped = voice_by(call, mask, frame, session);
-    gone_on(call, stepped)
-}
-
-// The same. Most slots are a receiver's that are done in a session which is made already: they come first, since they cost least.
-pub fn voice_slot(call: Call, mask: u8, frame: &mut [u8], session: &mut [u8], made: bool) -> Slot
-    requires { ⌜ Cached made call (now session) ⌝ }
-    ensures { λ r. ⌜ (r .answer, (r .call, now (frame .exit))) ≡ voiceOf call mask (now (frame .entry)) ⌝ }
-    ensures { λ r. ⌜ Cached (r .made) (r .call) (now (session .exit)) ⌝ }
-{
-    if !made {
-        return any_slot(call, mask, frame, session, false);
-    }
     let within = voice_within(call, mask, frame, session);
     if !within.done {
-        return any_slot(call, mask, frame, session, true);
+        let stepped = voice_by(call, mask, frame, session);
+        return gone_on(call, stepped);
     }
     let terms = call.terms;
     let moved = within.moved;
