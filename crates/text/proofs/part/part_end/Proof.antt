@@ -7,10 +7,10 @@ use Rattle.text.proofs.part.part_end.Statement.{statement}
 use Rattle.text.proofs.part.part_end.Tie as tie
 
 abbrev Inv-loop : tie.InvT-loop
-Inv-loop text at separator end₀ end = Passed separator text at end
+Inv-loop text at separator near end₀ end = Passed separator text at end
 
 abbrev μ-loop : tie.MeasureT-loop
-μ-loop text at separator end₀ end = length text - end
+μ-loop text at separator near end₀ end = length text - end
 
 pub part-end-spec : {M : Type 1} → statement M
 part-end-spec =
@@ -18,8 +18,9 @@ part-end-spec =
     (tie.spec
     Inv-loop
     μ-loop
-    (λ c κs. search needs)
-    (λ c. passed-on _ _ _ (search needs) _ _ (passed-start _ _ _ (search needs)) (search needs) (search needs) (search needs))
+    (λ c κs. (search needs, search needs))
+    (λ c κs. (search needs, search needs))
+    (λ c. passed-on _ _ _ (search needs) _ _ (passed-on _ _ _ (search needs) _ _ (passed-start _ _ _ (search needs)) (c .before .stride .ensures .0) (c .before .stride .ensures .1) (c .before .stride .ensures .2)) (c .stride2 .ensures .0) (c .stride2 .ensures .1) (c .stride2 .ensures .2))
     (λ c. search needs)
     (λ c. (passed-stop _ _ _ (search needs) _ (search needs) (search needs) (search needs), search needs, search needs))
     (λ c. search needs)

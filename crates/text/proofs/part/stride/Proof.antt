@@ -8,10 +8,10 @@ use Rattle.text.proofs.part.stride.Statement.{statement}
 use Rattle.text.proofs.part.stride.Tie as tie
 
 abbrev Inv-loop : tie.InvT-loop
-Inv-loop text at separator end₀ end = Passed separator text at end
+Inv-loop text at separator n end₀ end = Passed separator text at end
 
 abbrev μ-loop : tie.MeasureT-loop
-μ-loop text at separator end₀ end = length text - end
+μ-loop text at separator n end₀ end = length text - end
 
 pub stride-spec : {M : Type 1} → statement M
 stride-spec =
