@@ -70,11 +70,6 @@ module _ (a b c d : ℕ) (ha : a < 256) (hb : b < 256) (hc : c < 256) (hd : d < 
       around a b c d ha hb hc hd 3 2 1 0 ∙ around b c d a hb hc hd ha 2 1 0 3 ∙ around c d a b hc hd ha hb 1 0 3 2 ∙ row-0 d a b c
   sum-row (suc (suc (suc (suc r)))) h = absurd (omega arith)
 
-  sum-lt : (r : ℕ) → sumRow r < 256
-  sum-lt r =
-      let x = xor-lt 8 in
-      x _ _ (x _ _ (x _ _ (alone-lt a r ha) (alone-lt b ((r + 3) % 4) hb)) (alone-lt c ((r + 2) % 4) hc)) (alone-lt d ((r + 1) % 4) hd)
-
   -- the same sum of the columns as words
   sum-words : bitXor
       (bitXor (bitXor (asWord (mixedAlone a)) (asWord (λ r. mixedAlone b ((r + 3) % 4)))) (asWord (λ r. mixedAlone c ((r + 2) % 4))))

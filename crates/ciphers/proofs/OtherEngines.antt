@@ -6,7 +6,7 @@ use native.Mathlib.Omega.{arith}
 use Rattle.octets.specs.Lists.{tab, iterate}
 use Rattle.octets.specs.Bits.{octet, octetsFrom}
 use Rattle.des.specs.Tables.{IP, IP⁻¹, E, P, PC-1, PC-2, leftShifts, S}
-use Rattle.des.specs.Des.{des, enciphered, rounds, halved, preoutput, cipherF, boxInput, substituted, boxPlace, xorBits, permuted, roundKey, keyState, rotated}
+use Rattle.des.specs.Des.{enciphered, rounds, halved, preoutput, cipherF, boxInput, substituted, boxPlace, xorBits, permuted, roundKey, keyState, rotated}
 use Rattle.des.proofs.BlockNumbers.{octets, bits, octets-work}
 use Rattle.ciphers.specs.Keystream.{usedBlock, feedback, stream}
 use Rattle.ciphers.specs.DesEngines.{streamBy}

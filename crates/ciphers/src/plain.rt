@@ -1,4 +1,4 @@
-// The keystream with DES by its plain engine: the bits of a session from any place on, into lent octets. For the audio task, a slot at a time: it takes less stack
+// The keystream with DES by its plain engine: the bits of a session from any octet on, into lent octets. For the audio task, a slot at a time: it takes less stack
 // than with the joined tables.
 ghost use mathlib.Core.Path.{_≡_};
 ghost use Prim.Native.Nat.{_+_, _*_, _^_, _≤_, _<_};

@@ -62,6 +62,22 @@ module _ (lent : List ℕ) (p : Packet) (message : List ℕ) where
           let s = step-counts p message a q stepped d in
           rw (s .0, s .1, t, place) (sym (by-long (step-none p message a q stepped d) (rw reach at l)))
 
+-- ---- how many octets are enough
+
+-- a message that is done as it is, is done by lent octets too where they reach the last of its bits, and is 2 where they don't
+module _ (lent : List ℕ) (p : Packet) (message : List ℕ) (d : isDone (messageOf p message .0) ≡ true) where
+  none : NoneHolds (messageRefusals p message)
+  none = step-none p message (messageOf p message .0) (messageOf p message .1 .0) (refl, refl) d
+
+  pub lent-enough : protectedBits (p .kind) * (p .count + 1) ≤ 8 * length lent → messageByOctets lent p message ≡ (Done, (counted p, messageTurnedBy (bit lent) p message))
+  lent-enough l = by-long lent p message none (omega (arith, mul-assoc 8 (protectedOctets (p .kind)) (p .count + 1)))
+
+  pub lent-too-few : 8 * length lent < protectedBits (p .kind) * (p .count + 1) → messageByOctets lent p message ≡ (WrongLength, (p, message))
+  lent-too-few l =
+      sym
+      (lent-short lent p message (messageOf p message .0) (messageOf p message .1 .0) (refl, refl) d (protectedOctets (p .kind)) _ refl refl
+      (omega (arith, mul-assoc 8 (protectedOctets (p .kind)) (p .count + 1))))
+
 -- ---- a packet's keystream, made
 
 module _ (p : Packet) (out : List ℕ) where
@@ -151,11 +167,11 @@ pub message-by-is-message : (p : Packet) (n : ℕ) (lent : List ℕ) → IsStrea
     → messageByOctets lent p message ≡ messageOf p message
 message-by-is-message p n lent i h message = alike lent p message (λ o f. stream-fewer p n lent i (p .count + 1) (omega arith))
 
--- what was written for the packet, at whatever count: for every packet, open or not
-pub made-is-message : (p : Packet) (m : ℕ) → m ≤ mostMessages → (out : List ℕ) → streamOctets (p .kind) (p .count + 1) ≤ length out → (message : List ℕ)
+-- what was written for the packet, at whatever count, as far as the last of the message's bits: for every packet, open or not
+pub made-is-message : (p : Packet) (m : ℕ) → m ≤ mostMessages → (out : List ℕ) → protectedBits (p .kind) * (p .count + 1) ≤ 8 * length out → (message : List ℕ)
     → messageByOctets (packetStreamOf (atCount p m) out) p message ≡ messageOf p message
 made-is-message p m h out room message =
     alike (packetStreamOf (atCount p m) out) p message
     (λ o f.
-    let i = stream-holds (atCount p m) out (at-open p o m h) (p .count + 1) room in
+    let i = stream-holds (atCount p m) out (at-open p o m h) (p .count + 1) (omega (arith, mul-assoc 8 (protectedOctets (p .kind)) (p .count + 1))) in
     record { stands = o; long = i .long; bits = i .bits })

@@ -1,7 +1,7 @@
 // Octets and their bits, and a part of a lent buffer turned over by a stream of bits.
 ghost use mathlib.Core.Path.{_≡_};
 ghost use Prim.Native.Nat.{ℕ, _+_, _-_, _*_, _/_, _%_, _^_, _≤_, _<_, min};
-ghost use lib.ListN.{length, getD};
+ghost use lib.ListN.{length};
 ghost use Rattle.octets.specs.Lists.{allZero};
 ghost use Rattle.octets.specs.Bits.{bit, octetsFrom};
 ghost use Rattle.octets.specs.Turn.{turned};

@@ -16,9 +16,8 @@ use Rattle.ciphers.specs.Keystream.{stream}
 use Rattle.sizes.proofs.SizeLaws.{slot-ranged}
 use Rattle.ciphers.proofs.KeystreamLaws.{bits-stream}
 use Rattle.answers.specs.declared.Answer.the-variants.{Done, Held}
-use Rattle.answers.specs.Numbers.{isDone}
 use Rattle.answers.specs.Outcomes.{settled}
-use Rattle.answers.proofs.OutcomeLaws.{NoneHolds, neverDone, among-not-done, by-refusals}
+use Rattle.answers.proofs.OutcomeLaws.{NoneHolds, by-refusals}
 use Rattle.voice.specs.declared.counts.Counts.{Counts}
 use Rattle.voice.specs.declared.call.Call.{Call}
 use Rattle.sizes.specs.Frame.{frameOctets, slotBits, sessionBits}
@@ -182,26 +181,3 @@ module _ (c : Call) (session : List ℕ) (i : IsSession c session) where
       by-refusals (λ o. (o .1 .0 .position ≡ 0 → scrambles (c .terms .cipher) ≡ true) → IsSession (o .1 .0) session)
       (c, frame) (voiceRefusals c mask frame) (voiceAfter st mask frame (c .counts) (standing c)) (λ a m h. i)
       (λ n. on-kept (n .1 .1 .1 .0) (arrivedWords mask (knows (standing c))) (arrived-fits mask (knows (standing c))))
-
--- a slot of a call that doesn't know its vector is turned by nothing
-module _ (st su : Call → ℕ → ℕ) (mask : ℕ) (frame : List ℕ) where
-  pub voice-unknown : (c : Call) → knows (standing c) ≡ false → voiceBy st c mask frame ≡ voiceBy su c mask frame
-  unfolding voiceBy
-  voice-unknown c k = rw k
-
--- and is not done
-module _ (st : Call → ℕ → ℕ) (mask : ℕ) (frame : List ℕ) where
-  after-done : (t : Bool) → isDone (pick t Done Held) ≡ true → t ≡ true
-  after-done true d = refl
-  after-done false d = d
-
-  never-done : (c : Call) → neverDone (voiceRefusals c mask frame) ≡ true
-  unfolding voiceRefusals
-  never-done c = refl
-
-  pub voice-done-knows : (c : Call) → isDone (voiceBy st c mask frame .0) ≡ true → knows (standing c) ≡ true
-  unfolding voiceBy voiceRefusals
-  voice-done-knows c =
-      by-refusals (λ o. isDone (o .0) ≡ true → knows (standing c) ≡ true) (c, frame) (voiceRefusals c mask frame) (voiceAfter st mask frame (c .counts) (standing c))
-      (λ a m d. absurd (true≢false (sym d ∙ among-not-done a (voiceRefusals c mask frame) (never-done c) m)))
-      (λ n. after-done (knows (standing c)))

@@ -336,10 +336,6 @@ module _ (st : Call → ℕ → ℕ) (c : Call) (mask : ℕ) (frame : List ℕ)
     pub turned-inside : c .position < sessionSlots (c .terms .cipher)
     turned-inside = inside c (none-good c mask frame none-refused) (none-open c mask frame none-refused)
 
-    -- no session has more than 8 slots
-    pub turned-early : c .position < 8
-    turned-early = let l = turned-inside in omega (arith, slots-at-most (c .terms .cipher))
-
 -- by lent octets
 module _ (session : List ℕ) (c : Call) (mask : ℕ) (frame : List ℕ)
     (a : Answer) (d : Call) (stepped : (a ≡ voiceOf c mask frame .0) × (d ≡ voiceOf c mask frame .1 .0)) where

@@ -91,9 +91,9 @@ module _ (slots : ℕ) (c : Call) (r : Running (suc slots) c) where
         }
 
     -- before a session's last slot the frame is turned and the position moves on, at either end
-    pub voice-within : (mask : ℕ) (frame : List ℕ) → mask ≤ topMask → length frame ≡ frameOctets (widthOf (c .terms))
+    pub voice-inside : (mask : ℕ) (frame : List ℕ) → mask ≤ topMask → length frame ≡ frameOctets (widthOf (c .terms))
         → voiceOf c mask frame ≡ (Done, (onward (arrivedWords mask true) c, inSlot streamOf mask frame c))
-    voice-within mask frame m l =
+    voice-inside mask frame m l =
         voice-at c mask frame m (standing c) (l ∙ ap frameOctets (sym (known-width c knows-running))) refl (within noCounts .0) below
         ∙ ap
         (λ (t : Bool).
@@ -165,12 +165,12 @@ module _ (c : Call) (r : Running 3 c) (half : c .terms .rate ≡ halfRate) (star
   runs-two = runs-on 1 c1 runs-one (early (c .position + 1) (omega arith)) (arrivedWords 0 true) (arrived-fits 0 true)
 
   moved : voiceOf c m first .1 .0 ≡ c1
-  moved = ap (λ (o : Answer × (Call × List ℕ)). o .1 .0) (voice-within 2 c r (early (c .position) (omega arith)) m first hm (rw half l))
+  moved = ap (λ (o : Answer × (Call × List ℕ)). o .1 .0) (voice-inside 2 c r (early (c .position) (omega arith)) m first hm (rw half l))
 
   on-two : two ≡ (Done, (c2, inSlot streamOf 0 second c1))
   on-two =
       ap (λ (d : Call). voiceOf d 0 second) moved
-      ∙ voice-within 1 c1 runs-one (early (c .position + 1) (omega arith)) 0 second (omega arith) (rw half (f .long))
+      ∙ voice-inside 1 c1 runs-one (early (c .position + 1) (omega arith)) 0 second (omega arith) (rw half (f .long))
 
   pub second-stays : two .1 .1 ≡ second
   second-stays =
@@ -181,7 +181,7 @@ module _ (c : Call) (r : Running 3 c) (half : c .terms .rate ≡ halfRate) (star
   third-turned =
       ap (λ (o : Answer × (Call × List ℕ)). voiceOf (o .1 .0) n third .1 .1) on-two
       ∙ ap (λ (o : Answer × (Call × List ℕ)). o .1 .1)
-      (voice-within 0 c2 runs-two (early (c .position + 1 + 1) (omega arith)) n third hn (rw half l′))
+      (voice-inside 0 c2 runs-two (early (c .position + 1 + 1) (omega arith)) n third hn (rw half l′))
       ∙ ap (λ (r : ℕ). protect (width r) (ofSlot (width r) (streamOf c) (c .position + 1 + 1)) n third) half
       ∙ protect-same 49 (ofSlot 49 (streamOf c) (c .position + 1 + 1)) (λ i. streamOf c (392 + i)) n
       (λ i h. let e : slotBits 49 * (c .position + 1 + 1) + i ≡ 392 + i = omega arith in ap (streamOf c) e) third
