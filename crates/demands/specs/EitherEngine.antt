@@ -2,15 +2,13 @@
 -- and all else is ours.
 use mathlib.Core.List.{List, [], _∷_, map}
 use Prim.Native.Nat.{ℕ}
-use Rattle.octets.specs.Turn.{turnedIn}
 use Rattle.answers.specs.declared.Answer.{Answer}
 use Rattle.answers.specs.Outcomes.{outcome}
 use Rattle.ciphers.specs.DesEngines.{DesEngine, desBy, streamBy}
 use Rattle.voice.specs.declared.call.Call.{Call}
 use Rattle.voice.specs.Slot.{voiceBy}
 use Rattle.data.specs.declared.packet.Packet.{Packet}
-use Rattle.data.specs.Kinds.{headOctets, protectedOctets, protectedBits}
-use Rattle.data.specs.Message.{counted, messageRefusals, ofMessage}
+use Rattle.data.specs.Message.{counted, messageRefusals, messageTurnedBy}
 use Rattle.nxdn.specs.Operations.{Open, Start, Join, Voice, Lost, End, Announce, NextVector, OpenPacket, Message, LostMessage, EndPacket}
 use Rattle.demands.specs.Device.{Device, Operation, OfBook, OfScreen, OfCall, OfPacket, Step, withCall, withPacket, atFirst, step}
 
@@ -22,11 +20,7 @@ module _ (by : List ℕ → List ℕ → List ℕ) where
   -- a message of a packet
   abbrev pub messageBy : Packet → List ℕ → Answer × (Packet × List ℕ)
   messageBy p message =
-      outcome (p, message) (messageRefusals p message) (
-        counted p,
-        turnedIn headOctets (protectedOctets (p .kind)) (protectedBits (p .kind))
-            (ofMessage (streamBy by (p .cipher) (p .key) (p .vector)) (p .kind) (p .count)) message,
-      )
+      outcome (p, message) (messageRefusals p message) (counted p, messageTurnedBy (streamBy by (p .cipher) (p .key) (p .vector)) p message)
 
   -- any operation: only a slot and a message are turned by keystream
   unfoldable pub stepBy : Step
