@@ -7,7 +7,7 @@ use lib.Bits.{bit_or, bit_xor, xor_comm, xor_lt, xor_zero_r}
 use lib.ListN.{get_or}
 use Rattle.octets.specs.Lists.{tab}
 use Rattle.octets.proofs.BitLaws.{xor_assoc}
-use Rattle.octets.proofs.ListLaws.{length-tab, get_d_tab}
+use Rattle.octets.proofs.ListLaws.{length-tab, get_or-tab}
 use Rattle.aes.specs.Field.{xtime, reduce, digit, mul_bits, mul, sbox_of}
 use Rattle.aes.specs.Cipher.{mixed, mix_columns}
 use Rattle.aes.specs.Prepared.{as_word, word_in, octet_of, mixed_alone, IsColumns}
@@ -61,14 +61,14 @@ module _ (a b c d : ℕ) (ha : a < 256) (hb : b < 256) (hc : c < 256) (hd : d < 
   abbrev sum_row : ℕ → ℕ
   sum_row r = bit_xor (bit_xor (bit_xor (mixed_alone a r) (mixed_alone b ((r + 3) % 4))) (mixed_alone c ((r + 2) % 4))) (mixed_alone d ((r + 1) % 4))
 
-  sum_row : (r : ℕ) → r < 4 → sum_row r ≡ mixed (a ∷ b ∷ c ∷ d ∷ []) r 0
+  sum_row_lem : (r : ℕ) → r < 4 → sum_row r ≡ mixed (a ∷ b ∷ c ∷ d ∷ []) r 0
   unfolding mixed
-  sum_row zero h = row_0 a b c d
-  sum_row (suc zero) h = around a b c d ha hb hc hd 1 0 3 2 ∙ row_0 b c d a
-  sum_row (suc (suc zero)) h = around a b c d ha hb hc hd 2 1 0 3 ∙ around b c d a hb hc hd ha 1 0 3 2 ∙ row_0 c d a b
-  sum_row (suc (suc (suc zero))) h =
+  sum_row_lem zero h = row_0 a b c d
+  sum_row_lem (suc zero) h = around a b c d ha hb hc hd 1 0 3 2 ∙ row_0 b c d a
+  sum_row_lem (suc (suc zero)) h = around a b c d ha hb hc hd 2 1 0 3 ∙ around b c d a hb hc hd ha 1 0 3 2 ∙ row_0 c d a b
+  sum_row_lem (suc (suc (suc zero))) h =
       around a b c d ha hb hc hd 3 2 1 0 ∙ around b c d a hb hc hd ha 2 1 0 3 ∙ around c d a b hc hd ha hb 1 0 3 2 ∙ row_0 d a b c
-  sum_row (suc (suc (suc (suc r)))) h = absurd (omega arith)
+  sum_row_lem (suc (suc (suc (suc r)))) h = absurd (omega arith)
 
   -- the same sum of the columns as words
   sum-words : bit_xor
@@ -95,7 +95,7 @@ module _ (a b c d : ℕ) (ha : a < 256) (hb : b < 256) (hc : c < 256) (hd : d < 
 
     pub column_sum : bit_xor (bit_xor (bit_xor i m) n) o ≡ word_in (mix_columns x) q
     unfolding word_in
-    column_sum = summed ∙ word_same sum_row _ (λ r h. sum_row r h ∙ column_law x q a b c d hq ea eb ec ed r h)
+    column_sum = summed ∙ word_same sum_row _ (λ r h. sum_row_lem r h ∙ column_law x q a b c d hq ea eb ec ed r h)
 
 -- ---- the table, as `aes::columns` makes it
 
@@ -107,7 +107,7 @@ unfolding as_word
 column_is x s d es ed = rw (ed, es, alone-0, alone-1, alone-2, alone-3)
 
 pub columns_done : (t : List ℕ) → t ≡ tab column_of 256 → IsColumns t
-columns_done t e = rw e (record { size = length-tab column_of 256; rule = get_d_tab column_of 256 })
+columns_done t e = rw e (record { size = length-tab column_of 256; rule = get_or-tab column_of 256 })
 
 -- the S-box's value in an entry
 pub entry_sub : (x w : ℕ) → x < 256 → w ≡ column_of x → octet_of w 1 ≡ sbox_of x

@@ -10,7 +10,7 @@ use lib.ListN.{length, get_or}
 use lib.Seq.{ext_get_or}
 use Rattle.octets.specs.Bits.{Octets}
 use Rattle.octets.specs.Lists.{tab}
-use Rattle.octets.proofs.ListLaws.{length-tab, get_d_tab, octets-tab}
+use Rattle.octets.proofs.ListLaws.{length-tab, get_or-tab, octets-tab}
 use Rattle.aes.specs.Field.{sbox_of}
 use Rattle.aes.specs.Cipher.{word, cell, sub_bytes, shift_rows, mixed, mix_columns, add_round_key, rounds, cipher}
 use Rattle.aes.specs.Prepared.{octet_of, octets_in}
@@ -42,21 +42,21 @@ place i = omega arith
 
 pub shift_at : (s : List ℕ) (i : ℕ) → i < 16 → get_or (shift_rows s) i 0 ≡ get_or s (5 * i % 16) 0
 unfolding shift_rows
-shift_at s i h = get_d_tab _ 16 i h ∙ ap (λ (k : ℕ). get_or s k 0) (place i)
+shift_at s i h = get_or-tab _ 16 i h ∙ ap (λ (k : ℕ). get_or s k 0) (place i)
 
 -- SubBytes may come after ShiftRows
 pub sub_shifted : (s : List ℕ) (i v : ℕ) → i < 16 → v ≡ get_or (shift_rows s) i 0 → sbox_of v ≡ get_or (shift_rows (sub_bytes s)) i 0
 unfolding sub_bytes
 sub_shifted s i v h e =
-    ap sbox_of (e ∙ shift_at s i h) ∙ sym (shift_at (sub_bytes s) i h ∙ get_d_tab (λ k. sbox_of (get_or s k 0)) 16 (5 * i % 16) (omega arith))
+    ap sbox_of (e ∙ shift_at s i h) ∙ sym (shift_at (sub_bytes s) i h ∙ get_or-tab (λ k. sbox_of (get_or s k 0)) 16 (5 * i % 16) (omega arith))
 
 pub word_at : (x : List ℕ) (q r : ℕ) → r < 4 → get_or (word x q) r 0 ≡ get_or x (4 * q + r) 0
 unfolding word
-word_at x q r h = get_d_tab (λ k. get_or x (4 * q + k) 0) 4 r h
+word_at x q r h = get_or-tab (λ k. get_or x (4 * q + k) 0) 4 r h
 
 pub add_round_key-at : (w s : List ℕ) (n i : ℕ) → i < 16 → bit_xor (get_or s i 0) (get_or w (16 * n + i) 0) ≡ get_or (add_round_key w s n) i 0
 unfolding add_round_key
-add_round_key-at w s n i h = sym (get_d_tab (λ k. bit_xor (get_or s k 0) (get_or w (16 * n + k) 0)) 16 i h)
+add_round_key-at w s n i h = sym (get_or-tab (λ k. bit_xor (get_or s k 0) (get_or w (16 * n + k) 0)) 16 i h)
 
 -- ---- a column
 
@@ -75,7 +75,7 @@ unfolding mix_columns
 mixed-place x q r hq hr =
     let m : (4 * q + r) % 4 ≡ r = omega arith in
     let d : (4 * q + r) / 4 ≡ q = omega arith in
-    sym (get_d_tab (λ i. mixed x (i % 4) (i / 4)) 16 (4 * q + r) (omega arith) ∙ rw (m, d))
+    sym (get_or-tab (λ i. mixed x (i % 4) (i / 4)) 16 (4 * q + r) (omega arith) ∙ rw (m, d))
 
 four : (x : List ℕ) (q a b c d : ℕ) → a ≡ get_or x (4 * q) 0 → b ≡ get_or x (4 * q + 1) 0 → c ≡ get_or x (4 * q + 2) 0 → d ≡ get_or x (4 * q + 3) 0
     → a ∷ b ∷ c ∷ d ∷ [] ≡ word x q

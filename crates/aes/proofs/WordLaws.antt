@@ -10,7 +10,7 @@ use lib.Seq.{ext_get_or, get_or-take, length-take-le}
 use Rattle.octets.specs.Bits.{Octets}
 use Rattle.octets.specs.Lists.{tab}
 use Rattle.octets.proofs.Front.{Front}
-use Rattle.octets.proofs.ListLaws.{length-tab, get_d_tab, tab_same, octets-tab}
+use Rattle.octets.proofs.ListLaws.{length-tab, get_or-tab, tab_same, octets-tab}
 use Rattle.aes.specs.Cipher.{word}
 use Rattle.aes.specs.Prepared.{as_word, word_in, octet_of, octets_of, octets_in}
 
@@ -94,7 +94,7 @@ word_xor f g o p =
 
 pub octet-at : (w r : ℕ) → r < 4 → get_or (octets_of w) r 0 ≡ octet_of w r
 unfolding octets_of
-octet-at w = get_d_tab (octet_of w) 4
+octet-at w = get_or-tab (octet_of w) 4
 
 pub four_octets : (f : ℕ → ℕ) → ((r : ℕ) → f r < 256) → octets_of (as_word f) ≡ tab f 4
 unfolding octets_of
@@ -104,7 +104,7 @@ four_octets f o = tab_same (octet_of (as_word f)) f 4 (octet-word f o)
 
 pub octets-at : (n : ℕ) (w : List ℕ) (i : ℕ) → i < 4 * n → get_or (octets_in n w) i 0 ≡ octet_of (get_or w (i / 4) 0) (i % 4)
 unfolding octets_in
-octets-at n w i h = get_d_tab (λ i. octet_of (get_or w (i / 4) 0) (i % 4)) (4 * n) i h
+octets-at n w i h = get_or-tab (λ i. octet_of (get_or w (i / 4) 0) (i % 4)) (4 * n) i h
 
 pub length-octets_in : (n : ℕ) (w : List ℕ) → length (octets_in n w) ≡ 4 * n
 unfolding octets_in
@@ -175,4 +175,4 @@ module _ (x : List ℕ) (o : Octets x) where
 
   -- a list whose first n words are those of x
   pub front_words : (n m : ℕ) (w₀ w : List ℕ) (i : ℕ) → length x ≡ 4 * n → n ≤ i → n ≤ m → Front (tab (word_in x) m) w₀ w i → octets_in n w ≡ x
-  front_words n m w₀ w i l h k f = octets-words n w l (λ q b. f.done q (omega arith) ∙ get_d_tab (word_in x) m q (omega arith))
+  front_words n m w₀ w i l h k f = octets-words n w l (λ q b. f.done q (omega arith) ∙ get_or-tab (word_in x) m q (omega arith))

@@ -32,6 +32,7 @@ after_of n m (x ∷ xs) e = go (eqb m x) (eqb m 2) (after_of n m xs) e
     go false u later h = rest (later h)
 
 among_listed : (a : Answer) (order : List ℕ) (rs : Refusals) → in_order order (numbers_of rs) ≡ true → Among a rs → is_one_of (number_of a) order ≡ true
+among_listed a order [] h x' = elim x' [ ]
 among_listed a order (r ∷ rs) h (inl e) =
     rw (← e) (and_left (is_one_of (number_of r.1) order) (in_order (after_number (number_of r.1) order) (numbers_of rs)) h)
 among_listed a order (r ∷ rs) h (inr m) =

@@ -49,6 +49,7 @@ never_done [] = true
 never_done (r ∷ rs) = not (is_done r.1) && never_done rs
 
 pub among_not_done : (a : Answer) (rs : Refusals) → never_done rs ≡ true → Among a rs → is_done a ≡ false
+among_not_done a [] n x' = elim x' [ ]
 among_not_done a (r ∷ rs) n (inl e) = ap is_done (sym e) ∙ not-true (is_done r.1) (and_left (not (is_done r.1)) (never_done rs) n)
 among_not_done a (r ∷ rs) n (inr m) = among_not_done a rs (and_right (not (is_done r.1)) (never_done rs) n) m
 
@@ -58,6 +59,7 @@ from_two [] = true
 from_two (r ∷ rs) = leb 2 (number_of r.1) && from_two rs
 
 pub among_refuses : (a : Answer) (rs : Refusals) → from_two rs ≡ true → Among a rs → Refusal a
+among_refuses a [] t x' = elim x' [ ]
 among_refuses a (r ∷ rs) t (inl e) = rw (← e) (leb-true 2 (number_of r.1) (and_left (leb 2 (number_of r.1)) (from_two rs) t))
 among_refuses a (r ∷ rs) t (inr m) = among_refuses a rs (and_right (leb 2 (number_of r.1)) (from_two rs) t) m
 

@@ -50,6 +50,7 @@ under-two (suc zero) l = refl
 under-two (suc (suc n)) l = absurd (omega arith)
 
 among_table : (a : Answer) (rs : Refusals) → in_table rs ≡ true → Among a rs → (is_one_of (number_of a) operation_numbers ≡ true) × Refusal a
+among_table a [] t x' = elim x' [ ]
 among_table a (r ∷ rs) t (inl e) =
     subst (λ (x : Answer). (is_one_of (number_of x) operation_numbers ≡ true) × Refusal x) e
     (of_table r.1 (and_left (is_one_of (number_of r.1) refusal_order) (in_table rs) t))

@@ -1,8 +1,10 @@
 // What an operation answers: one case for each row of document 01's table, in its order. 14 is retired (W-208).
+#![tactic(auto)]
+
 ghost use Rattle.std.specs.Prelude.{◌≡◌};
 ghost use Rattle.answers.specs.Numbers.{number_of};
 
-#[derive(Drop)]
+#[derive(Clone, Copy)]
 pub enum Answer {
     Done,
     Held,

@@ -1,4 +1,6 @@
 // A recording of a call, step by step: slots, losses and vectors in lent octets, each session's keystream made once.
+#![tactic(auto)]
+
 ghost use Rattle.std.specs.Prelude.{◌≡◌, true, List, ℕ, ◌*◌, length};
 ghost use Rattle.hearing.specs.Hearing.{call_of};
 ghost use Rattle.hearing.specs.Heard.{handed_on};
@@ -33,7 +35,7 @@ const LENT: usize = 2;
 pub const STEP_OCTETS: usize = 38;
 
 // What a step answers, what it leaves, and whether the lent octets hold the session of the call that it leaves.
-#[derive(Drop)]
+#[derive(Clone, Copy)]
 pub struct Recorded {
     pub answer: Answer,
     pub hearing: Hearing,

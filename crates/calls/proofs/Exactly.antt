@@ -25,7 +25,7 @@ use Rattle.openings.proofs.LadderLaws.{vector-from-two, sends_more}
 use Rattle.calls.specs.declared.call.Call.{Call}
 use Rattle.calls.specs.Counts.{no_counts}
 use Rattle.sizes.specs.Frame.{is_rate}
-use Rattle.calls.specs.Call.{closed_end, sending_end, receiving_end, unknown_vector, told_vector, carried_vector, by_default, terms_right, good_call, standing, terms_of, call_at, written, is_bad, stands, receives}
+use Rattle.calls.specs.Call.{closed_end, sending_end, receiving_end, unknown_vector, told_vector, carried_vector, by_default, terms_right, good_call, standing, terms_of, call_at, written, is_bad, stands}
 use Rattle.calls.specs.Opening.{join_refusals, begun_refusals, begun, begun_of, open_of, start_of, joined, join_of}
 use Rattle.calls.specs.Vector.{awaits, with_vector, announce_refusals, announce_of, generates, following, next_refusals, next_vector_of}
 use Rattle.calls.proofs.CallLaws.{is-sender, is_told_lem, by_known, carried_default, receiver_right, by_stands, good_by, not_bad, stands_some, is_receiver}

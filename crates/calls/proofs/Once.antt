@@ -11,7 +11,7 @@ use Rattle.answers.specs.declared.Answer.{Answer}
 use Rattle.answers.specs.declared.Answer.TheVariants.{NotNow}
 use Rattle.answers.specs.Numbers.{number_of}
 use Rattle.calls.specs.declared.call.Call.{Call}
-use Rattle.calls.specs.Call.{told_vector, good_call, told}
+use Rattle.calls.specs.Call.{told_vector, good_call}
 use Rattle.calls.specs.Opening.{open_of}
 use Rattle.calls.specs.Vector.{announce_of}
 use Rattle.calls.proofs.GoodLaws.{announce_good}

@@ -29,7 +29,7 @@ pub const DEFAULT: u8 = 0;
 pub const STRICT: u8 = 1;
 
 // What an opening fixes. A sender's strictness is 0.
-#[derive(Drop)]
+#[derive(Clone, Copy)]
 pub struct Terms {
     pub cipher: u8,
     pub key: [u8; KEY_ROOM],
@@ -38,7 +38,7 @@ pub struct Terms {
 }
 
 // Closed is all zero. A scramble vector is told and zeros, an unknown vector is zeros, and a strict receiver carries none. Only a receiver counts words.
-#[derive(Drop)]
+#[derive(Clone, Copy)]
 pub struct Call {
     pub end: u8,
     pub terms: Terms,
@@ -49,14 +49,14 @@ pub struct Call {
 }
 
 // What an operation answers, and the call after it.
-#[derive(Drop)]
+#[derive(Clone, Copy)]
 pub struct Stepped {
     pub answer: Answer,
     pub call: Call,
 }
 
 // What end answers, the call after it, and what it has counted.
-#[derive(Drop)]
+#[derive(Clone, Copy)]
 pub struct Ended {
     pub answer: Answer,
     pub call: Call,

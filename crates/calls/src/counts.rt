@@ -10,7 +10,7 @@ use sizes::frame::{MOST_WORDS, WORDS};
 const SLOT_WORDS: u32 = WORDS as u32;
 
 // Zeros for a sender and for no call.
-#[derive(Drop)]
+#[derive(Clone, Copy)]
 pub struct Counts {
     pub opened: u32,
     pub held: u32,

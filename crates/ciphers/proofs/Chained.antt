@@ -12,7 +12,7 @@ use lib.ListN.{length, get_or, take, drop, length-drop}
 use lib.Seq.{get_or-take, get_or-drop, length-take-le}
 use Rattle.octets.specs.Lists.{iterate}
 use Rattle.octets.specs.Bits.{bit, octets_from, Octets}
-use Rattle.octets.proofs.BitLaws.{bit_lt, bit_at, octet_of_lem, get_d_octets_from, length-octets_from}
+use Rattle.octets.proofs.BitLaws.{bit_lt, bit_at, octet_of_lem, get_or-octets_from, length-octets_from}
 use Rattle.octets.proofs.Front.{Front, front_start, front_part, front_done}
 use Rattle.ciphers.specs.declared.feedback.Engine.{Engine}
 use Rattle.ciphers.specs.declared.feedback.Engine.TheVariants.{Des, Aes}
@@ -139,7 +139,7 @@ module _ {A : Type 0} (step : A → A) (block : A → List ℕ) (first : A) (w :
           let s : 8 * from + (8 * i + k) ≡ 8 * (from + i) + k = omega arith in
           let q = bits-placed w (from + i) k wd h in
           sym (bit_at b p k h) ∙ rw (s, q.0, q.1, ← e) (ap (λ (x : List ℕ). bit x (8 * p + k)) is_b))
-          ∙ sym (get_d_octets_from (length o) (λ k. used_bit (8 * from + k)) i l)
+          ∙ sym (get_or-octets_from (length o) (λ k. used_bit (8 * from + k)) i l)
 
       -- a turn of the loop: the rest of a block, or of the octets
       pub fed_more : (d : List ℕ) (x : A) (at i : ℕ) → Fed d x at i → i < length o

@@ -5,7 +5,7 @@ use Prim.Native.Nat.{ℕ}
 use native.Mathlib.Omega.{arith}
 use Rattle.octets.specs.Lists.{tab, iterate}
 use Rattle.octets.specs.Bits.{octet, octets_from}
-use Rattle.des.specs.Tables.{ip, ip⁻¹, E, P, pc_1, pc_2, left_shifts, S}
+use Rattle.des.specs.Tables.{ip, ip⁻¹, table_e, table_p, pc_1, pc_2, left_shifts, table_s}
 use Rattle.des.specs.Des.{enciphered, rounds, halved, preoutput, cipher_f, box_input, substituted, box_place, xor_bits, permuted, round_key, key_state, rotated}
 use Rattle.des.proofs.BlockNumbers.{octets, bits, octets_work}
 use Rattle.ciphers.specs.Keystream.{used_block, feedback, stream}
@@ -25,11 +25,11 @@ abbrev used : ℕ
 used = 0xBF46E1EF6C9688E6
 
 fed-bits : enciphered (round_key (bits key)) (bits vector) ≡ bits fed
-unfolding tab ip ip⁻¹ E P pc_1 pc_2 left_shifts S enciphered rounds halved preoutput cipher_f box_input substituted box_place xor_bits permuted round_key key_state rotated
+unfolding tab ip ip⁻¹ table_e table_p pc_1 pc_2 left_shifts table_s enciphered rounds halved preoutput cipher_f box_input substituted box_place xor_bits permuted round_key key_state rotated
 fed-bits = refl
 
 used-bits : enciphered (round_key (bits key)) (bits fed) ≡ bits used
-unfolding tab ip ip⁻¹ E P pc_1 pc_2 left_shifts S enciphered rounds halved preoutput cipher_f box_input substituted box_place xor_bits permuted round_key key_state rotated
+unfolding tab ip ip⁻¹ table_e table_p pc_1 pc_2 left_shifts table_s enciphered rounds halved preoutput cipher_f box_input substituted box_place xor_bits permuted round_key key_state rotated
 used-bits = refl
 
 -- bit 3 of the session

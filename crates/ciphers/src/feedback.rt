@@ -8,7 +8,7 @@ ghost use Rattle.ciphers.specs.Engine.{PreparedFor, block_octets, block_by};
 use octets::{copy, least};
 
 // What enciphers a block, under a key that was prepared for it: DES's as octets, AES's as words. Whichever it isn't is not looked at.
-#[derive(Drop)]
+#[derive(Clone, Copy)]
 pub enum Engine {
     Des,
     Aes,

@@ -14,7 +14,7 @@ pub const NONE: u8 = 0;
 pub const MOST_MESSAGES: u16 = 1000;
 
 // No packet is all zero. A scramble vector is zeros.
-#[derive(Drop)]
+#[derive(Clone, Copy)]
 pub struct Packet {
     pub kind: u8,
     pub cipher: u8,
@@ -24,7 +24,7 @@ pub struct Packet {
 }
 
 // What an operation answers, and the packet after it.
-#[derive(Drop)]
+#[derive(Clone, Copy)]
 pub struct Taken {
     pub answer: Answer,
     pub packet: Packet,

@@ -266,19 +266,19 @@ clinging-heard_fails = clinging-out 0 (omega arith)
 module _ (announces : List ℕ → Call → Answer × Call)
     (same : (v : List ℕ) (s : Call) → number_of (announce_of s v).0 ≡ 0 → (number_of (announces v s).0 ≡ 0) × ((announce_of s v).1 ≡ (announces v s).1)) where
   -- where ours is right all the way
-  same_log : (b : List ℕ) (c i rt : ℕ) (s : Call) (ns : List Notice) → Each Right (events ours b c i rt s ns)
+  same_log : (b : List ℕ) (c i rt : ℕ) (ns : List Notice) (s : Call) → Each Right (events ours b c i rt s ns)
       → Each Right (events (taking announces) b c i rt s ns)
-  same_log b c i rt s [] h = h
-  same_log b c i rt s (hear v ∷ ns) h = (h.0, same_log b c i rt _ ns h.1)
-  same_log b c i rt s (join ∷ ns) h = (h.0, same_log b c i rt _ ns h.1)
-  same_log b c i rt s (announce v ∷ ns) h =
+  same_log b c i rt [] s h = h
+  same_log b c i rt (hear v ∷ ns) s h = (h.0, same_log b c i rt ns _ h.1)
+  same_log b c i rt (join ∷ ns) s h = (h.0, same_log b c i rt ns _ h.1)
+  same_log b c i rt (announce v ∷ ns) s h =
       let o = same v s h.0 in
-      (o.0, same_log b c i rt _ ns (subst (λ (d : Call). Each Right (events ours b c i rt d ns)) o.1 h.1))
-  same_log b c i rt s (lost ∷ ns) h = (h.0, same_log b c i rt _ ns h.1)
-  same_log b c i rt s (voice reached x ∷ ns) h = (h.0, same_log b c i rt _ ns h.1)
+      (o.0, same_log b c i rt ns _ (subst (λ (d : Call). Each Right (events ours b c i rt d ns)) o.1 h.1))
+  same_log b c i rt (lost ∷ ns) s h = (h.0, same_log b c i rt ns _ h.1)
+  same_log b c i rt (voice reached x ∷ ns) s h = (h.0, same_log b c i rt ns _ h.1)
 
   taking-meets-3 : Meets3 (taking announces)
-  taking-meets-3 t k b i h e few = same_log b t.cipher i t.rate no_call (notices_of t e) (ours_meets_3 t k b i h e few)
+  taking-meets-3 t k b i h e few = same_log b t.cipher i t.rate (notices_of t e) no_call (ours_meets_3 t k b i h e few)
 
 pub at_once_meets_3 : Meets3 at_once_hearing
 at_once_meets_3 = taking-meets-3 at_once_hearing.announce (λ v s e. (refl, announced s v e))

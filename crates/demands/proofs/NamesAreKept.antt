@@ -152,7 +152,7 @@ ours_keeps_names =
       name = λ os c i r l.
           ap (λ (x : List ℕ). screen.name_of x c i) (book_is os) ∙ name_is_told (keys_in os) c i (ranged c i r l) ∙ ap book.name_told (sym (told-as os c i));
       taken = ours-taken;
-      in_turn_lem = ours-in-turn;
+      in_turn = ours-in-turn;
       erased = ours-erased;
       whole = ours-whole;
       in_place = ours_in_place;

@@ -47,7 +47,7 @@ no_other_entry st d k l done meets = let r = meets.refused d (OfScreen (Inventor
 -- a key operation done out of its turn: a begin of a key that is there, an add or a finish of one that isn't being loaded, an erase of none
 pub out_of_turn_thrown_out : (st : Step) (os : List Operation) (o : book.Operation) → book.in_turn o (book.told_for o (key_operations (history st os))) ≡ false
     → number_of (st (device_after st os) (OfBook o)).0 ≡ 0 → NamesKept st → ⊥
-out_of_turn_thrown_out st os o f done kept = let r = kept.in_turn_lem os o f in omega arith
+out_of_turn_thrown_out st os o f done kept = let r = kept.in_turn os o f in omega arith
 
 -- no key taken: the first begin refused, whatever its name
 pub taking-none_thrown_out : (st : Step) (c i : ℕ) (n : List ℕ) → (1 ≤ c) × (c ≤ 3) → i ≤ 63 → IsName n
@@ -123,14 +123,14 @@ module _ (n : List ℕ) (named : IsName n) where
   unfolding history device_after key_operations book.telling
   is_told_lem = rw begin_done
 
-  told_of : told_of (history step begun) 2 0 ≡ book.nothing → ⊥
-  told_of e = let z : ◌≡◌ {A = ℕ} 0 1 = cc (e, is_told_lem) in omega arith
+  told_something : told_of (history step begun) 2 0 ≡ book.nothing → ⊥
+  told_something e = let z : ◌≡◌ {A = ℕ} 0 1 = cc (e, is_told_lem) in omega arith
 
   -- it is shown by no entry
   pub unwritten_thrown_out : NamesKept (forgetting is_begin) → ⊥
   unfolding device_after history key_operations book.telling
   unwritten_thrown_out kept =
-      let s = kept.complete begun 2 0 told_of in
+      let s = kept.complete begun 2 0 told_something in
       let free = ap (λ (x : Answer × List ℕ). x.1) (ours_keeps_names.shown [] s.place s.below) ∙ none-listed in
       let used = s.shows ∙ ap (λ (t : book.Progress). listed (book.shown_told 2 0 t)) is_told_lem in
       let z : ◌≡◌ {A = ℕ} 2 0 = ap (λ (xs : List ℕ). get_or xs 0 0) (sym used ∙ free) in
@@ -140,13 +140,13 @@ module _ (n : List ℕ) (named : IsName n) where
   unfolding step book.step erase_of entry_refusals book_refusals in_range
   erase-done =
       let b = book.book_after (keys_in begun) in
-      rw (book_is begun, eq-eqb _ _ (good_sized b (always_good (keys_in begun))), always_good (keys_in begun), lt-ltb _ _ (there begun 2 0 told_of).0)
+      rw (book_is begun, eq-eqb _ _ (good_sized b (always_good (keys_in begun))), always_good (keys_in begun), lt-ltb _ _ (there begun 2 0 told_something).0)
 
   -- it is shown after it was erased
   pub clinging_thrown_out : NamesKept (forgetting is_erase) → ⊥
   unfolding device_after history key_operations book.telling
   clinging_thrown_out kept =
-      let s = ours_keeps_names.complete begun 2 0 told_of in
+      let s = ours_keeps_names.complete begun 2 0 told_something in
       let used : shown_at step begun s.place ≡ 2 ∷ 0 ∷ 0 ∷ 0 ∷ n = s.shows ∙ ap (λ (t : book.Progress). listed (book.shown_told 2 0 t)) is_told_lem in
       let t = ap (λ (x : Answer × List ℕ). x.1) (kept.shown (OfBook (book.Erase 2 0) ∷ begun) s.place s.below) in
       let free = (rw (used, erase-done) at t) ∙ none-listed in

@@ -9,7 +9,7 @@ use native.Mathlib.Nat.{div-add-mod, mod-lt, lt_of_mul-lt-mul_left}
 use native.Mathlib.Omega.{arith}
 use lib.ListN.{length, replicate, length-replicate}
 use Rattle.octets.specs.Tests.{all_below}
-use Rattle.octets.specs.Lists.{tab, iterate}
+use Rattle.octets.specs.Lists.{iterate}
 use Rattle.octets.specs.Bits.{bit, flip, octet, octets_from, Bits, Octets}
 use Rattle.octets.proofs.TestLaws.{all-at}
 use Rattle.octets.proofs.BitLaws.{octets_ext}

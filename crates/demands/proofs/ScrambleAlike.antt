@@ -198,7 +198,9 @@ scramble_notices t q opening = rw q (go t.sessions)
     go : (xs : List Session) → since_known true (opening_notices 1 xs) ≡ opening_notices 1 xs
     go [] = refl
     go (x ∷ xs) = ap (λ (ns : List Notice). hear x.vector ∷ ns) (since_first 0 true (x ∷ xs))
-scramble_notices t q (joining n) = rw q (ap (λ (ns : List Notice). join ∷ ns) (since_first superframe_slots false (drop n t.sessions)))
+scramble_notices t q (joining n) =
+    subst (λ (c : ℕ). since_known (scrambles c) (join ∷ first_notices c false superframe_slots (drop n t.sessions)) ≡ join ∷ first_notices c false superframe_slots (drop n t.sessions)) (sym q)
+    (ap (λ (ns : List Notice). join ∷ ns) (since_first superframe_slots false (drop n t.sessions)))
 
 -- whatever is asked of the vectors of DES and AES
 pub scramble_demands : (P : Session → Session → Type 0) (r : ℕ) (R : Receiver) → (MeetsIn 1 r R → MeetsDefaultIn P 1 r R) × (MeetsDefaultIn P 1 r R → MeetsIn 1 r R)

@@ -229,9 +229,9 @@ module _ (c : ℕ) (r : (1 ≤ c) × (c ≤ 3)) (rt : ℕ) (lt : rt ≤ 1) where
         not-silent v o q (rw f (last_some v o rt c r)) (word_speech rt 15 (turning rt (stream c (key_of c) v) q 15 (silence rt)) (silence rt) (h'.opened (h'.handed e)))
 
     -- a session of which the last slot arrives
-    last_one : (v : List ℕ) → Octets v → {reached : Bool} → reached ≡ true → (s : Stands) → s.1 ≤ s.0 + (session_slots c - 1)
+    last_one_lem : (v : List ℕ) → Octets v → {reached : Bool} → reached ≡ true → (s : Stands) → s.1 ≤ s.0 + (session_slots c - 1)
         → RightFrom s (slot_notices reached (last_one v).slots ++ []) → ⊥
-    last_one v o {reached} e s l =
+    last_one_lem v o {reached} e s l =
         lost-on (stream c (key_of c) v) (session_slots c - 1) 0 (true ∷ []) reached [] s
         (λ q f s' a b. one_more v o e s' (omega arith) q (f ∙ zero-add (session_slots c - 1)))
 
@@ -246,8 +246,8 @@ module _ (c : ℕ) (r : (1 ≤ c) × (c ≤ 3)) (rt : ℕ) (lt : rt ≤ 1) where
     late way known v o zero s l h = go (scrambles c) h
       where
         go : (t : Bool) → RightFrom s (start_notices (not t && true) v ++ (slot_notices (known || true) (last_one v).slots ++ [])) → ⊥
-        go true h = last_one v o.octets (or-true known) s l h
-        go false h = last_one v o.octets (or-true known) (s.0, s.1, (R.announce v s.2).1) l h.1
+        go true h = last_one_lem v o.octets (or-true known) s l h
+        go false h = last_one_lem v o.octets (or-true known) (s.0, s.1, (R.announce v s.2).1) l h.1
     late way known v o (suc m) s l h =
         gone-on v (known || false) (sessions_by way c (known_next way c (known || false)) (quiet_for (next_vector v) m)) s
         (λ s' a b. late way (known_next way c (known || false)) (next_vector v) (next-is-vector v) m s' (omega arith)) (rw and_false_r at h)
@@ -256,7 +256,7 @@ module _ (c : ℕ) (r : (1 ≤ c) × (c ≤ 3)) (rt : ℕ) (lt : rt ≤ 1) where
     opened = (0, first c, (R.hear c 0 rt seed book_of_three R.idle).1)
 
     lost-first : (way : ℕ) (known : Bool) → known ≡ true → (m : ℕ) → first c ≤ before m → RightFrom opened (first_by way c known 0 (quiet_for seed m)) → ⊥
-    lost-first way known e zero l = last_one seed seed-vector.octets e opened (omega arith)
+    lost-first way known e zero l = last_one_lem seed seed-vector.octets e opened (omega arith)
     lost-first way known e (suc m) l =
         gone-on seed known (sessions_by way c (known_next way c known) (quiet_for (next_vector seed) m)) opened
         (λ s' a b. late way (known_next way c known) (next_vector seed) (next-is-vector seed) m s' (omega arith))

@@ -66,7 +66,7 @@ pub record NamesKept (st : Step) : Type 0 where
   pub taken : (os : List Operation) (c i : ℕ) (n : List ℕ) → (1 ≤ c) × (c ≤ 3) → i ≤ 63 → IsName n → told_of (history st os) c i ≡ nothing
       → (k : ℕ) → k ≤ 15 → cipher_at st os k ≡ 0 → (st (device_after st os) (OfBook (book.Begin c i n))).0 ≡ Done
   -- but not again before it is erased; nor is one added to or finished that isn't being loaded, or erased that isn't there
-  pub in_turn_lem : (os : List Operation) (o : book.Operation) → book.in_turn o (book.told_for o (key_operations (history st os))) ≡ false
+  pub in_turn : (os : List Operation) (o : book.Operation) → book.in_turn o (book.told_for o (key_operations (history st os))) ≡ false
       → 2 ≤ number_of (st (device_after st os) (OfBook o)).0
   -- what is there is erased
   pub erased : (os : List Operation) (c i : ℕ) → (1 ≤ c) × (c ≤ 3) → i ≤ 63 → (told_of (history st os) c i ≡ nothing → ⊥)

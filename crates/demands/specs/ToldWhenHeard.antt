@@ -9,7 +9,7 @@ use Rattle.hearing.specs.Hearing.{no_hearing}
 use Rattle.nxdn.specs.Operations.{Open, Join, Voice, Lost}
 use Rattle.nxdn.specs.Interface.{Of, Heard, asked_step}
 use Rattle.demands.specs.Talk.{Session, Talk, WayIn, opening, joining, Kept, HasKey}
-use Rattle.demands.specs.Notices.{Notice, hear, join, announce, is_reached, slot_notices, start_notices, WithinLimit}
+use Rattle.demands.specs.Notices.{Notice, hear, join, is_reached, slot_notices, start_notices, WithinLimit}
 use Rattle.demands.specs.Log.{Receiver, Event, events}
 use Rattle.demands.specs.Demand3.{Right}
 use Rattle.demands.specs.Demand3Default.{Successive, GeneratedOrAnnounced, heard_from}

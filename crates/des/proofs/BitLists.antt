@@ -10,10 +10,10 @@ use lib.ListN.{length, get_or, take, drop, length-map, get_or-eq_default}
 use lib.Seq.{get_or-drop, ext_get_or}
 use Rattle.octets.specs.Lists.{tab}
 use Rattle.octets.specs.Bits.{bit, flip, Bits}
-use Rattle.octets.proofs.ListLaws.{length-tab, get_d_tab}
+use Rattle.octets.proofs.ListLaws.{length-tab, get_or-tab}
 use Rattle.octets.proofs.BitLaws.{bit_lt, flip_lt}
 use Rattle.des.specs.Des.{permuted, xor_bits, box_place, substituted, cipher_f}
-use Rattle.des.specs.Tables.{S, P}
+use Rattle.des.specs.Tables.{table_s, table_p}
 
 -- each element is a bit
 abbrev pub BitList : List ℕ → Type 0
@@ -27,7 +27,7 @@ pub bits-tab : (f : ℕ → ℕ) (n : ℕ) → Bits f → BitList (tab f n)
 bits-tab f n b k = go (dec_lt k n)
   where
     go : Dec (k < n) → get_or (tab f n) k 0 < 2
-    go (yes h) = rw (get_d_tab f n k h) (b k)
+    go (yes h) = rw (get_or-tab f n k h) (b k)
     go (no h) = let e = get_or-eq_default (tab f n) 0 {n = k} (omega (arith, length-tab f n)) in omega arith
 
 pub bits_of : (xs : List ℕ) (n : ℕ) → BitList (tab (bit xs) n)
@@ -50,11 +50,11 @@ pub length-permuted : (t l : List ℕ) → length (permuted t l) ≡ length t
 unfolding permuted
 length-permuted t l = length-map t (λ (k : ℕ). get_or l (k - 1) 0)
 
-pub get_d_permuted : (t l : List ℕ) (i : ℕ) → i < length t → get_or (permuted t l) i 0 ≡ get_or l (get_or t i 0 - 1) 0
+pub get_or-permuted : (t l : List ℕ) (i : ℕ) → i < length t → get_or (permuted t l) i 0 ≡ get_or l (get_or t i 0 - 1) 0
 unfolding permuted
-get_d_permuted [] l i h = absurd (not-suc-le-zero h)
-get_d_permuted (x ∷ t) l zero h = refl
-get_d_permuted (x ∷ t) l (suc i) h = get_d_permuted t l i (le_of_suc-le-suc h)
+get_or-permuted [] l i h = absurd (not-suc-le-zero h)
+get_or-permuted (x ∷ t) l zero h = refl
+get_or-permuted (x ∷ t) l (suc i) h = get_or-permuted t l i (le_of_suc-le-suc h)
 
 pub bits-permuted : (t l : List ℕ) → BitList l → BitList (permuted t l)
 unfolding permuted
@@ -70,7 +70,7 @@ permuted_same t a b same =
     ext_get_or 0 (permuted t a) (permuted t b) (length-permuted t a ∙ sym (length-permuted t b))
     (λ i h.
     let inside : i < length t = omega (arith, length-permuted t a) in
-    get_d_permuted t a i inside ∙ same i inside ∙ sym (get_d_permuted t b i inside))
+    get_or-permuted t a i inside ∙ same i inside ∙ sym (get_or-permuted t b i inside))
 
 -- added
 pub length_xor : (a b : List ℕ) → length (xor_bits a b) ≡ length a
@@ -86,9 +86,9 @@ xor_flip (suc zero) (suc zero) ha hb = refl
 xor_flip (suc zero) (suc (suc b)) ha hb = absurd (omega arith)
 xor_flip (suc (suc a)) b ha hb = absurd (omega arith)
 
-pub get_d_xor : (a b : List ℕ) → BitList a → BitList b → (i : ℕ) → i < length a → bit_xor (get_or a i 0) (get_or b i 0) ≡ get_or (xor_bits a b) i 0
+pub get_or-xor : (a b : List ℕ) → BitList a → BitList b → (i : ℕ) → i < length a → bit_xor (get_or a i 0) (get_or b i 0) ≡ get_or (xor_bits a b) i 0
 unfolding xor_bits
-get_d_xor a b ha hb i h = xor_flip _ _ (ha i) (hb i) ∙ sym (get_d_tab (λ i. flip (get_or a i 0) (get_or b i 0)) (length a) i h)
+get_or-xor a b ha hb i h = xor_flip _ _ (ha i) (hb i) ∙ sym (get_or-tab (λ i. flip (get_or a i 0) (get_or b i 0)) (length a) i h)
 
 pub bits_xor : (a b : List ℕ) → BitList (xor_bits a b)
 unfolding xor_bits
@@ -99,12 +99,12 @@ pub length-substituted : (b : List ℕ) → length (substituted b) ≡ 32
 unfolding substituted
 length-substituted b = length-tab _ 32
 
-pub get_d_substituted : (b : List ℕ) (v i r : ℕ) → i < 8 → r < 4 → v ≡ get_or S (box_place b i) 0 → v / 2 ^ (3 - r) % 2 ≡ get_or (substituted b) (4 * i + r) 0
+pub get_or-substituted : (b : List ℕ) (v i r : ℕ) → i < 8 → r < 4 → v ≡ get_or table_s (box_place b i) 0 → v / 2 ^ (3 - r) % 2 ≡ get_or (substituted b) (4 * i + r) 0
 unfolding substituted
-get_d_substituted b v i r h s e =
+get_or-substituted b v i r h s e =
     let q : (4 * i + r) / 4 ≡ i = omega arith in
     let m : (4 * i + r) % 4 ≡ r = omega arith in
-    sym (get_d_tab (λ k. get_or S (box_place b (k / 4)) 0 / 2 ^ (3 - k % 4) % 2) 32 (4 * i + r) (omega arith) ∙ rw (q, m, e))
+    sym (get_or-tab (λ k. get_or table_s (box_place b (k / 4)) 0 / 2 ^ (3 - k % 4) % 2) 32 (4 * i + r) (omega arith) ∙ rw (q, m, e))
 
 pub bits-substituted : (b : List ℕ) → BitList (substituted b)
 unfolding substituted
@@ -112,4 +112,4 @@ bits-substituted b = bits-tab _ 32 (λ k. omega arith)
 
 pub bits-cipher_f : (r k : List ℕ) → BitList (cipher_f r k)
 unfolding cipher_f
-bits-cipher_f r k = bits-permuted P _ (bits-substituted _)
+bits-cipher_f r k = bits-permuted table_p _ (bits-substituted _)

@@ -11,7 +11,7 @@ use Rattle.octets.specs.Tests.{all_below}
 use Rattle.octets.specs.Lists.{tab}
 use Rattle.octets.specs.Bits.{bit}
 use Rattle.octets.proofs.TestLaws.{all-at}
-use Rattle.octets.proofs.ListLaws.{length-tab, get_d_tab}
+use Rattle.octets.proofs.ListLaws.{length-tab, get_or-tab}
 use Rattle.des.specs.Tables.{pc_1, pc_2, left_shifts}
 use Rattle.des.specs.Des.{permuted, rotated, key_state, round_key}
 use Rattle.des.specs.Prepared.{c_of, d_of, shifts_to, shift_sums, twice_over, schedule_of}
@@ -122,7 +122,7 @@ module _ (key : List ℕ) where
     sum-at =
         ap (λ (k : ℕ). get_or (schedule_of key) (k + n) 0) (sym length_twice)
         ∙ get_or-append-add (twice_over key) shift_sums n 0
-        ∙ get_d_tab (λ k. shifts_to (suc k)) 16 n h
+        ∙ get_or-tab (λ k. shifts_to (suc k)) 16 n h
 
     pub shifts_small : s ≤ 28
     shifts_small = shifts_within (suc n) h

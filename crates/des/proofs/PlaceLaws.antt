@@ -9,7 +9,7 @@ use lib.ListN.{length, get_or}
 use borrow.Author.Tests.{leb-true}
 use Rattle.octets.specs.Tests.{all_below}
 use Rattle.octets.proofs.TestLaws.{and_left, and_right, all-at}
-use Rattle.des.specs.Tables.{ip, ip⁻¹, E, P, pc_1}
+use Rattle.des.specs.Tables.{ip, ip⁻¹, table_e, table_p, pc_1}
 
 -- each entry of the table is the place of one of n bits
 abbrev pub Places : ℕ → List ℕ → Type 0
@@ -24,6 +24,9 @@ places n t e i h =
     (leb-true 1 (get_or t i 0) (and_left (leb 1 (get_or t i 0)) (leb (get_or t i 0) n) b), leb-true (get_or t i 0) n (and_right (leb 1 (get_or t i 0)) (leb (get_or t i 0) n) b))
 
 -- what permuting by a table asks
+pub permutable-long : {m : ℕ} {t table : List ℕ} → t ≡ table → m ≡ length table → m ≡ length t
+permutable-long e out = rw e out
+
 pub permutable : {m k n : ℕ} {t table : List ℕ} → t ≡ table → Places n table → m ≡ length table → n ≤ k → (m ≡ length t) × Places k t
 permutable e p out bits = rw e (out, λ i h. ((p i h).0, omega (arith, (p i h).1)))
 
@@ -35,13 +38,13 @@ pub inverse_places : Places 64 ip⁻¹
 unfolding all_below ip⁻¹
 inverse_places = places 64 ip⁻¹ refl
 
-pub e_places : Places 32 E
-unfolding all_below E
-e_places = places 32 E refl
+pub e_places : Places 32 table_e
+unfolding all_below table_e
+e_places = places 32 table_e refl
 
-pub p_places : Places 32 P
-unfolding all_below P
-p_places = places 32 P refl
+pub p_places : Places 32 table_p
+unfolding all_below table_p
+p_places = places 32 table_p refl
 
 pub pc1_places : Places 64 pc_1
 unfolding all_below pc_1

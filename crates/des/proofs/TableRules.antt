@@ -1,5 +1,5 @@
 -- What FIPS 46-3's tables keep to, said otherwise than by writing them out: each rule is one computed test over the whole table, so that a slip which is made in
--- specs/ and in src/ alike is refused where it breaks one. ip, its inverse, E and permuted choice 1 are settled by theirs.
+-- specs/ and in src/ alike is refused where it breaks one. IP, its inverse, E and permuted choice 1 are settled by theirs.
 use mathlib.Core.Path.{◌≡◌, refl, sym, ap, ◌∙◌}
 use mathlib.Core.Bool.{Bool, true, ◌&&◌}
 use mathlib.Core.List.{List, [], ◌∷◌, ◌++◌}
@@ -12,11 +12,11 @@ use borrow.Author.Tests.{eqb-true, ltb-true, leb-true}
 use Rattle.octets.specs.Tests.{pick, all_below}
 use Rattle.octets.specs.Lists.{tab}
 use Rattle.octets.proofs.TestLaws.{and_left, and_right, all-at, agree}
-use Rattle.octets.proofs.ListLaws.{get_d_tab}
-use Rattle.des.specs.Tables.{ip, ip⁻¹, E, P, pc_1, pc_2, left_shifts, S}
+use Rattle.octets.proofs.ListLaws.{get_or-tab}
+use Rattle.des.specs.Tables.{ip, ip⁻¹, table_e, table_p, pc_1, pc_2, left_shifts, table_s}
 use Rattle.des.specs.Des.{permuted}
 use Rattle.des.specs.Prepared.{shifts_to}
-use Rattle.des.proofs.BitLists.{length-permuted, get_d_permuted}
+use Rattle.des.proofs.BitLists.{length-permuted, get_or-permuted}
 use Rattle.des.proofs.PlaceLaws.{Places, ip_places, inverse_places}
 
 -- how often v stands in a list
@@ -58,9 +58,9 @@ module _ (t u : List ℕ) (long-t : length t ≡ 64) (long-u : length u ≡ 64) 
       (λ i h.
       let small : i < 64 = omega (arith, length-permuted t (permuted u block), long-t) in
       let within : i < length t = omega (arith, long-t) in
-      let place : get_or u (get_or t i 0 - 1) 0 ≡ suc i = sym (get_d_permuted t u i within) ∙ ap (λ (x : List ℕ). get_or x i 0) back ∙ get_d_tab suc 64 i small in
-      get_d_permuted t (permuted u block) i within
-      ∙ get_d_permuted u block (get_or t i 0 - 1) (omega (arith, inside i within, long-u))
+      let place : get_or u (get_or t i 0 - 1) 0 ≡ suc i = sym (get_or-permuted t u i within) ∙ ap (λ (x : List ℕ). get_or x i 0) back ∙ get_or-tab suc 64 i small in
+      get_or-permuted t (permuted u block) i within
+      ∙ get_or-permuted u block (get_or t i 0 - 1) (omega (arith, inside i within, long-u))
       ∙ ap (λ (k : ℕ). get_or block k 0) (omega (arith, place)))
 
 pub undone : (block : List ℕ) → length block ≡ 64 → permuted ip⁻¹ (permuted ip block) ≡ block
@@ -75,20 +75,20 @@ redone = undoes ip ip⁻¹ length_ip length-inverse ip_places refl
 
 -- row n of the 32, four to a box
 abbrev pub row : ℕ → List ℕ
-row n = take 16 (drop (16 * n) S)
+row n = take 16 (drop (16 * n) table_s)
 
 pub rows_permute : (n : ℕ) → n < 32 → Permutation 0 16 (row n)
-unfolding all_below times S
+unfolding all_below times table_s
 rows_permute n h = permutation 0 16 (row n) (all-at (λ k. is_permutation 0 16 (row k)) 32 n h refl)
 
-pub p_permutes : Permutation 1 32 P
-unfolding all_below times P
-p_permutes = permutation 1 32 P refl
+pub p_permutes : Permutation 1 32 table_p
+unfolding all_below times table_p
+p_permutes = permutation 1 32 table_p refl
 
 -- ---- the expansion: eight windows of six bits, four apart, the first from the last bit on
 
-pub e_windows : E ≡ tab (λ k. (31 + 4 * (k / 6) + k % 6) % 32 + 1) 48
-unfolding E tab
+pub e_windows : table_e ≡ tab (λ k. (31 + 4 * (k / 6) + k % 6) % 32 + 1) 48
+unfolding table_e tab
 e_windows = refl
 
 -- ---- the key schedule

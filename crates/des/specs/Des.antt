@@ -2,7 +2,7 @@
 use Rattle.std.specs.Prelude.{List, ◌++◌, map, ℕ, zero, suc, ◌+◌, ◌-◌, ◌*◌, ◌/◌, ◌%◌, ◌^◌, length, get_or, take, drop}
 use Rattle.octets.specs.Lists.{tab}
 use Rattle.octets.specs.Bits.{bit, flip, octets_from}
-use Rattle.des.specs.Tables.{ip, ip⁻¹, E, P, pc_1, pc_2, left_shifts, S}
+use Rattle.des.specs.Tables.{ip, ip⁻¹, table_e, table_p, pc_1, pc_2, left_shifts, table_s}
 
 -- a table's entry is the place of the bit that goes here
 unfoldable pub permuted : List ℕ → List ℕ → List ℕ
@@ -16,7 +16,7 @@ xor_bits a b = tab (λ i. flip (get_or a i 0) (get_or b i 0)) (length a)
 
 -- what the boxes are given
 unfoldable pub box_input : List ℕ → List ℕ → List ℕ
-box_input r k = xor_bits (permuted E r) k
+box_input r k = xor_bits (permuted table_e r) k
 
 -- where box i, counted from 0, looks: its six bits stand from 6 i on, the first and the last are the row, the four between the column
 unfoldable pub box_place : List ℕ → ℕ → ℕ
@@ -27,10 +27,10 @@ box_place b i =
 
 -- the four bits of each box's entry, one box after the other
 unfoldable pub substituted : List ℕ → List ℕ
-substituted b = tab (λ k. get_or S (box_place b (k / 4)) 0 / 2 ^ (3 - k % 4) % 2) 32
+substituted b = tab (λ k. get_or table_s (box_place b (k / 4)) 0 / 2 ^ (3 - k % 4) % 2) 32
 
 unfoldable pub cipher_f : List ℕ → List ℕ → List ℕ
-cipher_f r k = permuted P (substituted (box_input r k))
+cipher_f r k = permuted table_p (substituted (box_input r k))
 
 -- ---- the key schedule
 

@@ -3,12 +3,12 @@
 use Rattle.std.specs.Prelude.{◌≡◌, List, ◌++◌, ℕ, zero, suc, ◌+◌, get_or, take, drop}
 use Rattle.octets.specs.Lists.{tab}
 use Rattle.octets.specs.Bits.{bit}
-use Rattle.des.specs.Tables.{ip, ip⁻¹, E, P, pc_1, pc_2, left_shifts, S}
+use Rattle.des.specs.Tables.{ip, ip⁻¹, table_e, table_p, pc_1, pc_2, left_shifts, table_s}
 use Rattle.des.specs.Des.{permuted, round_key}
 
 -- the tables of a block, one after the other
 unfoldable pub cipher_tables : List ℕ
-cipher_tables = ip ++ (E ++ (P ++ (S ++ (ip⁻¹ ++ pc_2))))
+cipher_tables = ip ++ (table_e ++ (table_p ++ (table_s ++ (ip⁻¹ ++ pc_2))))
 
 -- C and D of a key of 64 bits, before the first shift
 abbrev pub c_of : List ℕ → List ℕ

@@ -1,7 +1,7 @@
 -- FIPS 46-3's tables, each laid out as the standard prints it.
 use Rattle.std.specs.Prelude.{List, [], ◌∷◌, ℕ}
 
--- the initial permutation ip
+-- the initial permutation IP
 unfoldable pub ip : List ℕ
 ip =
     58 ∷ 50 ∷ 42 ∷ 34 ∷ 26 ∷ 18 ∷ 10 ∷ 2 ∷
@@ -13,7 +13,7 @@ ip =
     61 ∷ 53 ∷ 45 ∷ 37 ∷ 29 ∷ 21 ∷ 13 ∷ 5 ∷
     63 ∷ 55 ∷ 47 ∷ 39 ∷ 31 ∷ 23 ∷ 15 ∷ 7 ∷ []
 
--- the inverse of ip
+-- the inverse of IP
 unfoldable pub ip⁻¹ : List ℕ
 ip⁻¹ =
     40 ∷ 8 ∷ 48 ∷ 16 ∷ 56 ∷ 24 ∷ 64 ∷ 32 ∷
@@ -26,8 +26,8 @@ ip⁻¹ =
     33 ∷ 1 ∷ 41 ∷ 9 ∷ 49 ∷ 17 ∷ 57 ∷ 25 ∷ []
 
 -- the E bit-selection table
-unfoldable pub E : List ℕ
-E =
+unfoldable pub table_e : List ℕ
+table_e =
     32 ∷ 1 ∷ 2 ∷ 3 ∷ 4 ∷ 5 ∷
     4 ∷ 5 ∷ 6 ∷ 7 ∷ 8 ∷ 9 ∷
     8 ∷ 9 ∷ 10 ∷ 11 ∷ 12 ∷ 13 ∷
@@ -38,8 +38,8 @@ E =
     28 ∷ 29 ∷ 30 ∷ 31 ∷ 32 ∷ 1 ∷ []
 
 -- the permutation P
-unfoldable pub P : List ℕ
-P =
+unfoldable pub table_p : List ℕ
+table_p =
     16 ∷ 7 ∷ 20 ∷ 21 ∷
     29 ∷ 12 ∷ 28 ∷ 17 ∷
     1 ∷ 15 ∷ 23 ∷ 26 ∷
@@ -50,8 +50,8 @@ P =
     22 ∷ 11 ∷ 4 ∷ 25 ∷ []
 
 -- the selection functions S1 to S8, each with its four rows of sixteen, one after the other
-unfoldable pub S : List ℕ
-S =
+unfoldable pub table_s : List ℕ
+table_s =
     -- S1
     14 ∷ 4 ∷ 13 ∷ 1 ∷ 2 ∷ 15 ∷ 11 ∷ 8 ∷ 3 ∷ 10 ∷ 6 ∷ 12 ∷ 5 ∷ 9 ∷ 0 ∷ 7 ∷
     0 ∷ 15 ∷ 7 ∷ 4 ∷ 14 ∷ 2 ∷ 13 ∷ 1 ∷ 10 ∷ 6 ∷ 12 ∷ 11 ∷ 9 ∷ 5 ∷ 3 ∷ 8 ∷

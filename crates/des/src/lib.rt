@@ -1,11 +1,13 @@
 // DES, FIPS 46-3, forward. Here is the plain engine, on unpacked bits: an octet for each bit, the leftmost first. The second one, on numbers, is `joineddes`.
+#![tactic(auto)]
+
 pub mod looks;
 pub mod tables;
 
 ghost use Rattle.std.specs.Prelude.{◌≡◌, ◌++◌, ℕ, suc, ◌+◌, ◌-◌, ◌*◌, ◌/◌, ◌%◌, ◌^◌, ◌<◌, ◌≤◌, length, get_or, take, drop};
 ghost use Rattle.octets.specs.Bits.{bit, octets_from, Bits};
 ghost use Rattle.octets.specs.Lists.{tab};
-ghost use Rattle.des.specs.Tables.{IP, IP⁻¹, PC-1, S};
+ghost use Rattle.des.specs.Tables.{ip, ip⁻¹, pc_1, table_s};
 ghost use Rattle.des.specs.Des.{permuted, xor_bits, box_input, box_place, substituted, cipher_f, rounds, halved, preoutput, des};
 ghost use Rattle.des.specs.Prepared.{cipher_tables, shifts_to, shift_sums, key_of, keys_of, Prepared};
 
@@ -138,7 +140,7 @@ fn box_place(bits: &[u8], i: usize) -> usize
 
 // What the boxes select by 48 bits.
 fn substitute(boxes: &[u8], bits: &[u8]) -> [u8; 32]
-    requires { (boxes.now ≡ S) × (length bits.now ≡ 48) × Bits (λ k. get_or bits.now k 0) }
+    requires { (boxes.now ≡ table_s) × (length bits.now ≡ 48) × Bits (λ k. get_or bits.now k 0) }
     ensures { result ≡ substituted bits.now }
 {
     let mut out = [0u8; 32];
@@ -223,7 +225,7 @@ fn first_rounds(prepared: &[u8], bits: &mut [u8], count: usize)
 // The initial permutation of a block, into lent bits: an array given back takes more stack.
 fn initial(prepared: &[u8], block: &[u8], first: &mut [u8])
     requires { Prepared prepared.now × (length block.now ≡ 8) × (length first.old ≡ 64) }
-    ensures { first.new ≡ permuted IP (tab (bit block.now) 64) }
+    ensures { first.new ≡ permuted ip (tab (bit block.now) 64) }
 {
     let bits = unpack(block);
     permute(&bits, &prepared[AT_IP..AT_E], first);
@@ -232,7 +234,7 @@ fn initial(prepared: &[u8], block: &[u8], first: &mut [u8])
 // The block of the preoutput: the inverse of the initial permutation, packed.
 fn last(prepared: &[u8], preoutput: &[u8], block: &mut [u8])
     requires { Prepared prepared.now × (length preoutput.now ≡ 64) × Bits (λ k. get_or preoutput.now k 0) × (length block.old ≡ 8) }
-    ensures { block.new ≡ octets_from 8 (λ k. get_or (permuted IP⁻¹ preoutput.now) k 0) }
+    ensures { block.new ≡ octets_from 8 (λ k. get_or (permuted ip⁻¹ preoutput.now) k 0) }
 {
     let mut bits = [0u8; 64];
     permute(preoutput, &prepared[AT_IP_INVERSE..AT_C_PLACES], &mut bits);
@@ -255,7 +257,7 @@ pub fn encipher(prepared: &[u8], block: &mut [u8])
 // C and D before the first shift.
 pub fn first_state(key: &[u8]) -> [u8; 56]
     requires { 8 ≤ length key.now }
-    ensures { result ≡ permuted PC-1 (tab (bit key.now) 64) }
+    ensures { result ≡ permuted pc_1 (tab (bit key.now) 64) }
 {
     let bits = unpack(key);
     let table = PC1;

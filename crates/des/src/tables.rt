@@ -1,4 +1,4 @@
-// FIPS 46-3's tables, each laid out as the standard prints it.
+// FIPS 46-3's tables, in the order in which the standard prints them (specs/Tables.antt has its rows too).
 
 // The initial permutation IP.
 pub const IP: [u8; 64] = [

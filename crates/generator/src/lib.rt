@@ -1,5 +1,7 @@
 // The vector generator of NXDN TS 1-D (5.3.2.2, 5.3.3.2): announced octets in, announced octets out, and the register of
 // 64 stages between them in one number.
+#![tactic(auto)]
+
 ghost use Rattle.std.specs.Prelude.{◌≡◌, ℕ, ◌^◌, ◌≤◌, ◌<◌, length};
 ghost use Rattle.octets.specs.Lists.{iterate};
 ghost use Rattle.generator.specs.Generator.{shifted, next_vector, aes_vector};

@@ -1,4 +1,6 @@
 // A call that keeps a vector which it heard for its next session, and announces it by itself as that starts.
+#![tactic(auto)]
+
 ghost use Rattle.std.specs.Prelude.{◌≡◌, true};
 ghost use Rattle.calls.specs.Call.{good_call, standing};
 ghost use Rattle.hearing.specs.Hearing.{hears, under_way, kept_right, bad_call, call_of, alone, keeping};
@@ -16,7 +18,7 @@ pub const NONE: u8 = 0;
 pub const ONE: u8 = 1;
 
 // None is kept as zeros, and one only in the middle of a session of DES or AES that is received.
-#[derive(Drop)]
+#[derive(Clone, Copy)]
 pub struct Hearing {
     pub call: Call,
     pub kept: u8,
@@ -24,7 +26,7 @@ pub struct Hearing {
 }
 
 // What an operation answers, and what it leaves.
-#[derive(Drop)]
+#[derive(Clone, Copy)]
 pub struct Carried {
     pub answer: Answer,
     pub hearing: Hearing,

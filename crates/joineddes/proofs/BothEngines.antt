@@ -8,7 +8,7 @@ use lib.Seq.{ext_get_or, take_at, drop_at, length-take-le}
 use Rattle.octets.specs.Lists.{tab, iterate}
 use Rattle.octets.specs.Bits.{bit, octets_from, Bits, Octets}
 use Rattle.octets.proofs.BitLaws.{bit-octets_from, length-octets_from, octets-octets_from, octets_ext}
-use Rattle.octets.proofs.ListLaws.{length-tab, get_d_tab}
+use Rattle.octets.proofs.ListLaws.{length-tab, get_or-tab}
 use Rattle.des.specs.Tables.{ip, ip⁻¹}
 use Rattle.des.specs.Des.{permuted, xor_bits, cipher_f, Halves, rounds, halved, preoutput, enciphered, round_key, des}
 use Rattle.joineddes.specs.Joined.{joined_f, joined_rounds, first_halves, carried_on, block_of, joined_des, keys_in, Scheduled}
@@ -102,7 +102,7 @@ own-halves h w =
     ext_get_or 0 _ _ (length-tab _ 64 ∙ sym (length-permuted ip⁻¹ all ∙ length-inverse))
     (λ i l.
     let b : i < 64 = omega (arith, length-tab (bit (octets_from 8 (λ k. get_or back k 0))) 64) in
-    get_d_tab (bit (octets_from 8 (λ k. get_or back k 0))) 64 i b ∙ bit-octets_from 8 (λ k. get_or back k 0) bits i b) in
+    get_or-tab (bit (octets_from 8 (λ k. get_or back k 0))) 64 i b ∙ bit-octets_from 8 (λ k. get_or back k 0) bits i b) in
     let e : permuted ip (tab (bit (octets_from 8 (λ k. get_or back k 0))) 64) ≡ all = ap (permuted ip) same ∙ redone all long in
     ap₂ halves (ap (take 32) e ∙ take_at h.left h.right 32 w.long_left) (ap (drop 32) e ∙ drop_at h.left h.right 32 w.long_left)
 
@@ -117,7 +117,7 @@ own_block block long octets =
     octets_ext _ block (octets-octets_from 8 _ bits) octets (length-octets_from 8 _ ∙ sym long)
     (λ k l.
     let b : k < 64 = omega (arith, length-octets_from 8 (λ k. get_or (permuted ip⁻¹ (take 32 all ++ drop 32 all)) k 0)) in
-    bit-octets_from 8 _ bits k b ∙ ap (λ (x : List ℕ). get_or x k 0) same ∙ get_d_tab (bit block) 64 k b)
+    bit-octets_from 8 _ bits k b ∙ ap (λ (x : List ℕ). get_or x k 0) same ∙ get_or-tab (bit block) 64 k b)
 
 module _ (key block : List ℕ) (keys : ℕ → List ℕ) (its : (i : ℕ) → i < 16 → keys i ≡ round_key (tab (bit key) 64) i) where
   abbrev at : ℕ → Halves

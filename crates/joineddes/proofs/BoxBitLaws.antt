@@ -19,13 +19,13 @@ use Rattle.octets.specs.Lists.{tab}
 use Rattle.octets.specs.Bits.{flip}
 use Rattle.octets.proofs.TestLaws.{agree}
 use Rattle.octets.proofs.BitLaws.{bit-low, xor_bit}
-use Rattle.octets.proofs.ListLaws.{length-tab, get_d_tab, tab_same}
+use Rattle.octets.proofs.ListLaws.{length-tab, get_or-tab, tab_same}
 use Rattle.octets.proofs.Numbers.{kept, pushed_new, pushed_old}
-use Rattle.des.specs.Tables.{E}
+use Rattle.des.specs.Tables.{table_e}
 use Rattle.des.specs.Des.{permuted, xor_bits, box_input, rotated}
 use Rattle.joineddes.specs.Joined.{bits_in, joined_entry, entry_place, summed, joined_f, box_bits}
-use Rattle.des.proofs.BitLists.{length-permuted, get_d_permuted}
-use Rattle.joineddes.proofs.NumberBits.{length-bits_in, get_d_bits_in, bits_in-is}
+use Rattle.des.proofs.BitLists.{length-permuted, get_or-permuted}
+use Rattle.joineddes.proofs.NumberBits.{length-bits_in, get_or-bits_in, bits_in-is}
 use Rattle.des.proofs.KeyLaws.{length-rotated, around}
 use Rattle.des.proofs.TableRules.{e_windows}
 
@@ -72,7 +72,7 @@ module _ (x s : ℕ) (wide : x < 2 ^ 32) (small : s ≤ 32) where
   pub bits-rolled : bits_in 32 (rolled 32) ≡ rotated s (bits_in 32 x)
   bits-rolled =
       bits_in-is 32 (rolled 32) (rotated s (bits_in 32 x)) (length-rotated s (bits_in 32 x) (omega (arith, length-bits_in 32 x)) ∙ length-bits_in 32 x)
-      (λ i h. rolled-bit i h ∙ sym (rotated-at s i (bits_in 32 x) (length-bits_in 32 x) small h ∙ get_d_bits_in 32 x ((s + i) % 32) (omega arith)))
+      (λ i h. rolled-bit i h ∙ sym (rotated-at s i (bits_in 32 x) (length-bits_in 32 x) small h ∙ get_or-bits_in 32 x ((s + i) % 32) (omega arith)))
 
 -- ---- the bits of the boxes
 
@@ -87,9 +87,9 @@ length-box_bits : (even odd : ℕ) → length (box_bits even odd) ≡ 48
 unfolding box_bits
 length-box_bits even odd = length-tab _ 48
 
-get_d_box_bits : (even odd k : ℕ) → k < 48 → get_or (box_bits even odd) k 0 ≡ box_bit even odd k
+get_or-box_bits : (even odd k : ℕ) → k < 48 → get_or (box_bits even odd) k 0 ≡ box_bit even odd k
 unfolding box_bits
-get_d_box_bits even odd k h = get_d_tab (box_bit even odd) 48 k h
+get_or-box_bits even odd k h = get_or-tab (box_bit even odd) 48 k h
 
 -- bit q of box i
 box_bits-at : (even odd i q : ℕ) → i < 8 → q < 6 → get_or (box_bits even odd) (6 * i + q) 0 ≡ pick (eqb (i % 2) 0) even odd / 2 ^ (31 - (8 * (i / 2) + q)) % 2
@@ -97,7 +97,7 @@ box_bits-at even odd i q h l =
     let a : (6 * i + q) / 6 ≡ i = omega arith in
     let b : (6 * i + q) / 12 ≡ i / 2 = omega arith in
     let c : (6 * i + q) % 6 ≡ q = omega arith in
-    get_d_box_bits even odd (6 * i + q) (omega arith) ∙ rw (a, b, c)
+    get_or-box_bits even odd (6 * i + q) (omega arith) ∙ rw (a, b, c)
 
 pick_xor : (t : Bool) (a b c d : ℕ) → pick t (bit_xor a b) (bit_xor c d) ≡ bit_xor (pick t a c) (pick t b d)
 pick_xor true a b c d = refl
@@ -111,7 +111,7 @@ box_bits_xor u t even odd =
     let first = eqb (k / 6 % 2) 0 in
     ap (λ (x : ℕ). x / 2 ^ (31 - place k) % 2) (pick_xor first u even t odd)
     ∙ xor_bit (pick first u t) (pick first even odd) (31 - place k)
-    ∙ sym (ap₂ flip (get_d_box_bits u t k h) (get_d_box_bits even odd k h)))
+    ∙ sym (ap₂ flip (get_or-box_bits u t k h) (get_or-box_bits even odd k h)))
     ∙ ap (tab sum) (sym (length-box_bits u t))
   where
     sum : ℕ → ℕ
@@ -161,8 +161,8 @@ pub summed_more : (f : ℕ → ℕ) (n sum v : ℕ) → sum ≡ summed f n → v
 unfolding summed
 summed_more f n sum v e h = ap₂ bit_xor e h ∙ ap (summed f) (sym (add-one n))
 
-length-e : length E ≡ 48
-unfolding E
+length-e : length table_e ≡ 48
+unfolding table_e
 length-e = refl
 
 -- E's windows of R stand in R shifted by 31 places and in R shifted by 3
@@ -173,7 +173,7 @@ module _ (r u t : ℕ) (first : bits_in 32 u ≡ rotated 31 (bits_in 32 r)) (sec
   shifted-bit : (s x i : ℕ) → s ≤ 32 → bits_in 32 x ≡ rotated s (bits_in 32 r) → i < 32 → x / 2 ^ (31 - i) % 2 ≡ bit_of ((s + i) % 32)
   shifted-bit s x i small e h =
       let same : 31 - i ≡ 32 - suc i = omega arith in
-      rw same (sym (get_d_bits_in 32 x i h) ∙ ap (λ (l : List ℕ). get_or l i 0) e ∙ rotated-at s i (bits_in 32 r) (length-bits_in 32 r) small h)
+      rw same (sym (get_or-bits_in 32 x i h) ∙ ap (λ (l : List ℕ). get_or l i 0) e ∙ rotated-at s i (bits_in 32 r) (length-bits_in 32 r) small h)
 
   window-bit : (k : ℕ) → k < 48 → box_bit u t k ≡ bit_of ((31 + 4 * (k / 6) + k % 6) % 32)
   window-bit k h = go (eqb (k / 6 % 2) 0) refl
@@ -186,13 +186,13 @@ module _ (r u t : ℕ) (first : bits_in 32 u ≡ rotated 31 (bits_in 32 r)) (sec
           let odd : k / 6 ≡ 2 * (k / 12) + 1 = omega (arith, eqb-false (k / 6 % 2) 0 e) in
           shifted-bit 3 t (place k) (omega arith) second (omega arith) ∙ ap bit_of (sym (add-mod_left 32 (3 + place k))) ∙ ap (λ (z : ℕ). bit_of (z % 32)) (omega arith)
 
-  windows : box_bits u t ≡ permuted E (bits_in 32 r)
+  windows : box_bits u t ≡ permuted table_e (bits_in 32 r)
   windows =
-      ext_get_or 0 (box_bits u t) (permuted E (bits_in 32 r)) (length-box_bits u t ∙ sym (length-permuted E (bits_in 32 r) ∙ length-e))
+      ext_get_or 0 (box_bits u t) (permuted table_e (bits_in 32 r)) (length-box_bits u t ∙ sym (length-permuted table_e (bits_in 32 r) ∙ length-e))
       (λ k h.
       let inside : k < 48 = omega (arith, length-box_bits u t) in
-      let entry : get_or E k 0 ≡ (31 + 4 * (k / 6) + k % 6) % 32 + 1 = ap (λ (l : List ℕ). get_or l k 0) e_windows ∙ get_d_tab _ 48 k inside in
-      get_d_box_bits u t k inside ∙ window-bit k inside ∙ sym (get_d_permuted E (bits_in 32 r) k (omega (arith, length-e)) ∙ ap bit_of (omega arith)))
+      let entry : get_or table_e k 0 ≡ (31 + 4 * (k / 6) + k % 6) % 32 + 1 = ap (λ (l : List ℕ). get_or l k 0) e_windows ∙ get_or-tab _ 48 k inside in
+      get_or-box_bits u t k inside ∙ window-bit k inside ∙ sym (get_or-permuted table_e (bits_in 32 r) k (omega (arith, length-e)) ∙ ap bit_of (omega arith)))
 
   module _ (even odd : ℕ) where
     box-input : box_bits (bit_xor u even) (bit_xor t odd) ≡ box_input (bits_in 32 r) (box_bits even odd)

@@ -14,13 +14,13 @@ use Rattle.octets.specs.Bits.{flip}
 use Rattle.octets.specs.Tests.{pick}
 use Rattle.octets.specs.Lists.{tab}
 use Rattle.octets.proofs.BitLaws.{xor_bit, bit-low}
-use Rattle.octets.proofs.ListLaws.{length-tab, get_d_tab}
+use Rattle.octets.proofs.ListLaws.{length-tab, get_or-tab}
 use Rattle.octets.proofs.TestLaws.{and_left, and_right, all-at}
 use Rattle.des.specs.Tables.{ip, ip⁻¹}
 use Rattle.des.specs.Des.{permuted}
 use Rattle.joineddes.specs.Joined.{bits_in, has_bit, exchanges, exchanged}
-use Rattle.des.proofs.BitLists.{length-permuted, get_d_permuted}
-use Rattle.joineddes.proofs.NumberBits.{bits_in-is, get_d_bits_in}
+use Rattle.des.proofs.BitLists.{length-permuted, get_or-permuted}
+use Rattle.joineddes.proofs.NumberBits.{bits_in-is, get_or-bits_in}
 
 -- a bit of an and is the left side's where the right side's is 1
 and-bit : (a b k : ℕ) → bit_and a b / 2 ^ k % 2 ≡ pick (eqb (b / 2 ^ k % 2) 1) (a / 2 ^ k % 2) 0
@@ -71,7 +71,7 @@ module _ (s mask x : ℕ) where
   stands : (i k : ℕ) → k + suc i ≡ 64 → x / 2 ^ k % 2 ≡ get_or (bits_in 64 x) i 0
   stands i k l =
       let e : k ≡ 64 - suc i = omega arith in
-      ap (λ (z : ℕ). x / 2 ^ z % 2) e ∙ sym (get_d_bits_in 64 x i (omega arith))
+      ap (λ (z : ℕ). x / 2 ^ z % 2) e ∙ sym (get_or-bits_in 64 x i (omega arith))
 
   -- what stands at place i, by whether the mask has that place and whether it has the one s places after it
   taken : (i k : ℕ) → k + suc i ≡ 64 → (m n : Bool) → (not m || (leb s i && not n)) ≡ true → (n ≡ true → s ≤ k)
@@ -98,8 +98,8 @@ module _ (s mask x : ℕ) where
       (xor_bit x differing k ∙ ap (flip (x / 2 ^ k % 2)) (and-bit sums mask k))
       (bit-low (differing * 2 ^ s) 64 k (omega arith) ∙ ap (λ (z : ℕ). z / 2 ^ k % 2) (and_shl sums mask s) ∙ and-bit (sums * 2 ^ s) (mask * 2 ^ s) k)
       ∙ taken i k (omega arith) (has_bit mask i) (has_bit (mask * 2 ^ s) i) (all-at _ 64 i h (and_right (ltb s 64) _ e)) (λ n. shl_above mask s k (eqb-true _ 1 n))
-      ∙ sym (get_d_permuted (exchanged s mask) (bits_in 64 x) i (omega (arith, length_exchanged s mask))
-      ∙ ap (λ (z : ℕ). get_or (bits_in 64 x) (z - 1) 0) (get_d_tab _ 64 i h)))
+      ∙ sym (get_or-permuted (exchanged s mask) (bits_in 64 x) i (omega (arith, length_exchanged s mask))
+      ∙ ap (λ (z : ℕ). get_or (bits_in 64 x) (z - 1) 0) (get_or-tab _ 64 i h)))
 
 -- ---- the exchanges of `initial` and of `inverse`
 

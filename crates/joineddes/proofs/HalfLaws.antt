@@ -11,13 +11,13 @@ use lib.Seq.{get_or-take, get_or-drop, length-take-le}
 use Rattle.octets.specs.Lists.{tab}
 use Rattle.octets.specs.Bits.{bit, octets_from, Bits}
 use Rattle.octets.proofs.BitLaws.{bit-low, bit-octets_from, length-octets_from, octets-octets_from, octets_ext}
-use Rattle.octets.proofs.ListLaws.{length-tab, get_d_tab}
+use Rattle.octets.proofs.ListLaws.{length-tab, get_or-tab}
 use Rattle.des.specs.Tables.{ip, ip⁻¹}
 use Rattle.des.specs.Des.{permuted, xor_bits, Halves, halved}
 use Rattle.joineddes.specs.Joined.{bits_in, joined_f, joined_rounds, carried_on, first_halves, block_of, halves_in}
 use Rattle.joineddes.specs.declared.Carried.{Carried}
 use Rattle.des.proofs.BitLists.{bits_append, bits-permuted}
-use Rattle.joineddes.proofs.NumberBits.{length-bits_in, get_d_bits_in, bits-bits_in, bits_in-is, bits_in_xor}
+use Rattle.joineddes.proofs.NumberBits.{length-bits_in, get_or-bits_in, bits-bits_in, bits_in-is, bits_in_xor}
 
 module _ (x : ℕ) where
   high_half : bits_in 32 (x / 2 ^ 32) ≡ take 32 (bits_in 64 x)
@@ -27,7 +27,7 @@ module _ (x : ℕ) where
       let e : 32 + (32 - suc i) ≡ 64 - suc i = omega arith in
       ap (λ (z : ℕ). z % 2) (shr-shr x 32 (32 - suc i))
       ∙ ap (λ (z : ℕ). x / 2 ^ z % 2) e
-      ∙ sym (get_or-take 32 (bits_in 64 x) i 0 h ∙ get_d_bits_in 64 x i (omega arith)))
+      ∙ sym (get_or-take 32 (bits_in 64 x) i 0 h ∙ get_or-bits_in 64 x i (omega arith)))
 
   low_half : bits_in 32 (x % 2 ^ 32) ≡ drop 32 (bits_in 64 x)
   low_half =
@@ -36,7 +36,7 @@ module _ (x : ℕ) where
       let e : 32 - suc i ≡ 64 - suc (32 + i) = omega arith in
       bit-low x 32 (32 - suc i) (omega arith)
       ∙ ap (λ (z : ℕ). x / 2 ^ z % 2) e
-      ∙ sym (get_or-drop 32 (bits_in 64 x) i 0 ∙ get_d_bits_in 64 x (32 + i) (omega arith)))
+      ∙ sym (get_or-drop 32 (bits_in 64 x) i 0 ∙ get_or-bits_in 64 x (32 + i) (omega arith)))
 
 abbrev pub halves : List ℕ → List ℕ → Halves
 halves l r = record { left = l; right = r }
@@ -48,7 +48,7 @@ unfolding first_halves halved
 halves-first block n x h e =
     let same : bits_in 64 n ≡ tab (bit block) 64 =
     bits_in-is 64 n (tab (bit block) 64) (length-tab (bit block) 64)
-    (λ i b. let z : 64 - suc i ≡ 63 - i = omega arith in rw z (h i b ∙ sym (get_d_tab (bit block) 64 i b))) in
+    (λ i b. let z : 64 - suc i ≡ 63 - i = omega arith in rw z (h i b ∙ sym (get_or-tab (bit block) 64 i b))) in
     let all : bits_in 64 x ≡ permuted ip (tab (bit block) 64) = e ∙ ap (permuted ip) same in
     ap₂ halves (high_half x ∙ ap (take 32) all) (low_half x ∙ ap (drop 32) all)
 
@@ -74,7 +74,7 @@ module _ (c : Carried) (y : ℕ) where
   unfolding block_of
   bits-block x hl hr ex e k h =
       let z : 64 - suc k ≡ 63 - k = omega arith in
-      rw z at (sym (get_d_bits_in 64 y k h))
+      rw z at (sym (get_or-bits_in 64 y k h))
       ∙ ap (λ (b : List ℕ). get_or b k 0) (e ∙ ap (permuted ip⁻¹) (ap (bits_in 64) ex ∙ joined-halves c.left c.right hl hr))
       ∙ sym (bit-octets_from 8 _ (block-bits c) k h)
 

@@ -14,12 +14,12 @@ use Rattle.octets.specs.Tests.{pick}
 use Rattle.octets.specs.Lists.{tab}
 use Rattle.octets.specs.Bits.{Bits}
 use Rattle.octets.proofs.BitLaws.{xor_bit, bit-low}
-use Rattle.octets.proofs.ListLaws.{length-tab, get_d_tab}
-use Rattle.des.specs.Tables.{E, P, S}
+use Rattle.octets.proofs.ListLaws.{length-tab, get_or-tab}
+use Rattle.des.specs.Tables.{table_e, table_p, table_s}
 use Rattle.des.specs.Des.{permuted, box_input, box_place, substituted, cipher_f}
 use Rattle.joineddes.specs.Joined.{bits_in, as_number, selected, selected_bit, joined_entry, joined_tables, entry_place, summed, joined_f}
-use Rattle.des.proofs.BitLists.{BitList, bits-tab, bits-permuted, bits_xor, length-permuted, get_d_permuted, get_d_substituted}
-use Rattle.joineddes.proofs.NumberBits.{get_d_bits_in, bits_in-is}
+use Rattle.des.proofs.BitLists.{BitList, bits-tab, bits-permuted, bits_xor, length-permuted, get_or-permuted, get_or-substituted}
+use Rattle.joineddes.proofs.NumberBits.{get_or-bits_in, bits_in-is}
 use Rattle.des.proofs.PlaceLaws.{p_places}
 
 -- ---- bits as one number
@@ -53,14 +53,14 @@ bits-as_number l b = bits_in-is (length l) (as_number l) l refl (as_number-bit l
 -- what the one test over the tables says of each entry
 pub joined_entry_lem : (t : List ℕ) → t ≡ joined_tables → (n : ℕ) → n < 512 → get_or t n 0 ≡ joined_entry n
 unfolding joined_tables
-joined_entry_lem t e n h = rw e (get_d_tab joined_entry 512 n h)
+joined_entry_lem t e n h = rw e (get_or-tab joined_entry 512 n h)
 
 pub joined_long : (t : List ℕ) → t ≡ joined_tables → length t ≡ 512
 unfolding joined_tables
 joined_long t e = rw e (length-tab joined_entry 512)
 
-length-p : length P ≡ 32
-unfolding P
+length-p : length table_p ≡ 32
+unfolding table_p
 length-p = refl
 
 selected_bit_lt : (n : ℕ) → Bits (selected_bit n)
@@ -70,26 +70,26 @@ selected_bit_lt n k = go (eqb (k / 4) (n / 64))
     go true = omega arith
     go false = omega arith
 
-entry_bits : (n : ℕ) → bits_in 32 (joined_entry n) ≡ permuted P (tab (selected_bit n) 32)
+entry_bits : (n : ℕ) → bits_in 32 (joined_entry n) ≡ permuted table_p (tab (selected_bit n) 32)
 unfolding joined_entry
 entry_bits n =
     let bits = tab (selected_bit n) 32 in
-    ap (λ (w : ℕ). bits_in w (joined_entry n)) (sym (length-permuted P bits ∙ length-p))
-    ∙ bits-as_number (permuted P bits) (bits-permuted P bits (bits-tab (selected_bit n) 32 (selected_bit_lt n)))
+    ap (λ (w : ℕ). bits_in w (joined_entry n)) (sym (length-permuted table_p bits ∙ length-p))
+    ∙ bits-as_number (permuted table_p bits) (bits-permuted table_p bits (bits-tab (selected_bit n) 32 (selected_bit_lt n)))
 
-entry_bit : (n i : ℕ) → i < 32 → joined_entry n / 2 ^ (32 - suc i) % 2 ≡ selected_bit n (get_or P i 0 - 1)
+entry_bit : (n i : ℕ) → i < 32 → joined_entry n / 2 ^ (32 - suc i) % 2 ≡ selected_bit n (get_or table_p i 0 - 1)
 entry_bit n i h =
-    let inside : i < length P = omega (arith, length-p) in
-    sym (get_d_bits_in 32 (joined_entry n) i h)
+    let inside : i < length table_p = omega (arith, length-p) in
+    sym (get_or-bits_in 32 (joined_entry n) i h)
     ∙ ap (λ (l : List ℕ). get_or l i 0) (entry_bits n)
-    ∙ get_d_permuted P (tab (selected_bit n) 32) i inside
-    ∙ get_d_tab (selected_bit n) 32 (get_or P i 0 - 1) (omega (arith, p_places i inside))
+    ∙ get_or-permuted table_p (tab (selected_bit n) 32) i inside
+    ∙ get_or-tab (selected_bit n) 32 (get_or table_p i 0 - 1) (omega (arith, p_places i inside))
 
 -- ---- where a box looks
 
 -- six bits as they come, the first, the four between and the last, are the box's row and column
 six_bits : (n i a c f : ℕ) → n ≡ 64 * i + (32 * a + 2 * c + f) → a < 2 → c < 16 → f < 2
-    → (n / 64 ≡ i) × (selected n ≡ get_or S (64 * i + (16 * (2 * a + f) + c)) 0)
+    → (n / 64 ≡ i) × (selected n ≡ get_or table_s (64 * i + (16 * (2 * a + f) + c)) 0)
 unfolding selected
 six_bits n i a c f e ha hc hf =
     let between : n / 2 % 16 ≡ c = omega arith in
@@ -99,7 +99,7 @@ six_bits n i a c f e ha hc hf =
     (box, rw (box, first, last, between))
 
 -- so an entry is of its box, and holds what the plain engine looks up
-place_looks : (b : List ℕ) → BitList b → (i : ℕ) → (entry_place b i / 64 ≡ i) × (selected (entry_place b i) ≡ get_or S (box_place b i) 0)
+place_looks : (b : List ℕ) → BitList b → (i : ℕ) → (entry_place b i / 64 ≡ i) × (selected (entry_place b i) ≡ get_or table_s (box_place b i) 0)
 unfolding entry_place box_place
 place_looks b bits i =
     let o = 6 * i in
@@ -137,21 +137,21 @@ module _ (b : List ℕ) (bits : BitList b) (p : ℕ) where
       let looks = place_looks b bits (p / 4) in
       let e : 4 * (p / 4) + p % 4 ≡ p = omega arith in
       rw (looks.0, eq-eqb (p / 4) (p / 4) refl)
-      (get_d_substituted b (selected (entry_place b (p / 4))) (p / 4) (p % 4) (omega arith) (omega arith) looks.1
+      (get_or-substituted b (selected (entry_place b (p / 4))) (p / 4) (p % 4) (omega arith) (omega arith) looks.1
       ∙ ap (λ (k : ℕ). get_or (substituted b) k 0) e)
 
-joined-bits : (b : List ℕ) → BitList b → bits_in 32 (summed (λ i. joined_entry (entry_place b i)) 8) ≡ permuted P (substituted b)
+joined-bits : (b : List ℕ) → BitList b → bits_in 32 (summed (λ i. joined_entry (entry_place b i)) 8) ≡ permuted table_p (substituted b)
 joined-bits b bits =
-    bits_in-is 32 (summed (λ i. joined_entry (entry_place b i)) 8) (permuted P (substituted b)) (length-permuted P (substituted b) ∙ length-p)
+    bits_in-is 32 (summed (λ i. joined_entry (entry_place b i)) 8) (permuted table_p (substituted b)) (length-permuted table_p (substituted b) ∙ length-p)
     (λ i h.
-    let inside : i < length P = omega (arith, length-p) in
-    let p = get_or P i 0 - 1 in
+    let inside : i < length table_p = omega (arith, length-p) in
+    let p = get_or table_p i 0 - 1 in
     let small : p < 32 = omega (arith, p_places i inside) in
     summed-one (λ j. joined_entry (entry_place b j)) (32 - suc i) (p / 4) 8 (omega arith) (λ j l d. entry_bit (entry_place b j) i h ∙ other-box b bits p j d)
     ∙ entry_bit (entry_place b (p / 4)) i h
     ∙ own-box b bits p small
-    ∙ sym (get_d_permuted P (substituted b) i inside))
+    ∙ sym (get_or-permuted table_p (substituted b) i inside))
 
 pub joined_f_lem : (r k : List ℕ) → joined_f r k ≡ cipher_f r k
 unfolding joined_f cipher_f box_input
-joined_f_lem r k = joined-bits (box_input r k) (bits_xor (permuted E r) k)
+joined_f_lem r k = joined-bits (box_input r k) (bits_xor (permuted table_e r) k)

@@ -14,7 +14,7 @@ use lib.Seq.{get_or-set_same, get_or-set_other, ext_get_or}
 use Rattle.octets.specs.Bits.{bit}
 use Rattle.octets.specs.Lists.{tab}
 use Rattle.octets.specs.Tests.{pick}
-use Rattle.octets.proofs.ListLaws.{length-tab, get_d_tab}
+use Rattle.octets.proofs.ListLaws.{length-tab, get_or-tab}
 use Rattle.octets.proofs.Numbers.{pushed, pushed_new, pushed_old}
 use Rattle.des.specs.Des.{round_key}
 use Rattle.joineddes.specs.Joined.{box_bits, keys_in, Scheduled}
@@ -63,7 +63,7 @@ pub box_bits-is : (even odd : ℕ) (l : List ℕ) → length l ≡ 48 → HasBox
 unfolding box_bits HasBoxes
 box_bits-is even odd l long he ho =
     ext_get_or 0 (box_bits even odd) l (length-tab at 48 ∙ sym long)
-    (λ k b. let inside : k < 48 = omega (arith, length-tab at 48) in get_d_tab at 48 k inside ∙ go k inside (eqb (k / 6 % 2) 0) refl)
+    (λ k b. let inside : k < 48 = omega (arith, length-tab at 48) in get_or-tab at 48 k inside ∙ go k inside (eqb (k / 6 % 2) 0) refl)
   where
     at : ℕ → ℕ
     at k = pick (eqb (k / 6 % 2) 0) even odd / 2 ^ (31 - (8 * (k / 12) + k % 6)) % 2

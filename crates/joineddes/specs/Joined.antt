@@ -5,7 +5,7 @@ use Rattle.std.specs.Int.Bits.{bit_xor}
 use Rattle.octets.specs.Tests.{pick, all_below}
 use Rattle.octets.specs.Lists.{tab}
 use Rattle.octets.specs.Bits.{bit, octets_from}
-use Rattle.des.specs.Tables.{ip, ip⁻¹, P, S}
+use Rattle.des.specs.Tables.{ip, ip⁻¹, table_p, table_s}
 use Rattle.des.specs.Des.{permuted, xor_bits, box_input, Halves, halved, round_key}
 use Rattle.joineddes.specs.declared.Carried.{Carried}
 
@@ -24,7 +24,7 @@ as_number (b ∷ bs) = b * 2 ^ length bs + as_number bs
 
 -- what box n / 64 selects by the six bits n % 64: the first and the last are the row, the four between the column
 unfoldable pub selected : ℕ → ℕ
-selected n = get_or S (64 * (n / 64) + (16 * (2 * (n / 32 % 2) + n % 2) + n / 2 % 16)) 0
+selected n = get_or table_s (64 * (n / 64) + (16 * (2 * (n / 32 % 2) + n % 2) + n / 2 % 16)) 0
 
 -- bit k of the 32 that P is given for entry n: the four of box n / 64 are what it selects, the others 0
 abbrev pub selected_bit : ℕ → ℕ → ℕ
@@ -32,7 +32,7 @@ selected_bit n k = pick (eqb (k / 4) (n / 64)) (selected n / 2 ^ (3 - k % 4) % 2
 
 -- entry n: P of them
 unfoldable pub joined_entry : ℕ → ℕ
-joined_entry n = as_number (permuted P (tab (selected_bit n) 32))
+joined_entry n = as_number (permuted table_p (tab (selected_bit n) 32))
 
 unfoldable pub joined_tables : List ℕ
 joined_tables = tab joined_entry 512

@@ -1,10 +1,12 @@
 // DES by joined tables, on numbers of 32 bits: the second engine. It is for whoever makes much keystream: faster than the plain one, with more stack.
+#![tactic(auto)]
+
 mod tables;
 
 ghost use Rattle.std.specs.Prelude.{◌≡◌, true, List, ℕ, suc, ◌+◌, ◌-◌, ◌*◌, ◌/◌, ◌%◌, ◌^◌, ◌<◌, ◌≤◌, length, get_or};
 ghost use Rattle.octets.specs.Bits.{bit, Bits};
 ghost use Rattle.octets.specs.Lists.{tab};
-ghost use Rattle.des.specs.Tables.{IP, IP⁻¹, PC-2};
+ghost use Rattle.des.specs.Tables.{ip, ip⁻¹, pc_2};
 ghost use Rattle.des.specs.Des.{permuted, rotated, round_key};
 ghost use Rattle.des.specs.Prepared.{shifts_to, twice_over};
 ghost use Rattle.joineddes.specs.Joined.{bits_in, joined_tables, joined_f, entry_place, first_halves, carried_on, block_of, joined_des, halves_in, box_bits, keys_in, Scheduled, exchanges, exchanged};
@@ -15,7 +17,7 @@ use octets::{copy, number_of, octets_of, wide};
 use tables::JOINED;
 
 // The halves of a block past the initial permutation. They are carried from a block to the one that is made of it.
-#[derive(Drop)]
+#[derive(Clone, Copy)]
 pub struct Carried {
     pub left: u32,
     pub right: u32,
@@ -41,7 +43,7 @@ fn exchange(x: u64, places: usize, mask: u64) -> u64
 
 // The square of eight by eight bits turned over its rising diagonal, so that its columns are rows, and then the rows brought into IP's order.
 fn initial(x: u64) -> u64
-    ensures { bits_in 64 result ≡ permuted IP (bits_in 64 x) }
+    ensures { bits_in 64 result ≡ permuted ip (bits_in 64 x) }
 {
     let pairs = exchange(x, 9, 0x0055005500550055);
     let fours = exchange(pairs, 18, 0x0000333300003333);
@@ -52,7 +54,7 @@ fn initial(x: u64) -> u64
 
 // The same exchanges, the last one first.
 fn inverse(x: u64) -> u64
-    ensures { bits_in 64 result ≡ permuted IP⁻¹ (bits_in 64 x) }
+    ensures { bits_in 64 result ≡ permuted ip⁻¹ (bits_in 64 x) }
 {
     let near = exchange(x, 48, 0x000000000000FFFF);
     let columns = exchange(near, 24, 0x000000FF000000FF);
@@ -215,7 +217,7 @@ fn halves_twice(key: &[u8]) -> [u8; BOTH]
 // The key of a round, by C and D twice over, permuted choice 2 and how far the round has them shifted. The plain engine reads it so too, out of a prepared key:
 // with one reader for both, the plain engine's blocks take 1.6 times as long, since the compiler then lays it out of line.
 fn round_bits(halves: &[u8], places: &[u8], shifts: usize) -> [u8; 48]
-    requires { (length halves.now ≡ 112) × (places.now ≡ PC-2) × (shifts ≤ 28) }
+    requires { (length halves.now ≡ 112) × (places.now ≡ pc_2) × (shifts ≤ 28) }
     ensures { (key : List ℕ) (n : ℕ) → n < 16 → halves.now ≡ twice_over key → shifts ≡ shifts_to (suc n) → result ≡ round_key key n }
 {
     let d = shifts + HALF;

@@ -87,7 +87,7 @@ pub fn good_book(book: &[u8]) -> bool
 // ---- what every operation asks first
 
 // Where the entry for a cipher and key ID is, or why that cannot be asked of this book.
-#[derive(Drop)]
+#[derive(Clone, Copy)]
 pub enum Found {
     At(usize),
     Missing,

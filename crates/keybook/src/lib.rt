@@ -1,5 +1,7 @@
 // The key book: begin, add, finish and erase on a lent buffer of 16 entries, and the key of a ready entry. What a screen shows of it is in screen.rt.
 // No operation requires anything of what it is lent: each refuses what it cannot use, by document 01's number.
+#![tactic(auto)]
+
 ghost use Rattle.std.specs.Prelude.{◌≡◌, length};
 ghost use Rattle.answers.specs.Outcomes.{outcome};
 ghost use Rattle.keyentry.specs.Entry.{entry_octets, key_in};
@@ -115,7 +117,7 @@ pub fn load(book: &mut [u8], cipher: u8, id: u8, name: &[u8], key: &[u8]) -> Ans
 }
 
 // An answer, and the key where it is done: what opens a call or a packet.
-#[derive(Drop)]
+#[derive(Clone, Copy)]
 pub struct Ready {
     pub answer: Answer,
     pub key: [u8; KEY_ROOM],

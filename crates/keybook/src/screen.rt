@@ -14,7 +14,7 @@ use octets::copy;
 // ---- the name of an entry
 
 // An answer, and the name where it is done.
-#[derive(Drop)]
+#[derive(Clone, Copy)]
 pub struct Named {
     pub answer: Answer,
     pub name: [u8; NAME_OCTETS],
@@ -55,7 +55,7 @@ pub fn name(book: &[u8], cipher: u8, id: u8) -> Named
 // ---- the inventory
 
 // An entry without its key octets. A free one is all zeros, and its cipher type says so.
-#[derive(Drop)]
+#[derive(Clone, Copy)]
 pub struct Shown {
     pub cipher: u8,
     pub id: u8,
@@ -65,7 +65,7 @@ pub struct Shown {
 }
 
 // An answer, and entry k where it is done.
-#[derive(Drop)]
+#[derive(Clone, Copy)]
 pub struct Listed {
     pub answer: Answer,
     pub entry: Shown,

@@ -1,4 +1,6 @@
 // One entry of the key book: its octets, its rules, and what the operations do to it.
+#![tactic(auto)]
+
 ghost use Rattle.std.specs.Prelude.{◌≡◌, ◌≤◌, length};
 ghost use Rattle.answers.specs.Outcomes.{outcome};
 ghost use Rattle.octets.specs.Lists.{all_zero};

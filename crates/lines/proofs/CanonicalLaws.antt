@@ -154,7 +154,7 @@ either : (x y : ℕ) (fs : List (List ℕ)) (r s : Record) → ((r ≡ Malformed
 either x y fs r s hr hs = go (eqb x y) refl
   where
     go : (b : Bool) → eqb x y ≡ b → (pick b r s ≡ Malformed → ⊥) → Of (pick b r s) (line_with x fs)
-    go true e n = rw (eqb-true x y e) (hr n)
+    go true e n = subst (λ (z : ℕ). Of r (line_with z fs)) (sym (eqb-true x y e)) (hr n)
     go false e n = hs n
 
 letter_of : (x : ℕ) (fs : List (List ℕ)) → (by_letter x fs ≡ Malformed → ⊥) → Of (by_letter x fs) (line_with x fs)

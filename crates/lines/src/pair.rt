@@ -10,7 +10,7 @@ use text::field::{Cursor, next_number};
 pub const MOST_NUMBER: u32 = 255;
 
 // A cipher and a key ID, and the place after them.
-#[derive(Drop)]
+#[derive(Clone, Copy)]
 pub enum Pair {
     Of { cipher: u8, id: u8, next: Cursor },
     Not,

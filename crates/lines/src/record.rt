@@ -20,7 +20,7 @@ pub const RECORD_ROOM: usize = if KEY_ROOM < HALF_FRAME_OCTETS {
 };
 
 // A record but for its octets, which stand beside it.
-#[derive(Drop)]
+#[derive(Clone, Copy)]
 pub enum Parsed {
     Load { cipher: u8, id: u8, count: usize },
     Open { cipher: u8, id: u8 },

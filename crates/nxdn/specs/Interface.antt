@@ -1,5 +1,5 @@
 -- The interface for C and Rust, by what each function is lent: the octets of a book, a call or a packet, and the elements for what it hands out or turns.
-use Rattle.std.specs.Prelude.{Bool, true, ◌&&◌, List, [], ℕ, ◌*◌, eqb, length}
+use Rattle.std.specs.Prelude.{Bool, true, ◌&&◌, List, ℕ, ◌*◌, eqb, length}
 use Rattle.octets.specs.Tests.{pick}
 use Rattle.answers.specs.declared.Answer.{Answer}
 use Rattle.answers.specs.declared.Answer.TheVariants.{Done, WrongLength}

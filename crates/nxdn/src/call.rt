@@ -13,8 +13,7 @@ use held::call::{CALL_OCTETS, read, write};
 
 // ---- how it begins
 
-#[unsafe(no_mangle)]
-pub extern "C" fn nxdn_open(
+pub fn nxdn_open(
     call: &mut [u8],
     cipher: u8,
     id: u8,
@@ -33,15 +32,7 @@ pub extern "C" fn nxdn_open(
     keep_call(call, carry(before, stepped))
 }
 
-#[unsafe(no_mangle)]
-pub extern "C" fn nxdn_start(
-    call: &mut [u8],
-    cipher: u8,
-    id: u8,
-    rate: u8,
-    vector: &[u8],
-    book: &[u8],
-) -> u8
+pub fn nxdn_start(call: &mut [u8], cipher: u8, id: u8, rate: u8, vector: &[u8], book: &[u8]) -> u8
     ensures { (result, (call.new, [])) ≡ on_call book.now (Of (Start cipher id rate vector.now)) call.old [] }
 {
     if call.len() != CALL_OCTETS {
@@ -52,15 +43,7 @@ pub extern "C" fn nxdn_start(
     keep_call(call, carry(before, stepped))
 }
 
-#[unsafe(no_mangle)]
-pub extern "C" fn nxdn_join(
-    call: &mut [u8],
-    cipher: u8,
-    id: u8,
-    rate: u8,
-    strictness: u8,
-    book: &[u8],
-) -> u8
+pub fn nxdn_join(call: &mut [u8], cipher: u8, id: u8, rate: u8, strictness: u8, book: &[u8]) -> u8
     ensures { (result, (call.new, [])) ≡ on_call book.now (Of (Join cipher id rate strictness)) call.old [] }
 {
     if call.len() != CALL_OCTETS {
@@ -73,8 +56,7 @@ pub extern "C" fn nxdn_join(
 
 // ---- its slots
 
-#[unsafe(no_mangle)]
-pub extern "C" fn nxdn_voice(call: &mut [u8], mask: u8, frame: &mut [u8]) -> u8
+pub fn nxdn_voice(call: &mut [u8], mask: u8, frame: &mut [u8]) -> u8
     ensures { (result, (call.new, frame.new)) ≡ on_call [] (Of (Voice mask frame.old)) call.old frame.old }
 {
     if call.len() != CALL_OCTETS {
@@ -85,8 +67,7 @@ pub extern "C" fn nxdn_voice(call: &mut [u8], mask: u8, frame: &mut [u8]) -> u8
     keep_call(call, carry(before, stepped))
 }
 
-#[unsafe(no_mangle)]
-pub extern "C" fn nxdn_lost(call: &mut [u8]) -> u8
+pub fn nxdn_lost(call: &mut [u8]) -> u8
     ensures { (result, (call.new, [])) ≡ on_call [] (Of Lost) call.old [] }
 {
     if call.len() != CALL_OCTETS {
@@ -99,8 +80,7 @@ pub extern "C" fn nxdn_lost(call: &mut [u8]) -> u8
 
 // ---- its vectors
 
-#[unsafe(no_mangle)]
-pub extern "C" fn nxdn_announce(call: &mut [u8], vector: &[u8]) -> u8
+pub fn nxdn_announce(call: &mut [u8], vector: &[u8]) -> u8
     ensures { (result, (call.new, [])) ≡ on_call [] (Of (Announce vector.now)) call.old [] }
 {
     if call.len() != CALL_OCTETS {
@@ -111,8 +91,7 @@ pub extern "C" fn nxdn_announce(call: &mut [u8], vector: &[u8]) -> u8
     keep_call(call, carry(before, stepped))
 }
 
-#[unsafe(no_mangle)]
-pub extern "C" fn nxdn_heard(call: &mut [u8], vector: &[u8]) -> u8
+pub fn nxdn_heard(call: &mut [u8], vector: &[u8]) -> u8
     ensures { (result, (call.new, [])) ≡ on_call [] (Heard vector.now) call.old [] }
 {
     if call.len() != CALL_OCTETS {
@@ -122,8 +101,7 @@ pub extern "C" fn nxdn_heard(call: &mut [u8], vector: &[u8]) -> u8
     keep_call(call, heard)
 }
 
-#[unsafe(no_mangle)]
-pub extern "C" fn nxdn_next_vector(call: &[u8], vector: &mut [u8]) -> u8
+pub fn nxdn_next_vector(call: &[u8], vector: &mut [u8]) -> u8
     ensures { (result, vector.new) ≡ on_look Next call.now vector.old }
 {
     if call.len() != CALL_OCTETS {
@@ -136,8 +114,7 @@ pub extern "C" fn nxdn_next_vector(call: &[u8], vector: &mut [u8]) -> u8
 // ---- a recording of these
 
 // The steps have STEP_OCTETS octets to an answer. (A product of lengths may be more than a number holds, so they are divided.)
-#[unsafe(no_mangle)]
-pub extern "C" fn nxdn_batch(call: &mut [u8], steps: &mut [u8], answers: &mut [u8]) -> u8
+pub fn nxdn_batch(call: &mut [u8], steps: &mut [u8], answers: &mut [u8]) -> u8
     ensures { (result, (call.new, (steps.new, answers.new))) ≡ on_batch call.old steps.old answers.old }
 {
     if call.len() != CALL_OCTETS {
@@ -174,8 +151,7 @@ fn hand_out(counts: &mut [u32], ended: Ended)
     counts[3] = counted.lost;
 }
 
-#[unsafe(no_mangle)]
-pub extern "C" fn nxdn_end(call: &mut [u8], counts: &mut [u32]) -> u8
+pub fn nxdn_end(call: &mut [u8], counts: &mut [u32]) -> u8
     ensures { (result, (call.new, counts.new)) ≡ on_call [] (Of End) call.old counts.old }
 {
     if call.len() != CALL_OCTETS {

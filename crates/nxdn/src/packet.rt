@@ -7,8 +7,7 @@ use crate::WRONG_LENGTH;
 use crate::lent::keep_packet;
 use held::packet::{PACKET_OCTETS, read};
 
-#[unsafe(no_mangle)]
-pub extern "C" fn nxdn_packet_open(
+pub fn nxdn_packet_open(
     packet: &mut [u8],
     end: u8,
     kind: u8,
@@ -26,8 +25,7 @@ pub extern "C" fn nxdn_packet_open(
     keep_packet(packet, taken)
 }
 
-#[unsafe(no_mangle)]
-pub extern "C" fn nxdn_message(packet: &mut [u8], message: &mut [u8]) -> u8
+pub fn nxdn_message(packet: &mut [u8], message: &mut [u8]) -> u8
     ensures { (result, (packet.new, message.new)) ≡ on_packet [] (Message message.old) packet.old message.old }
 {
     if packet.len() != PACKET_OCTETS {
@@ -37,8 +35,7 @@ pub extern "C" fn nxdn_message(packet: &mut [u8], message: &mut [u8]) -> u8
     keep_packet(packet, taken)
 }
 
-#[unsafe(no_mangle)]
-pub extern "C" fn nxdn_packet_lost(packet: &mut [u8]) -> u8
+pub fn nxdn_packet_lost(packet: &mut [u8]) -> u8
     ensures { (result, (packet.new, [])) ≡ on_packet [] LostMessage packet.old [] }
 {
     if packet.len() != PACKET_OCTETS {
@@ -48,8 +45,7 @@ pub extern "C" fn nxdn_packet_lost(packet: &mut [u8]) -> u8
     keep_packet(packet, taken)
 }
 
-#[unsafe(no_mangle)]
-pub extern "C" fn nxdn_packet_end(packet: &mut [u8]) -> u8
+pub fn nxdn_packet_end(packet: &mut [u8]) -> u8
     ensures { (result, (packet.new, [])) ≡ on_packet [] EndPacket packet.old [] }
 {
     if packet.len() != PACKET_OCTETS {

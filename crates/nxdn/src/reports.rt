@@ -20,8 +20,7 @@ fn lay_figures(sums: &mut [u64], reported: Reported)
     sums[5] = reported.whole;
 }
 
-#[unsafe(no_mangle)]
-pub extern "C" fn nxdn_report(counts: &[u32], sums: &mut [u64]) -> u8
+pub fn nxdn_report(counts: &[u32], sums: &mut [u64]) -> u8
     ensures { (result, sums.new) ≡ on_report counts.now sums.old }
 {
     if sums.len() != FIGURES {

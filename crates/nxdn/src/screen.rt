@@ -18,8 +18,7 @@ use voice::slot::is_full;
 
 // ---- of the book
 
-#[unsafe(no_mangle)]
-pub extern "C" fn nxdn_name(book: &[u8], cipher: u8, id: u8, name: &mut [u8]) -> u8
+pub fn nxdn_name(book: &[u8], cipher: u8, id: u8, name: &mut [u8]) -> u8
     ensures { (result, name.new) ≡ on_screen book.now (Name cipher id) name.old }
 {
     if name.len() != NAME_OCTETS {
@@ -59,8 +58,7 @@ fn lay_entry(shown: &mut [u8], entry: Shown)
     copy(&name, &mut shown[NAME..SHOWN_KEY]);
 }
 
-#[unsafe(no_mangle)]
-pub extern "C" fn nxdn_inventory(book: &[u8], entry: usize, shown: &mut [u8]) -> u8
+pub fn nxdn_inventory(book: &[u8], entry: usize, shown: &mut [u8]) -> u8
     ensures { (result, shown.new) ≡ on_screen book.now (Inventory entry) shown.old }
 {
     if shown.len() != SHOWN_KEY {
@@ -106,8 +104,7 @@ fn lay_call(shown: &mut [u8], call: Call)
     copy(&octets, shown);
 }
 
-#[unsafe(no_mangle)]
-pub extern "C" fn nxdn_show(call: &[u8], shown: &mut [u8]) -> u8
+pub fn nxdn_show(call: &[u8], shown: &mut [u8]) -> u8
     ensures { (result, shown.new) ≡ on_look Show call.now shown.old }
 {
     if call.len() != CALL_OCTETS {

@@ -113,12 +113,12 @@ octets_from_same zero f g e = refl
 octets_from_same (suc n) f g e = ap₂ ◌∷◌ (octet_same f g e) (octets_from_same n (λ k. f (k + 8)) (λ k. g (k + 8)) (λ k. e (k + 8)))
 
 -- octet i of the octets of f
-pub get_d_octets_from : (n : ℕ) (f : ℕ → ℕ) (i : ℕ) → i < n → get_or (octets_from n f) i 0 ≡ octet (λ k. f (8 * i + k))
+pub get_or-octets_from : (n : ℕ) (f : ℕ → ℕ) (i : ℕ) → i < n → get_or (octets_from n f) i 0 ≡ octet (λ k. f (8 * i + k))
 unfolding octets_from
-get_d_octets_from zero f i h = absurd (omega arith)
-get_d_octets_from (suc n) f zero h = octet_same f (λ k. f (8 * 0 + k)) (λ k. ap f (omega arith))
-get_d_octets_from (suc n) f (suc i) h =
-    get_d_octets_from n (λ k. f (k + 8)) i (omega arith)
+get_or-octets_from zero f i h = absurd (omega arith)
+get_or-octets_from (suc n) f zero h = octet_same f (λ k. f (8 * 0 + k)) (λ k. ap f (omega arith))
+get_or-octets_from (suc n) f (suc i) h =
+    get_or-octets_from n (λ k. f (k + 8)) i (omega arith)
     ∙ octet_same (λ k. f (8 * i + k + 8)) (λ k. f (8 * suc i + k)) (λ k. let e : 8 * i + k + 8 ≡ 8 * suc i + k = omega arith in ap f e)
 
 pub length-octets_from : (n : ℕ) (f : ℕ → ℕ) → length (octets_from n f) ≡ n

@@ -8,7 +8,7 @@ use borrow.Rule.Slice.PartMut.{mid_of, post_of, put_mid, same_len_mid}
 use lib.ListN.{length, get_or, take, drop, set, length-set, length-drop, length-append, get_or-append}
 use lib.Seq.{get_or-set_same, get_or-set_other, ext_get_or, get_or-take, get_or-drop, get_or-append-add, length-take-le, take_all, take_at, drop_at}
 use Rattle.octets.specs.Lists.{tab}
-use Rattle.octets.proofs.ListLaws.{length-tab, get_d_tab}
+use Rattle.octets.proofs.ListLaws.{length-tab, get_or-tab}
 
 -- d is l below i, and what it was, d₀, from there on
 pub record Front (l d₀ d : List ℕ) (i : ℕ) : Type 0 where
@@ -135,7 +135,7 @@ module _ (f : ℕ → ℕ) (n : ℕ) where
   tab_start d e = front_start (tab f n) d (e ∙ sym (length-tab f n))
 
   pub tab_more : (d₀ d : List ℕ) (i v : ℕ) → Front (tab f n) d₀ d i → i < n → v ≡ f i → Front (tab f n) d₀ (set d i v) (i + 1)
-  tab_more d₀ d i v w h e = front_more (tab f n) d₀ d i v w (omega (arith, length-tab f n)) (e ∙ sym (get_d_tab f n i h))
+  tab_more d₀ d i v w h e = front_more (tab f n) d₀ d i v w (omega (arith, length-tab f n)) (e ∙ sym (get_or-tab f n i h))
 
   pub tab_done : (d₀ d : List ℕ) (i : ℕ) → Front (tab f n) d₀ d i → n ≤ i → d ≡ tab f n
   tab_done d₀ d i w h = front_done (tab f n) d₀ d i w (omega (arith, length-tab f n))

@@ -21,12 +21,12 @@ unfolding tab
 length-tab f zero = refl
 length-tab f (suc n) = length-append (tab f n) (f n ∷ []) ∙ omega (arith, length-tab f n)
 
-pub get_d_tab : (f : ℕ → ℕ) (n i : ℕ) → i < n → get_or (tab f n) i 0 ≡ f i
+pub get_or-tab : (f : ℕ → ℕ) (n i : ℕ) → i < n → get_or (tab f n) i 0 ≡ f i
 unfolding tab
-get_d_tab f zero i h = absurd (not-suc-le-zero h)
-get_d_tab f (suc n) i h =
+get_or-tab f zero i h = absurd (not-suc-le-zero h)
+get_or-tab f (suc n) i h =
     ⊎_elim (λ e. rw e (get_or_at (tab f n) (f n) [] 0 n (length-tab f n)))
-    (λ l. get_or-append (tab f n) (f n ∷ []) 0 i (omega (arith, length-tab f n)) ∙ get_d_tab f n i l) (eq-or-lt_of_le (le_of_suc-le-suc h))
+    (λ l. get_or-append (tab f n) (f n ∷ []) 0 i (omega (arith, length-tab f n)) ∙ get_or-tab f n i l) (eq-or-lt_of_le (le_of_suc-le-suc h))
 
 pub tab_same : (f g : ℕ → ℕ) (n : ℕ) → ((i : ℕ) → i < n → f i ≡ g i) → tab f n ≡ tab g n
 unfolding tab
@@ -37,7 +37,7 @@ pub octets-tab : (f : ℕ → ℕ) (n : ℕ) → ((i : ℕ) → i < n → f i < 
 octets-tab f n h i = go (dec_lt i n)
   where
     go : Dec (i < n) → get_or (tab f n) i 0 < 256
-    go (yes l) = rw (get_d_tab f n i l) (h i l)
+    go (yes l) = rw (get_or-tab f n i l) (h i l)
     go (no l) = rw (get_or-eq_default (tab f n) 0 {n = i} (omega (arith, length-tab f n))) (omega arith)
 
 module _ (xs : List ℕ) (n : ℕ) where

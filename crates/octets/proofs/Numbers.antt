@@ -8,7 +8,7 @@ use native.Mathlib.Omega.{arith}
 use lib.ListN.{get_or}
 use lib.Pow.{shl-shr, shr-shr, high, low, mod-pow-add}
 use Rattle.octets.specs.Bits.{bit, octets_from}
-use Rattle.octets.proofs.BitLaws.{bit_at, bit-low, octet_of_lem, get_d_octets_from}
+use Rattle.octets.proofs.BitLaws.{bit_at, bit-low, octet_of_lem, get_or-octets_from}
 
 -- ---- k bits y, pushed in below x: what does not fit into j + k bits drops out
 
@@ -79,12 +79,12 @@ module _ (octets : List ℕ) where
 
 -- ---- and its octets
 
-pub get_d_of : (r i : ℕ) → i < 8 → r / 2 ^ (56 - 8 * i) % 256 ≡ get_or (octets_from 8 (λ k. r / 2 ^ (63 - k) % 2)) i 0
-get_d_of r i h =
+pub get_or-of : (r i : ℕ) → i < 8 → r / 2 ^ (56 - 8 * i) % 256 ≡ get_or (octets_from 8 (λ k. r / 2 ^ (63 - k) % 2)) i 0
+get_or-of r i h =
     octet_of_lem (r / 2 ^ (56 - 8 * i) % 256) (λ k. r / 2 ^ (63 - (8 * i + k)) % 2) (omega arith) (λ k. omega arith)
     (λ k l.
     let e : 56 - 8 * i + (7 - k) ≡ 63 - (8 * i + k) = omega arith in
     bit-low (r / 2 ^ (56 - 8 * i)) 8 (7 - k) (omega arith)
     ∙ ap (λ (z : ℕ). z % 2) (shr-shr r (56 - 8 * i) (7 - k))
     ∙ ap (λ (z : ℕ). r / 2 ^ z % 2) e)
-    ∙ sym (get_d_octets_from 8 (λ k. r / 2 ^ (63 - k) % 2) i h)
+    ∙ sym (get_or-octets_from 8 (λ k. r / 2 ^ (63 - k) % 2) i h)

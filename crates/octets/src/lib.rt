@@ -1,4 +1,6 @@
 // Octets and their bits, and a part of a lent buffer turned over by a stream of bits.
+#![tactic(auto)]
+
 ghost use Rattle.std.specs.Prelude.{◌≡◌, ℕ, ◌+◌, ◌-◌, ◌*◌, ◌/◌, ◌%◌, ◌^◌, ◌≤◌, ◌<◌, min, length};
 ghost use Rattle.octets.specs.Lists.{all_zero};
 ghost use Rattle.octets.specs.Bits.{bit, octets_from};

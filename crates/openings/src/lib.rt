@@ -1,4 +1,6 @@
 // What an opening asks, in order, and the one way in which a ready key is taken out of the book: for a call, and as well for a packet.
+#![tactic(auto)]
+
 ghost use Rattle.std.specs.Prelude.{◌≡◌, length};
 ghost use Rattle.sizes.specs.Ciphers.{vector_octets};
 ghost use Rattle.openings.specs.Ladder.{opening_key_of, session_vector, zero_for, vector_key_of};

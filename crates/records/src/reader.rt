@@ -22,7 +22,7 @@ const NUMBER_ROOM: usize = 3;
 pub const ANSWER_ROOM: usize = NUMBER_ROOM + 1 + NUMBER_ROOM + 1 + 2 * HALF_FRAME_OCTETS + 1;
 
 // The octets of the line that has not ended, zeros past them, and the call.
-#[derive(Drop)]
+#[derive(Clone, Copy)]
 pub struct Carry {
     pub line: [u8; KEPT_OCTETS],
     pub count: usize,
@@ -30,7 +30,7 @@ pub struct Carry {
 }
 
 // How many octets of a piece were taken, how much output was written, and what is carried on.
-#[derive(Drop)]
+#[derive(Clone, Copy)]
 pub struct Took {
     pub used: usize,
     pub wrote: usize,
@@ -38,7 +38,7 @@ pub struct Took {
 }
 
 // How much output the last line gave, and what is carried on.
-#[derive(Drop)]
+#[derive(Clone, Copy)]
 pub struct Finished {
     pub wrote: usize,
     pub carry: Carry,

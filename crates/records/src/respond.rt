@@ -11,7 +11,7 @@ use calls::call::Call;
 use lines::record::{RECORD_ROOM, read};
 
 // How long the output line is, the call after it, and whether the lent session is the call's.
-#[derive(Drop)]
+#[derive(Clone, Copy)]
 pub struct Response {
     pub length: usize,
     pub call: Call,

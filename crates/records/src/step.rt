@@ -21,7 +21,7 @@ use sizes::cipher::VECTOR_OCTETS;
 use sizes::frame::{HALF_FRAME_OCTETS, Half};
 
 // The answer, the call after it, how many octets of the frame are shown, and whether the lent session is the call's.
-#[derive(Drop)]
+#[derive(Clone, Copy)]
 pub struct Outcome {
     pub answer: Answer,
     pub call: Call,

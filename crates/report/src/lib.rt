@@ -1,4 +1,6 @@
 // A report of calls that have ended: their counts added up, and opened over opened plus held (document 02, W-207).
+#![tactic(auto)]
+
 ghost use Rattle.std.specs.Prelude.{◌≡◌, true, ◌≤◌, ◌<◌};
 ghost use Rattle.report.specs.Report.{per_call, calls, most_calls, counts_within, sum_at, figures, no_figures, sums, report_of};
 
@@ -19,7 +21,7 @@ const LOST: usize = 3;
 const MOST_CALLS: usize = 10_000;
 
 // The sums, and opened over opened plus held as part over whole. A refusal gives zeros.
-#[derive(Drop)]
+#[derive(Clone, Copy)]
 pub struct Reported {
     pub answer: Answer,
     pub opened: u64,

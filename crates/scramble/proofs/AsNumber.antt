@@ -9,8 +9,8 @@ use Rattle.octets.specs.Bits.{flip, octet, Bits}
 use Rattle.octets.proofs.BitLaws.{xor_low}
 use Rattle.scramble.specs.Held.{as_number, moved}
 
-bit_xor : (a b : ℕ) → a < 2 → b < 2 → flip b a ≡ bit_xor a b
-bit_xor a b h l =
+flip-bit_xor : (a b : ℕ) → a < 2 → b < 2 → flip b a ≡ bit_xor a b
+flip-bit_xor a b h l =
     ap (λ (z : ℕ). z % 2) (add_comm b a)
     ∙ ap₂ flip (sym (mod-eq_of_lt h)) (sym (mod-eq_of_lt l))
     ∙ sym (xor_low a b)
@@ -63,7 +63,7 @@ module _ (s : ℕ → ℕ) (bits : Bits s) where
         let a : n + 15 + k ≡ n + k + 15 = omega arith in
         let b : n + k + 1 ≡ n + 1 + k = omega arith in
         let fed : s (n + 15 + k) ≡ bit_xor (s (n + k)) (s (n + 1 + k)) =
-        ap s a ∙ rec (n + k) ∙ ap (λ (z : ℕ). flip (s z) (s (n + k))) b ∙ bit_xor (s (n + k)) (s (n + 1 + k)) (bits (n + k)) (bits (n + 1 + k)) in
+        ap s a ∙ rec (n + k) ∙ ap (λ (z : ℕ). flip (s z) (s (n + k))) b ∙ flip-bit_xor (s (n + k)) (s (n + 1 + k)) (bits (n + k)) (bits (n + 1 + k)) in
         ap₂ (λ (x y : ℕ). x * 2 + y) (as_number-fed n k) fed
         ∙ sym (xor_block 1 (as_number s n k) (as_number s (n + 1) k) (s (n + k)) (s (n + 1 + k)) (bits (n + k)) (bits (n + 1 + k)))
 

@@ -9,7 +9,7 @@ use lib.Bits.{bit_xor, xor_block, xor_mod, xor_zero_r}
 use lib.Pow.{pow_mono, high, mod-pow-add, mod-mod-pow, shl-shr, shr_le, shr-shr}
 use lib.ListN.{get_or}
 use Rattle.octets.specs.Bits.{octets_from}
-use Rattle.octets.proofs.BitLaws.{octet_same, get_d_octets_from}
+use Rattle.octets.proofs.BitLaws.{octet_same, get_or-octets_from}
 use Rattle.scramble.specs.Sequence.{key_number, P}
 use Rattle.scramble.specs.Held.{as_number, held}
 use Rattle.scramble.proofs.Recurrence.{P-bit, recurrence}
@@ -98,4 +98,4 @@ held-octet key bits from n i h e =
     ∙ as_number-first (P key) (P-bit key) (from + 8 * i) 8 7
     ∙ as_number-octet (P key) (from + 8 * i)
     ∙ octet_same (λ k. P key (from + 8 * i + k)) (λ k. P key (from + (8 * i + k))) (λ k. ap (P key) (add_assoc from (8 * i) k))
-    ∙ sym (get_d_octets_from n (λ k. P key (from + k)) i h)
+    ∙ sym (get_or-octets_from n (λ k. P key (from + k)) i h)

@@ -1,6 +1,8 @@
 // The scramble sequence (NXDN TS 1-D, 5.3.1), written eight bits at a time.
 //
 // The fifteen bits from a place on are held as one number, the first on top, so that the next octet of the sequence is its top eight.
+#![tactic(auto)]
+
 ghost use Rattle.std.specs.Prelude.{◌≡◌, ◌+◌, ◌*◌, ◌^◌, ◌≤◌, ◌<◌, length};
 ghost use Rattle.octets.specs.Lists.{iterate};
 ghost use Rattle.octets.specs.Bits.{octets_from};

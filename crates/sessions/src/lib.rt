@@ -1,4 +1,6 @@
 // A session's keystream made once, in lent octets, and used from slot to slot while the call stays in the session. A slot by it is the slot of the call.
+#![tactic(auto)]
+
 ghost use Rattle.std.specs.Prelude.{◌≡◌, List, true, ℕ, ◌≤◌};
 ghost use Rattle.answers.specs.Numbers.{number_of};
 ghost use Rattle.sizes.specs.Ciphers.{scrambles};
@@ -15,7 +17,7 @@ use voice::slot::{lost, moved_to, session_stream, voice, voice_by, voice_within}
 pub const MOST_SESSION_OCTETS: usize = Full::WIDTH * WORDS * Des::SESSION_SLOTS / 8;
 
 // The answer, the call after it, and whether the lent octets hold that call's session.
-#[derive(Drop)]
+#[derive(Clone, Copy)]
 pub struct Slot {
     pub answer: Answer,
     pub call: Call,

@@ -2,7 +2,7 @@
 ghost use Rattle.std.specs.Prelude.{◌≡◌};
 ghost use Rattle.sizes.specs.Ciphers.{by_cipher, key_octets, block_bits, session_slots};
 
-#[derive(Drop)]
+#[derive(Clone, Copy)]
 pub struct Scramble;
 
 impl Scramble {
@@ -13,7 +13,7 @@ impl Scramble {
     pub const SESSION_SLOTS: usize = 4;
 }
 
-#[derive(Drop)]
+#[derive(Clone, Copy)]
 pub struct Des;
 
 impl Des {
@@ -26,7 +26,7 @@ impl Des {
     pub const SESSION_SLOTS: usize = 8;
 }
 
-#[derive(Drop)]
+#[derive(Clone, Copy)]
 pub struct Aes;
 
 impl Aes {

@@ -4,7 +4,7 @@ ghost use Rattle.sizes.specs.Frame.{is_rate, width, most_width, word_octets, fra
 
 use crate::cipher::Des;
 
-#[derive(Drop)]
+#[derive(Clone, Copy)]
 pub struct Half;
 
 impl Half {
@@ -13,7 +13,7 @@ impl Half {
     pub const WIDTH: usize = 49;
 }
 
-#[derive(Drop)]
+#[derive(Clone, Copy)]
 pub struct Full;
 
 impl Full {

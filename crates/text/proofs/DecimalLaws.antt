@@ -125,9 +125,9 @@ module _ (limit : ℕ) (xs : List ℕ) where
       go false e = e
 
   module _ (is : is_decimal limit xs ≡ true) where
-    is_digit : (k : ℕ) → k < length xs → (48 ≤ get_or xs k 0) × (get_or xs k 0 ≤ 57)
+    digit_within : (k : ℕ) → k < length xs → (48 ≤ get_or xs k 0) × (get_or xs k 0 ≤ 57)
     unfolding is_decimal
-    is_digit k l =
+    digit_within k l =
         let d = all-at (digit_at xs) (length xs) k l (every-at tests 1 is) in
         (least 48 57 (get_or xs k 0) d, most 48 57 (get_or xs k 0) d)
 
@@ -144,7 +144,7 @@ module _ (limit : ℕ) (xs : List ℕ) where
     decimal-most = leb-true (decimal_value xs) limit (every-at tests 3 is)
 
     pub decimal-lacks : (sep : ℕ) → sep < 48 → Lacks sep xs
-    decimal-lacks sep h k l = ne_eqb (get_or xs k 0) sep (λ q. omega (arith, is_digit k l))
+    decimal-lacks sep h k l = ne_eqb (get_or xs k 0) sep (λ q. omega (arith, digit_within k l))
 
 -- a number that was read is within the limit
 pub number-most : (limit : ℕ) (xs : List ℕ) (v : ℕ) → Of v ≡ number_in limit xs → v ≤ limit
@@ -308,17 +308,17 @@ module _ (limit : ℕ) (xs : List ℕ) (is : is_decimal limit xs ≡ true) where
   unfolding value_to
   some-worth i h l =
       let e : i - 1 + 1 ≡ i = omega arith in
-      let first = first_above (get_or xs 0 0) (is_digit limit xs is 0 (omega arith)).0 (no_zero limit xs is l) in
+      let first = first_above (get_or xs 0 0) (digit_within limit xs is 0 (omega arith)).0 (no_zero limit xs is l) in
       omega (arith, rw e at (value_grows xs 1 (i - 1)))
 
   back_to : (i : ℕ) → i < length xs → decimal (value_to xs (suc i)) ≡ take (suc i) xs
   unfolding value_to
   back_to zero l =
-      let d = is_digit limit xs is 0 l in
+      let d = digit_within limit xs is 0 l in
       let v : 48 + (10 * 0 + (get_or xs 0 0 - 48)) ≡ get_or xs 0 0 = omega arith in
       decimal-one (10 * 0 + (get_or xs 0 0 - 48)) (omega arith) ∙ rw (v, take-suc xs 0 0 l)
   back_to (suc i) l =
-      let d = is_digit limit xs is (suc i) l in
+      let d = digit_within limit xs is (suc i) l in
       let worth = some-worth (suc i) (omega arith) (omega arith) in
       let v = 10 * value_to xs (suc i) + (get_or xs (suc i) 0 - 48) in
       let tenth : v / 10 ≡ value_to xs (suc i) = omega arith in

@@ -15,7 +15,7 @@ use Rattle.octets.specs.Tests.{pick, all_below}
 use Rattle.octets.specs.Lists.{tab}
 use Rattle.octets.specs.Bits.{Octets}
 use Rattle.octets.proofs.TestLaws.{and_left, and_right, all-at, all-step, all_intro, agree}
-use Rattle.octets.proofs.ListLaws.{length-tab, get_d_tab, tab_same, octets-tab}
+use Rattle.octets.proofs.ListLaws.{length-tab, get_or-tab, tab_same, octets-tab}
 use Rattle.octets.proofs.BitLaws.{or_below}
 use Rattle.octets.proofs.Front.{Front, front_start, front_more, front_to, front_done}
 use Rattle.text.specs.Decimal.{is_digit}
@@ -97,7 +97,7 @@ module _ (field : List ℕ) where
   values_lt k = go (dec_lt k (length field))
     where
       go : Dec (k < length field) → get_or (tab (λ i. hex_value (get_or field i 0)) (length field)) k 0 < 16
-      go (yes l) = rw (get_d_tab (λ i. hex_value (get_or field i 0)) (length field) k l) (value_lt (get_or field k 0))
+      go (yes l) = rw (get_or-tab (λ i. hex_value (get_or field i 0)) (length field) k l) (value_lt (get_or field k 0))
       go (no l) = rw (get_or-eq_default (tab (λ i. hex_value (get_or field i 0)) (length field)) 0 {n = k} (omega (arith, length-tab (λ i. hex_value (get_or field i 0)) (length field)))) (omega arith)
 
   pub is-hex : (n : ℕ) (b : Bool) → length field ≡ 2 * n → b ≡ all_below digit_at (length field) → b ≡ is_hex n field
@@ -112,9 +112,9 @@ module _ (field : List ℕ) where
   unfolding hex_octets
   length-hex_octets n = length-tab (λ i. 16 * hex_value (get_or field (2 * i) 0) + hex_value (get_or field (2 * i + 1) 0)) n
 
-  pub get_d_hex_octets : (n i : ℕ) → i < n → get_or (hex_octets field n) i 0 ≡ 16 * hex_value (get_or field (2 * i) 0) + hex_value (get_or field (2 * i + 1) 0)
+  pub get_or-hex_octets : (n i : ℕ) → i < n → get_or (hex_octets field n) i 0 ≡ 16 * hex_value (get_or field (2 * i) 0) + hex_value (get_or field (2 * i + 1) 0)
   unfolding hex_octets
-  get_d_hex_octets n i h = get_d_tab (λ i. 16 * hex_value (get_or field (2 * i) 0) + hex_value (get_or field (2 * i + 1) 0)) n i h
+  get_or-hex_octets n i h = get_or-tab (λ i. 16 * hex_value (get_or field (2 * i) 0) + hex_value (get_or field (2 * i + 1) 0)) n i h
 
   -- the octets of which vs has the digits' values
   pub read_done : (d₀ d vs : List ℕ) → length field ≡ 2 * length d₀ → vs ≡ tab (λ i. hex_value (get_or field i 0)) (length field)
@@ -125,7 +125,7 @@ module _ (field : List ℕ) where
       (h ∙ tab_same _ _ (length d₀) (λ i b. ap₂ (λ (x y : ℕ). 16 * x + y) (value (2 * i) (omega arith)) (value (2 * i + 1) (omega arith))))
     where
       value : (k : ℕ) → k < length field → get_or vs k 0 ≡ hex_value (get_or field k 0)
-      value k b = rw e (get_d_tab (λ i. hex_value (get_or field i 0)) (length field) k b)
+      value k b = rw e (get_or-tab (λ i. hex_value (get_or field i 0)) (length field) k b)
 
   pub read_not : (d₀ : List ℕ) → (length field ≡ 2 * length d₀ → ⊥) → d₀ ≡ read_hex field d₀
   unfolding read_hex
@@ -161,14 +161,14 @@ module _ (xs : List ℕ) where
       let q : 2 * i / 2 ≡ i = omega arith in
       let r : 2 * i % 2 ≡ 0 = omega arith in
       let m : get_or xs i 0 / 16 % 16 ≡ get_or xs i 0 / 16 = omega arith in
-      get_d_tab written (2 * length xs) (2 * i) (omega arith) ∙ rw (q, r, m)
+      get_or-tab written (2 * length xs) (2 * i) (omega arith) ∙ rw (q, r, m)
 
   pub hex_text-low : (i : ℕ) → i < length xs → get_or (hex_text xs) (2 * i + 1) 0 ≡ hex_digit (get_or xs i 0 % 16)
   unfolding hex_text
   hex_text-low i l =
       let q : (2 * i + 1) / 2 ≡ i = omega arith in
       let r : (2 * i + 1) % 2 ≡ 1 = omega arith in
-      get_d_tab written (2 * length xs) (2 * i + 1) (omega arith) ∙ rw (q, r, div-one)
+      get_or-tab written (2 * length xs) (2 * i + 1) (omega arith) ∙ rw (q, r, div-one)
 
   pub write_start : (d : List ℕ) → length d ≡ 2 * length xs → Front (hex_text xs) d d (2 * 0)
   write_start d e = front_start (hex_text xs) d (e ∙ sym length-hex_text)
@@ -199,7 +199,7 @@ module _ (xs : List ℕ) where
   unfolding is_hex hex_text
   hex_text-hex =
       rw (eq-eqb (length (hex_text xs)) (2 * length xs) (length-hex_text xs))
-      (all_intro (digit_at (hex_text xs)) (2 * length xs) (λ k l. rw (get_d_tab (written xs) (2 * length xs) k l) (digit-hex (get_or xs (k / 2) 0 / pick (eqb (k % 2) 0) 16 1 % 16) (omega arith))))
+      (all_intro (digit_at (hex_text xs)) (2 * length xs) (λ k l. rw (get_or-tab (written xs) (2 * length xs) k l) (digit-hex (get_or xs (k / 2) 0 / pick (eqb (k % 2) 0) 16 1 % 16) (omega arith))))
 
   pub hex_round : Octets xs → hex_octets (hex_text xs) (length xs) ≡ xs
   hex_round o =
@@ -210,7 +210,7 @@ module _ (xs : List ℕ) where
       at i l =
           let high : hex_value (get_or (hex_text xs) (2 * i) 0) ≡ get_or xs i 0 / 16 = rw (hex_text-high xs i l (o i)) (value_digit (get_or xs i 0 / 16) (omega (arith, o i))) in
           let low : hex_value (get_or (hex_text xs) (2 * i + 1) 0) ≡ get_or xs i 0 % 16 = rw (hex_text-low xs i l) (value_digit (get_or xs i 0 % 16) (omega arith)) in
-          omega (arith, get_d_hex_octets (hex_text xs) (length xs) i l, high, low)
+          omega (arith, get_or-hex_octets (hex_text xs) (length xs) i l, high, low)
 
 -- ---- and hex has one way to be written
 
@@ -231,9 +231,9 @@ module _ (xs : List ℕ) (n : ℕ) (hex : is_hex n xs ≡ true) where
       octets-tab (λ i. 16 * hex_value (get_or xs (2 * i) 0) + hex_value (get_or xs (2 * i + 1) 0)) n
       (λ i l. omega (arith, value_lt (get_or xs (2 * i) 0), value_lt (get_or xs (2 * i + 1) 0)))
 
-  is_digit : (k : ℕ) → k < 2 * n → is_hex_digit (get_or xs k 0) ≡ true
+  digit_hex : (k : ℕ) → k < 2 * n → is_hex_digit (get_or xs k 0) ≡ true
   unfolding is_hex
-  is_digit k l = all-at (digit_at xs) (2 * n) k l (and_right (eqb (length xs) (2 * n)) (all_below (digit_at xs) (2 * n)) hex)
+  digit_hex k l = all-at (digit_at xs) (2 * n) k l (and_right (eqb (length xs) (2 * n)) (all_below (digit_at xs) (2 * n)) hex)
 
   pub hex_back : hex_text (hex_octets xs n) ≡ xs
   hex_back =
@@ -246,13 +246,13 @@ module _ (xs : List ℕ) (n : ℕ) (hex : is_hex n xs ≡ true) where
       at : (k : ℕ) → k < 2 * n → Dec (k % 2 ≡ 0) → get_or (hex_text ys) k 0 ≡ get_or xs k 0
       at k l (yes e) =
           let q : 2 * (k / 2) ≡ k = omega arith in
-          let y = get_d_hex_octets xs n (k / 2) (omega arith) in
+          let y = get_or-hex_octets xs n (k / 2) (omega arith) in
           let v : get_or ys (k / 2) 0 / 16 ≡ hex_value (get_or xs (2 * (k / 2)) 0) = omega (arith, y, value_lt (get_or xs (2 * (k / 2) + 1) 0)) in
-          let h = hex_text-high ys (k / 2) (omega (arith, length-hex_octets xs n)) (octets-hex_octets (k / 2)) ∙ ap hex_digit v ∙ digit_back (get_or xs (2 * (k / 2)) 0) (is_digit (2 * (k / 2)) (omega arith)) in
+          let h = hex_text-high ys (k / 2) (omega (arith, length-hex_octets xs n)) (octets-hex_octets (k / 2)) ∙ ap hex_digit v ∙ digit_back (get_or xs (2 * (k / 2)) 0) (digit_hex (2 * (k / 2)) (omega arith)) in
           rw q at h
       at k l (no e) =
           let q : 2 * (k / 2) + 1 ≡ k = omega arith in
-          let y = get_d_hex_octets xs n (k / 2) (omega arith) in
+          let y = get_or-hex_octets xs n (k / 2) (omega arith) in
           let v : get_or ys (k / 2) 0 % 16 ≡ hex_value (get_or xs (2 * (k / 2) + 1) 0) = omega (arith, y, value_lt (get_or xs (2 * (k / 2) + 1) 0)) in
-          let h = hex_text-low ys (k / 2) (omega (arith, length-hex_octets xs n)) ∙ ap hex_digit v ∙ digit_back (get_or xs (2 * (k / 2) + 1) 0) (is_digit (2 * (k / 2) + 1) (omega arith)) in
+          let h = hex_text-low ys (k / 2) (omega (arith, length-hex_octets xs n)) ∙ ap hex_digit v ∙ digit_back (get_or xs (2 * (k / 2) + 1) 0) (digit_hex (2 * (k / 2) + 1) (omega arith)) in
           rw q at h

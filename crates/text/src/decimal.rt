@@ -4,7 +4,7 @@ ghost use Rattle.octets.specs.Lists.{replaced};
 ghost use Rattle.text.specs.Decimal.{number_in, decimal};
 
 // A number, or a field that is none.
-#[derive(Drop)]
+#[derive(Clone, Copy)]
 pub enum Number {
     Of(u32),
     Not,

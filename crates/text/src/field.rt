@@ -10,14 +10,14 @@ use crate::hex::read_hex;
 use crate::part::{TAB, part_end};
 
 // A place in a line: where the next field begins, or that there is none.
-#[derive(Drop)]
+#[derive(Clone, Copy)]
 pub struct Cursor {
     pub at: usize,
     pub more: bool,
 }
 
 // A field of a line, and the place after it.
-#[derive(Drop)]
+#[derive(Clone, Copy)]
 pub struct Field {
     pub start: usize,
     pub end: usize,
@@ -59,7 +59,7 @@ pub fn next_field(line: &[u8], cursor: Cursor) -> Field
 }
 
 // A field as a number, and the place after it.
-#[derive(Drop)]
+#[derive(Clone, Copy)]
 pub struct Numbered {
     pub number: Number,
     pub next: Cursor,

@@ -17,7 +17,7 @@ use Rattle.calls.specs.declared.call.Call.{Call}
 use Rattle.calls.specs.Counts.{plus, total, lost_words}
 use Rattle.octets.specs.Bits.{bit}
 use Rattle.sizes.specs.Frame.{width, frame_octets, session_octets, most_words}
-use Rattle.calls.specs.Call.{closed_end, receiving_end, unknown_vector, good_call, standing, width_of, written, is_bad, width_in, stands, receives, knows}
+use Rattle.calls.specs.Call.{closed_end, receiving_end, unknown_vector, good_call, standing, width_of, written, is_bad, width_in, receives, knows}
 use Rattle.voice.specs.Slot.{slot_on, is_full, lost_refusals, lost_of, top_mask, voice_refusals, stream_of, voice_after, voice_by, voice_of, voice_by_octets}
 use Rattle.calls.proofs.CallLaws.{good_by, not_bad, stands_some, width_in_lem, is_receiver, knows-is}
 use Rattle.voice.proofs.SlotLaws.{not_full, is-full, full_is, below_limit, lost_refused, none_long, none-good, none_open, none-full, taken-under-two, voice_refused, voice_taken, by_refused, by_long, by_short, answer_taken}

@@ -120,6 +120,13 @@ module _ (width : ℕ) where
         let its : in_mask mask w ≡ true = eq-eqb _ _ e in
         rw (its, sym r, sym p) (put-turned a n width (of_word width slot w) f m (q ∙ turned_same width ks (of_word width slot w) same _))
 
+  -- four steps one by one
+  pub four_turned : (slot : ℕ → ℕ) (mask : ℕ) (a b c d e : List ℕ) → b ≡ word_turned width slot mask 0 a → c ≡ word_turned width slot mask 1 b
+      → d ≡ word_turned width slot mask 2 c → e ≡ word_turned width slot mask 3 d → e ≡ protect width slot mask a
+  unfolding protect
+  four_turned slot mask a b c d e p q r s =
+      s ∙ ap (word_turned width slot mask 3) (r ∙ ap (word_turned width slot mask 2) (q ∙ ap (word_turned width slot mask 1) p))
+
   module _ (slot : ℕ → ℕ) (mask : ℕ) (a : List ℕ) where
     -- a with its words below w turned, one after the other
     pub record TurnedTo (w : ℕ) (b : List ℕ) : Type 0 where

@@ -41,7 +41,7 @@ fn is_riding(terms: Terms, known: u8) -> bool
 }
 
 // What a slot moves of a receiver's call: all but what its opening fixed.
-#[derive(Drop)]
+#[derive(Clone, Copy)]
 pub struct Moved {
     pub position: u8,
     pub known: u8,
@@ -298,7 +298,7 @@ fn is_done(call: Call, mask: u8, frame: &[u8]) -> bool
 }
 
 // Whether a slot was done, and what it moved.
-#[derive(Drop)]
+#[derive(Clone, Copy)]
 pub struct Within {
     pub done: bool,
     pub moved: Moved,

@@ -1,0 +1,11 @@
+-- `des::box_place` meets its contract.
+use native.Mathlib.Omega.{arith}
+use Rattle.des.specs.Des.{box_place}
+use Rattle.des.proofs.box_place.Goals as goal
+
+pub place_in_box-place-requires : goal.place_in_box-place-requires
+place_in_box-place-requires c = (c.requires.1 _, c.requires.1 _, c.requires.1 _, c.requires.1 _, c.requires.1 _, c.requires.1 _)
+
+pub returns : goal.returns
+unfolding box_place
+returns c = (omega arith, omega arith)

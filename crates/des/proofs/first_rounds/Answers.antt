@@ -1,0 +1,22 @@
+-- `des::first_rounds` meets its contract.
+use mathlib.Core.Path.{◌∙◌}
+use native.Mathlib.Omega.{arith}
+use borrow.Author.Rules.{rules}
+use Rattle.des.proofs.BitLists.{bits-cipher_f}
+use Rattle.des.proofs.RoundLaws.{reached_start, reached_more, reached_end}
+use Rattle.des.proofs.first_rounds.Goals as goal
+
+pub loop-n-init : goal.loop-n-init
+loop-n-init c = (search rules, reached_start _ _ _ _ c.requires.1 c.requires.2 c.half-left.ensures c.half-right.ensures)
+
+pub cipher_function-f-requires : goal.cipher_function-f-requires
+cipher_function-f-requires c = (c.requires.0, c.loop-n.invariant.1.long_right, c.loop-n.invariant.1.bits-right, search rules)
+
+pub add-requires : goal.add-requires
+add-requires c = (search rules, c.loop-n.invariant.1.bits_left, rw c.cipher_function-f.ensures (bits-cipher_f _ _))
+
+pub loop-n-preserved : goal.loop-n-preserved
+loop-n-preserved c = (search rules, reached_more _ _ _ _ _ c.loop-n.invariant.1 _ _ c.add.ensures c.cipher_function-f.ensures)
+
+pub returns : goal.returns
+returns c = c.join.ensures ∙ reached_end _ _ _ _ _ c.loop-n.invariant.1 _ (omega arith)

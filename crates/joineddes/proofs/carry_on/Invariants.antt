@@ -1,0 +1,11 @@
+-- `joineddes::carry_on` meets its contract: after n turns the halves are those after n rounds.
+use Prim.Native.Nat.{◌-◌, ◌≤◌}
+use Rattle.joineddes.specs.Joined.{bits_in, keys_in}
+use Rattle.joineddes.proofs.HalfLaws.{halves, After}
+use Rattle.joineddes.proofs.carry_on.Given as goal
+
+abbrev pub invariant-loop-n : goal.invariant-loop-n
+invariant-loop-n l = (l.n ≤ 16) × After (keys_in l.keys) (halves (bits_in 32 l.initial.left) (bits_in 32 l.initial.right)) l.n l.left l.right
+
+abbrev pub decreases-loop-n : goal.decreases-loop-n
+decreases-loop-n l = 16 - l.n
