@@ -1,7 +1,7 @@
 #!/usr/bin/env python3
 """Random records, some of them damaged, cut into odd pieces: what slotcheck prints must be what bench/model.py gives.
 
-fuzz.py [SECONDS [SEED]]     needs target/bin/slotcheck (rt check slotcheck), on Linux; an input that differs is left in target/fuzz.in"""
+fuzz.py [SECONDS [SEED]]     needs crates/slotcheck/out/slotcheck (./run slotcheck builds it), on Linux; an input that differs is left in target/fuzz.in"""
 import fcntl
 import os
 import random
@@ -86,6 +86,7 @@ def printed(octets, most):
 
 def main(seconds=60.0, seed=1):
     end, inputs, lines = time.time() + float(seconds), 0, 0
+    os.makedirs(os.path.join(ROOT, "target"), exist_ok=True)
     random.seed(int(seed))
     while time.time() < end:
         octets = text()

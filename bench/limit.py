@@ -1,7 +1,7 @@
 #!/usr/bin/env python3
 """The slot limit of a receiving call, seen: 1,000,001 lost slots of one call, and what comes after them. What slotcheck prints must be what bench/model.py gives.
 
-limit.py     needs target/bin/slotcheck (rt check slotcheck)"""
+limit.py     needs crates/slotcheck/out/slotcheck (./run slotcheck builds it)"""
 import os
 import subprocess
 import sys

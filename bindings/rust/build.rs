@@ -16,7 +16,7 @@ fn main() {
     if !archive.is_file() {
         println!(
             "cargo:warning={} is not there, and linking needs it: make it with \
-             `rt staticlib nxdn`, or name its folder in NXDN_LIB_DIR",
+             `./staticlib nxdn`, or name its folder in NXDN_LIB_DIR",
             archive.display()
         );
     }
