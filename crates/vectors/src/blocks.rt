@@ -4,7 +4,7 @@ ghost use Rattle.std.specs.Prelude.{◌≡◌, ◌<◌, length};
 use crate::row::{has_octets, octets_of};
 
 // The engines of DES.
-#[derive(Drop)]
+#[derive(Clone, Copy)]
 pub enum DesEngine {
     Plain,
     Joined,

@@ -1,6 +1,8 @@
 // Runs known answers through the proved functions: those published for DES, AES-256 and output feedback, those of NXDN TS 1-D's 7.2.2 and 7.2.3,
 // and an independent model's voice slots, counts and messages, those of DES by both of its engines; and rows of each that one bit makes wrong. Prints one line for
 // each set, with how many of its rows held, one for each row that did not, and how many of DES's selection entries the rows look at.
+#![tactic(auto)]
+
 mod blocks;
 mod counts;
 mod feedback;
@@ -10,16 +12,19 @@ mod selection;
 mod slots;
 mod standard;
 
-ghost use Rattle.io.specs.Counts.{IsPrefixLen};
+ghost use Rattle.std.specs.Prelude.{◌≡◌, ◌≤◌, length, take};
+ghost use Rattle.std.specs.Io.{ReadsAtMost};
 
 use crate::blocks::DesEngine;
 use crate::row::is_row;
 use crate::slots::Way;
-use libc::STDOUT_FILENO;
+use std::io::Read;
+use std::rt::Files;
+use std::{fs, io};
 use text::part::{LINE_END, part_end};
 
 // A file of known answers, named after what its rows try.
-#[derive(Drop)]
+#[derive(Clone, Copy)]
 enum Set {
     Des(DesEngine),
     Aes,
@@ -31,7 +36,7 @@ enum Set {
 }
 
 // How many rows of a set were tried, and how many of them held.
-#[derive(Drop)]
+#[derive(Clone, Copy)]
 struct Tally {
     held: u64,
     rows: u64,
@@ -49,39 +54,58 @@ fn holds(set: Set, row: &[u8]) -> bool {
     }
 }
 
-fn name_row(file: &[u8], line: u64) {
-    io::write_all(STDOUT_FILENO, b"not held: ");
-    io::write_all(STDOUT_FILENO, file);
-    io::write_all(STDOUT_FILENO, b", line ");
-    io::print_decimal(STDOUT_FILENO, line);
-    io::write_all(STDOUT_FILENO, b"\n");
+fn name_row(rt: &impl Print, file: &str, line: u64) -> io::Result<()> {
+    println!(rt; "not held: {file}, line {line}")
 }
 
-fn name_file(file: &[u8]) {
-    io::write_all(STDOUT_FILENO, b"not held: ");
-    io::write_all(STDOUT_FILENO, file);
-    io::write_all(STDOUT_FILENO, b", which cannot be read\n");
+fn name_file(rt: &impl Print, file: &str) -> io::Result<()> {
+    println!(rt; "not held: {file}, which cannot be read")
 }
 
-fn print(title: &[u8], tally: Tally) {
-    io::write_all(STDOUT_FILENO, title);
-    io::write_all(STDOUT_FILENO, b": ");
-    io::print_decimal(STDOUT_FILENO, tally.held);
-    io::write_all(STDOUT_FILENO, b" of ");
-    io::print_decimal(STDOUT_FILENO, tally.rows);
-    io::write_all(STDOUT_FILENO, b" held\n");
+fn print(rt: &impl Print, title: &str, tally: Tally) -> io::Result<()> {
+    let held = tally.held;
+    let rows = tally.rows;
+    println!(rt; "{title}: {held} of {rows} held")
+}
+
+// The most octets that a file is read into.
+const FILE_OCTETS: usize = 65536;
+
+fn room() -> [u8; FILE_OCTETS]
+    ensures { length result ≡ 65536 }
+{
+    [0; FILE_OCTETS]
+}
+
+// Reads until the text is full or the file ends, and answers how many octets were read.
+fn read_full(opened: &mut impl Read, text: &mut [u8]) -> io::Result<usize>
+    ensures { ReadsAtMost result text.new }
+{
+    let mut done = 0;
+    while done < text.len() {
+        let n = opened.read(&mut text[done..])?;
+        if n == 0 {
+            return Ok(done);
+        }
+        done += n;
+    }
+    Ok(done)
+}
+
+fn read_file(rt: &impl Files, file: &str, text: &mut [u8]) -> io::Result<usize>
+    ensures { ReadsAtMost result text.new }
+{
+    let mut opened = fs::open(rt, file)?;
+    read_full(&mut opened, text)
 }
 
 // Reads a file whole and answers how many octets it has, or 0 where it cannot be read or may have more than fit.
-fn read(file: &[u8], text: &mut [u8]) -> usize
-    ensures { IsPrefixLen result text.new }
+fn read(rt: &impl Files, file: &str, text: &mut [u8]) -> usize
+    ensures { (result ≤ length text.new) × (result ≡ length (take result text.new)) }
 {
-    let opened = os::open_read(file);
-    if opened < 0 {
+    let Ok(n) = read_file(rt, file, text) else {
         return 0;
-    }
-    let n = io::read_full(opened, text);
-    libc::close(opened);
+    };
     if n == text.len() {
         return 0;
     }
@@ -89,7 +113,7 @@ fn read(file: &[u8], text: &mut [u8]) -> usize
 }
 
 // Tries each row of a file's text.
-fn try_rows(set: Set, file: &[u8], text: &[u8]) -> Tally {
+fn try_rows(rt: &impl Print, set: Set, file: &str, text: &[u8]) -> io::Result<Tally> {
     let mut held: u64 = 0;
     let mut rows: u64 = 0;
     let mut lines: u64 = 0;
@@ -103,161 +127,194 @@ fn try_rows(set: Set, file: &[u8], text: &[u8]) -> Tally {
             if holds(set, line) {
                 held += 1;
             } else {
-                name_row(file, lines);
+                name_row(rt, file, lines)?;
             }
         }
         at = end + 1;
     }
-    Tally { held, rows }
+    Ok(Tally { held, rows })
 }
 
 // A file that cannot be read counts as a row that does not hold.
-fn run(set: Set, file: &[u8], title: &[u8]) {
-    let mut text = io::large_buffer();
-    let n = read(file, &mut text);
+fn run(rt: &(impl Files + Print), set: Set, file: &str, title: &str) -> io::Result<()> {
+    let mut text = room();
+    let n = read(rt, file, &mut text);
     if n == 0 {
-        name_file(file);
-        print(title, Tally { held: 0, rows: 1 });
-        return;
+        name_file(rt, file)?;
+        return print(rt, title, Tally { held: 0, rows: 1 });
     }
-    print(title, try_rows(set, file, &text[..n]));
+    let tally = try_rows(rt, set, file, &text[..n])?;
+    print(rt, title, tally)
 }
 
 // Says how many of DES's selection entries a file's rows look at.
-fn say_selection(file: &[u8]) {
-    let mut text = io::large_buffer();
-    let n = read(file, &mut text);
+fn say_selection(rt: &(impl Files + Print), file: &str) -> io::Result<()> {
+    let mut text = room();
+    let n = read(rt, file, &mut text);
     let mut marks = [0u8; selection::ENTRIES];
     selection::mark_rows(&text[..n], &mut marks);
-    io::write_all(STDOUT_FILENO, file);
-    io::write_all(STDOUT_FILENO, b" looks at ");
-    io::print_decimal(STDOUT_FILENO, selection::marked(&marks));
-    io::write_all(STDOUT_FILENO, b" of the 512 selection entries\n");
+    let marked = selection::marked(&marks);
+    println!(rt; "{file} looks at {marked} of the 512 selection entries")
 }
 
 // Runs a set's known answers, and then rows of them that one bit makes wrong: none of these may hold.
-fn run_both(set: Set, file: &[u8], title: &[u8], wrong: &[u8]) {
-    run(set, file, title);
+fn run_both(
+    rt: &(impl Files + Print),
+    set: Set,
+    file: &str,
+    title: &str,
+    wrong: &str,
+) -> io::Result<()> {
+    run(rt, set, file, title)?;
     run(
+        rt,
         set,
         wrong,
-        b"The same with one bit wrong, where none may hold",
-    );
+        "The same with one bit wrong, where none may hold",
+    )
 }
 
 // The sets of a block alone and of output feedback, DES by one of its engines.
-fn run_blocks(engine: DesEngine, blocks: &[u8], feedback: &[u8]) {
+fn run_blocks(
+    rt: &(impl Files + Print),
+    engine: DesEngine,
+    blocks: &str,
+    feedback: &str,
+) -> io::Result<()> {
     run_both(
+        rt,
         Set::Des(engine),
-        b"des-known-answers.tsv",
+        "des-known-answers.tsv",
         blocks,
-        b"des-one-bit-wrong.tsv",
-    );
+        "des-one-bit-wrong.tsv",
+    )?;
     run_both(
+        rt,
         Set::Feedback(engine),
-        b"ofb-known-answers.tsv",
+        "ofb-known-answers.tsv",
         feedback,
-        b"ofb-one-bit-wrong.tsv",
-    );
+        "ofb-one-bit-wrong.tsv",
+    )
 }
 
 // The sets of messages, DES by one of its engines.
-fn run_messages(engine: DesEngine, first: &[u8], later: &[u8]) {
+fn run_messages(
+    rt: &(impl Files + Print),
+    engine: DesEngine,
+    first: &str,
+    later: &str,
+) -> io::Result<()> {
     run_both(
+        rt,
         Set::Messages(engine),
-        b"nxdn-first-messages.tsv",
+        "nxdn-first-messages.tsv",
         first,
-        b"nxdn-first-messages-one-bit-wrong.tsv",
-    );
+        "nxdn-first-messages-one-bit-wrong.tsv",
+    )?;
     run_both(
+        rt,
         Set::Messages(engine),
-        b"data-messages.tsv",
+        "data-messages.tsv",
         later,
-        b"data-messages-one-bit-wrong.tsv",
-    );
+        "data-messages-one-bit-wrong.tsv",
+    )
 }
 
 // The slots under vectors of zeros hold heard and not sent, so that one end taken for the other shows.
-fn run_slots() {
+fn run_slots(rt: &(impl Files + Print)) -> io::Result<()> {
     run_both(
+        rt,
         Set::Slots(Way::Sent),
-        b"voice-slots.tsv",
-        b"Voice slots at both rates, in a first session and past it, by an independent model and OpenSSL, sent",
-        b"voice-slots-one-bit-wrong.tsv",
-    );
+        "voice-slots.tsv",
+        "Voice slots at both rates, in a first session and past it, by an independent model and OpenSSL, sent",
+        "voice-slots-one-bit-wrong.tsv",
+    )?;
     run_both(
+        rt,
         Set::Slots(Way::Heard),
-        b"voice-slots.tsv",
-        b"The same, heard with no announcement past the first session",
-        b"voice-slots-one-bit-wrong.tsv",
-    );
+        "voice-slots.tsv",
+        "The same, heard with no announcement past the first session",
+        "voice-slots-one-bit-wrong.tsv",
+    )?;
     run_both(
+        rt,
         Set::Slots(Way::Whole),
-        b"voice-slots.tsv",
-        b"The same, heard, the session's keystream made whole, DES by its joined tables",
-        b"voice-slots-one-bit-wrong.tsv",
-    );
+        "voice-slots.tsv",
+        "The same, heard, the session's keystream made whole, DES by its joined tables",
+        "voice-slots-one-bit-wrong.tsv",
+    )?;
     run(
+        rt,
         Set::Slots(Way::Heard),
-        b"voice-slots-zeros.tsv",
-        b"Slots of a sender whose vectors are zeros, heard with no announcement",
-    );
+        "voice-slots-zeros.tsv",
+        "Slots of a sender whose vectors are zeros, heard with no announcement",
+    )?;
     run(
+        rt,
         Set::Slots(Way::Whole),
-        b"voice-slots-zeros.tsv",
-        b"The same, the session's keystream made whole, DES by its joined tables",
-    );
+        "voice-slots-zeros.tsv",
+        "The same, the session's keystream made whole, DES by its joined tables",
+    )?;
     run(
+        rt,
         Set::Slots(Way::Sent),
-        b"voice-slots-zeros.tsv",
-        b"The same, sent by ours, which goes by no such vector, where none may hold",
-    );
+        "voice-slots-zeros.tsv",
+        "The same, sent by ours, which goes by no such vector, where none may hold",
+    )?;
     run(
+        rt,
         Set::Calls,
-        b"call-counts.tsv",
-        b"Calls to their end, words opened, held, replaced and lost, by the same model",
-    );
+        "call-counts.tsv",
+        "Calls to their end, words opened, held, replaced and lost, by the same model",
+    )?;
     run(
+        rt,
         Set::Calls,
-        b"call-counts-one-wrong.tsv",
-        b"The same with one count wrong, where none may hold",
-    );
+        "call-counts-one-wrong.tsv",
+        "The same with one count wrong, where none may hold",
+    )
 }
 
-fn main() {
+fn main(rt: HostRuntime) -> io::Result<()> {
     run_blocks(
+        &rt,
         DesEngine::Plain,
-        b"DES, SP 500-20 and SP 800-17",
-        b"Output feedback, FIPS 81 and SP 800-38A",
-    );
+        "DES, SP 500-20 and SP 800-17",
+        "Output feedback, FIPS 81 and SP 800-38A",
+    )?;
     run_blocks(
+        &rt,
         DesEngine::Joined,
-        b"DES by its joined tables, the same",
-        b"Output feedback, DES by its joined tables, the same",
-    );
-    say_selection(b"des-known-answers.tsv");
-    say_selection(b"des-one-bit-wrong.tsv");
+        "DES by its joined tables, the same",
+        "Output feedback, DES by its joined tables, the same",
+    )?;
+    say_selection(&rt, "des-known-answers.tsv")?;
+    say_selection(&rt, "des-one-bit-wrong.tsv")?;
     run_both(
+        &rt,
         Set::Aes,
-        b"aes256-known-answers.tsv",
-        b"AES-256, FIPS 197, SP 800-38A, AESAVS and the Rijndael submission",
-        b"aes256-one-bit-wrong.tsv",
-    );
+        "aes256-known-answers.tsv",
+        "AES-256, FIPS 197, SP 800-38A, AESAVS and the Rijndael submission",
+        "aes256-one-bit-wrong.tsv",
+    )?;
     run_both(
+        &rt,
         Set::Standard,
-        b"nxdn-known-answers.tsv",
-        b"NXDN TS 1-D, 7.2.3",
-        b"nxdn-one-bit-wrong.tsv",
-    );
-    run_slots();
+        "nxdn-known-answers.tsv",
+        "NXDN TS 1-D, 7.2.3",
+        "nxdn-one-bit-wrong.tsv",
+    )?;
+    run_slots(&rt)?;
     run_messages(
+        &rt,
         DesEngine::Joined,
-        b"NXDN TS 1-D, 7.2.2, first messages",
-        b"Data messages past the first, by an independent model and OpenSSL",
-    );
+        "NXDN TS 1-D, 7.2.2, first messages",
+        "Data messages past the first, by an independent model and OpenSSL",
+    )?;
     run_messages(
+        &rt,
         DesEngine::Plain,
-        b"First messages, turned with DES by its plain engine",
-        b"Data messages past the first, turned with DES by its plain engine",
-    );
+        "First messages, turned with DES by its plain engine",
+        "Data messages past the first, turned with DES by its plain engine",
+    )
 }

@@ -7,7 +7,7 @@ use calls::counts::Counts;
 use voice::slot::{session_stream, voice, voice_by};
 
 // How a row's slot is turned: as it is sent, as it is heard, or heard with the whole session's keystream made first.
-#[derive(Drop)]
+#[derive(Clone, Copy)]
 pub enum Way {
     Sent,
     Heard,
