@@ -17,16 +17,16 @@ REACHED = {"calls": {"keybook"}, "data": {"keybook"}, "slotcheck": {"calls"}, "v
 
 def listed():
     lines = (line.split("#")[0].strip() for line in (ROOT / "crates.txt").read_text().splitlines())
-    return {crate: rests.split() for crate, rests in (line.split(":") for line in lines if line)}
+    return {crate.split()[0]: rests.split() for crate, rests in (line.split(":") for line in lines if line)}
 
 
 def named(crate, known):
-    """The crates that the files of a crate name, but itself: in code by `name::`, in definitions and proofs by `Rattle·name`."""
+    """The crates that the files of a crate name, but itself: in code by `name::`, in definitions and proofs by `Rattle.name.`."""
     names = set()
     for file in (ROOT / "crates" / crate).rglob("*"):
         if file.suffix in (".rt", ".antt"):
             text = re.sub(r"(//|--).*", "", file.read_text())
-            names.update(re.findall(r"Rattle·(\w+)", text))
+            names.update(re.findall(r"Rattle\.(\w+)\.", text))
             if file.suffix == ".rt":
                 names.update(re.findall(r"(?<![\w:])(\w+)::", text))
     return (names & known) - {crate}

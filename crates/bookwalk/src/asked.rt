@@ -4,66 +4,68 @@ use answers::Answer;
 use keybook::BOOK_OCTETS;
 use keybook::screen::Shown;
 use keyentry::names::NAME_OCTETS;
-use libc::STDOUT_FILENO;
+use std::io;
 
 // Room for a book and one octet more.
 const ROOM: usize = BOOK_OCTETS + 1;
 
 // ---- what is written
 
-fn text(t: &[u8]) {
-    io::write_all(STDOUT_FILENO, t);
+fn text(rt: &impl Print, t: &str) -> io::Result<()> {
+    rt.print(t)
 }
 
-fn number(n: u64) {
-    io::print_decimal(STDOUT_FILENO, n);
+fn number(rt: &impl Print, n: u64) -> io::Result<()> {
+    rt.print(n)
 }
 
-fn octet(x: u8) {
-    io::print_hex(STDOUT_FILENO, x as u64, 2);
+fn octet(rt: &impl Print, x: u8) -> io::Result<()> {
+    print!(rt; "{x:02x}")
 }
 
-fn octets(xs: &[u8]) {
+fn octets(rt: &impl Print, xs: &[u8]) -> io::Result<()> {
     let mut i = 0;
     while i < xs.len() {
-        octet(xs[i]);
+        octet(rt, xs[i])?;
         i += 1;
     }
+    Ok(())
 }
 
-fn subject(what: &[u8], cipher: u8, id: u8) {
-    text(what);
-    text(b" ");
-    number(cipher as u64);
-    text(b" ");
-    number(id as u64);
+fn subject(rt: &impl Print, what: &str, cipher: u8, id: u8) -> io::Result<()> {
+    text(rt, what)?;
+    text(rt, " ")?;
+    number(rt, cipher as u64)?;
+    text(rt, " ")?;
+    number(rt, id as u64)
 }
 
 // What is walked.
-pub fn heading(what: &[u8]) {
-    text(b"# ");
-    text(what);
-    text(b"\n");
+pub fn heading(rt: &impl Print, what: &str) -> io::Result<()> {
+    text(rt, "# ")?;
+    text(rt, what)?;
+    text(rt, "\n")
 }
 
 // ---- the book
 
 // A book that is new: all zeros.
-pub fn fresh(book: &[u8]) {
-    text(b"book of ");
-    number(book.len() as u64);
-    text(b" octets\n");
+pub fn fresh(rt: &impl Print, book: &[u8]) -> io::Result<()> {
+    text(rt, "book of ")?;
+    number(rt, book.len() as u64)?;
+    text(rt, " octets\n")
 }
 
-pub fn spoil(book: &mut [u8], place: usize, value: u8) {
-    text(b"octet ");
-    number(place as u64);
-    text(b" ");
-    octet(value);
-    text(b"\n");
+pub fn spoil(rt: &impl Print, book: &mut [u8], place: usize, value: u8) -> io::Result<()> {
+    text(rt, "octet ")?;
+    number(rt, place as u64)?;
+    text(rt, " ")?;
+    octet(rt, value)?;
+    text(rt, "\n")?;
     if place < book.len() {
         book[place] = value;
     }
+    Ok(())
 }
 
 // ---- whether a refusal changed the book
@@ -96,134 +98,140 @@ fn is_as(book: &[u8], before: [u8; ROOM]) -> bool {
     true
 }
 
-fn answered(answer: Answer, book: &[u8], before: [u8; ROOM]) {
+fn answered(rt: &impl Print, answer: Answer, book: &[u8], before: [u8; ROOM]) -> io::Result<()> {
     let n = answer.number();
-    text(b": ");
-    number(n as u64);
+    text(rt, ": ")?;
+    number(rt, n as u64)?;
     if n != 0 {
         if !is_as(book, before) {
-            text(b" changed");
+            text(rt, " changed")?;
         }
     }
-    text(b"\n");
+    text(rt, "\n")
 }
 
 // A refusal that changes the book is seen: one octet is set behind its back.
-pub fn seen(book: &mut [u8]) {
+pub fn seen(rt: &impl Print, book: &mut [u8]) -> io::Result<()> {
     let before = copied(book);
-    spoil(book, 0, 1);
-    text(b"seen");
-    answered(Answer::Bad, book, before);
+    spoil(rt, book, 0, 1)?;
+    text(rt, "seen")?;
+    answered(rt, Answer::Bad, book, before)
 }
 
 // ---- the operations
 
-fn begun(book: &mut [u8], cipher: u8, id: u8, name: &[u8]) {
+fn begun(rt: &impl Print, book: &mut [u8], cipher: u8, id: u8, name: &[u8]) -> io::Result<()> {
     let before = copied(book);
     let a = keybook::begin(book, cipher, id, name);
-    answered(a, book, before);
+    answered(rt, a, book, before)
 }
 
 // Without a name.
-pub fn begin(book: &mut [u8], cipher: u8, id: u8) {
-    subject(b"begin", cipher, id);
+pub fn begin(rt: &impl Print, book: &mut [u8], cipher: u8, id: u8) -> io::Result<()> {
+    subject(rt, "begin", cipher, id)?;
     let name = [0; NAME_OCTETS];
-    begun(book, cipher, id, &name);
+    begun(rt, book, cipher, id, &name)
 }
 
 // The name's octets stand after the key ID.
-pub fn begin_named(book: &mut [u8], cipher: u8, id: u8, name: &[u8]) {
-    subject(b"begin", cipher, id);
-    text(b" ");
-    octets(name);
-    begun(book, cipher, id, name);
+pub fn begin_named(
+    rt: &impl Print,
+    book: &mut [u8],
+    cipher: u8,
+    id: u8,
+    name: &[u8],
+) -> io::Result<()> {
+    subject(rt, "begin", cipher, id)?;
+    text(rt, " ")?;
+    octets(rt, name)?;
+    begun(rt, book, cipher, id, name)
 }
 
-pub fn add(book: &mut [u8], cipher: u8, id: u8, xs: &[u8]) {
-    subject(b"add", cipher, id);
-    text(b" ");
-    octets(xs);
+pub fn add(rt: &impl Print, book: &mut [u8], cipher: u8, id: u8, xs: &[u8]) -> io::Result<()> {
+    subject(rt, "add", cipher, id)?;
+    text(rt, " ")?;
+    octets(rt, xs)?;
     let before = copied(book);
     let a = keybook::add(book, cipher, id, xs);
-    answered(a, book, before);
+    answered(rt, a, book, before)
 }
 
-pub fn finish(book: &mut [u8], cipher: u8, id: u8) {
-    subject(b"finish", cipher, id);
+pub fn finish(rt: &impl Print, book: &mut [u8], cipher: u8, id: u8) -> io::Result<()> {
+    subject(rt, "finish", cipher, id)?;
     let before = copied(book);
     let a = keybook::finish(book, cipher, id);
-    answered(a, book, before);
+    answered(rt, a, book, before)
 }
 
-pub fn erase(book: &mut [u8], cipher: u8, id: u8) {
-    subject(b"erase", cipher, id);
+pub fn erase(rt: &impl Print, book: &mut [u8], cipher: u8, id: u8) -> io::Result<()> {
+    subject(rt, "erase", cipher, id)?;
     let before = copied(book);
     let a = keybook::erase(book, cipher, id);
-    answered(a, book, before);
+    answered(rt, a, book, before)
 }
 
 // An answer, and octets that are handed out.
-fn handed(answer: Answer, xs: &[u8]) {
-    text(b": ");
-    number(answer.number() as u64);
-    text(b" ");
-    octets(xs);
-    text(b"\n");
+fn handed(rt: &impl Print, answer: Answer, xs: &[u8]) -> io::Result<()> {
+    text(rt, ": ")?;
+    number(rt, answer.number() as u64)?;
+    text(rt, " ")?;
+    octets(rt, xs)?;
+    text(rt, "\n")
 }
 
-pub fn ready(book: &[u8], cipher: u8, id: u8) {
-    subject(b"ready", cipher, id);
+pub fn ready(rt: &impl Print, book: &[u8], cipher: u8, id: u8) -> io::Result<()> {
+    subject(rt, "ready", cipher, id)?;
     let r = keybook::ready_key(book, cipher, id);
     let a = r.answer;
     let key = r.key;
-    handed(a, &key);
+    handed(rt, a, &key)
 }
 
-pub fn name(book: &[u8], cipher: u8, id: u8) {
-    subject(b"name", cipher, id);
+pub fn name(rt: &impl Print, book: &[u8], cipher: u8, id: u8) -> io::Result<()> {
+    subject(rt, "name", cipher, id)?;
     let r = keybook::screen::name(book, cipher, id);
     let a = r.answer;
     let name = r.name;
-    handed(a, &name);
+    handed(rt, a, &name)
 }
 
-fn field(n: u8) {
-    number(n as u64);
-    text(b" ");
+fn field(rt: &impl Print, n: u8) -> io::Result<()> {
+    number(rt, n as u64)?;
+    text(rt, " ")
 }
 
 // Its cipher type, key ID, octets loaded, whether it is ready, and its name.
-fn shown(e: Shown) {
-    field(e.cipher);
-    field(e.id);
-    field(e.loaded);
+fn shown(rt: &impl Print, e: Shown) -> io::Result<()> {
+    field(rt, e.cipher)?;
+    field(rt, e.id)?;
+    field(rt, e.loaded)?;
     if e.ready {
-        field(1);
+        field(rt, 1)?;
     } else {
-        field(0);
+        field(rt, 0)?;
     }
     let name = e.name;
-    octets(&name);
+    octets(rt, &name)
 }
 
-pub fn inventory(book: &[u8], k: usize) {
-    text(b"inventory ");
-    number(k as u64);
+pub fn inventory(rt: &impl Print, book: &[u8], k: usize) -> io::Result<()> {
+    text(rt, "inventory ")?;
+    number(rt, k as u64)?;
     let r = keybook::screen::inventory(book, k);
     let a = r.answer;
     let e = r.entry;
-    text(b": ");
-    field(a.number());
-    shown(e);
-    text(b"\n");
+    text(rt, ": ")?;
+    field(rt, a.number())?;
+    shown(rt, e)?;
+    text(rt, "\n")
 }
 
 // Every operation that names a cipher type and a key ID.
-pub fn every(book: &mut [u8], cipher: u8, id: u8) {
-    begin(book, cipher, id);
-    add(book, cipher, id, b"\x01");
-    finish(book, cipher, id);
-    erase(book, cipher, id);
-    ready(book, cipher, id);
-    name(book, cipher, id);
+pub fn every(rt: &impl Print, book: &mut [u8], cipher: u8, id: u8) -> io::Result<()> {
+    begin(rt, book, cipher, id)?;
+    add(rt, book, cipher, id, b"\x01")?;
+    finish(rt, book, cipher, id)?;
+    erase(rt, book, cipher, id)?;
+    ready(rt, book, cipher, id)?;
+    name(rt, book, cipher, id)
 }

@@ -1,4 +1,6 @@
 // What bench/ measures, for C to call. Blocks are enciphered in a chain, each the input of the next, so that no work can be left out.
+#![tactic(auto)]
+
 ghost use Rattle.std.specs.Prelude.{◌≡◌, length};
 
 use calls::call::{Call, DEFAULT, RECEIVING, TOLD, Terms, no_call};

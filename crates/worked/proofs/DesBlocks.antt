@@ -5,7 +5,7 @@ use mathlib.Core.List.{List, [], ◌∷◌}
 use Prim.Native.Nat.{ℕ}
 use Rattle.octets.specs.Lists.{tab, Each}
 use Rattle.octets.specs.Bits.{bit, octet, octets_from}
-use Rattle.des.specs.Tables.{ip, ip⁻¹, E, P, pc_1, pc_2, left_shifts, S}
+use Rattle.des.specs.Tables.{ip, ip⁻¹, table_e, table_p, pc_1, pc_2, left_shifts, table_s}
 use Rattle.des.specs.Des.{des, enciphered, rounds, halved, preoutput, cipher_f, box_input, substituted, box_place, xor_bits, permuted, round_key, key_state, rotated}
 use Rattle.des.proofs.BlockNumbers.{octets, bits, octets_work}
 
@@ -28,7 +28,7 @@ rows =
     ∷ []
 
 bits_work : Each (λ (r : ℕ × ℕ × ℕ). enciphered (round_key (bits r.0)) (bits r.1) ≡ bits r.2) rows
-unfolding rows tab ip ip⁻¹ E P pc_1 pc_2 left_shifts S enciphered rounds halved preoutput cipher_f box_input substituted box_place xor_bits permuted round_key key_state rotated
+unfolding rows tab ip ip⁻¹ table_e table_p pc_1 pc_2 left_shifts table_s enciphered rounds halved preoutput cipher_f box_input substituted box_place xor_bits permuted round_key key_state rotated
 bits_work = (refl, (refl, (refl, (refl, (refl, (refl, (refl, (refl, (refl, (refl, (refl, (refl, (refl, tt)))))))))))))
 
 each_works : (rs : List (ℕ × ℕ × ℕ)) → Each (λ (r : ℕ × ℕ × ℕ). enciphered (round_key (bits r.0)) (bits r.1) ≡ bits r.2) rs
@@ -50,7 +50,7 @@ sample_bits : (enciphered (round_key (bits sample_key)) (bits 0) ≡ bits 0x7229
     × (enciphered (round_key (bits sample_key)) (bits 0xCBAB32C3479C5E7E) ≡ bits 0xBF46E1EF6C9688E6)
     × (enciphered (round_key (bits sample_key)) (bits 0x8B8DDEEB890F4CF1) ≡ bits 0x113F0F01B9D85D3D)
     × (enciphered (round_key (bits sample_key)) (bits 0x113F0F01B9D85D3D) ≡ bits 0xEF4D6E93AEAD3769)
-unfolding tab ip ip⁻¹ E P pc_1 pc_2 left_shifts S enciphered rounds halved preoutput cipher_f box_input substituted box_place xor_bits permuted round_key key_state rotated
+unfolding tab ip ip⁻¹ table_e table_p pc_1 pc_2 left_shifts table_s enciphered rounds halved preoutput cipher_f box_input substituted box_place xor_bits permuted round_key key_state rotated
 sample_bits = (refl, refl, refl, refl, refl)
 
 -- bit 1 of zeros enciphered is 1
