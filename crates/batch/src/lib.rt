@@ -46,8 +46,8 @@ pub struct Recorded {
 
 // What is kept, after an operation on the call. A vector that was kept and is handed on begins the call's session, so what was made before is void.
 fn kept_on(before: Hearing, slot: Slot) -> Recorded
-    ensures answer_value { (result.answer ≡ slot.answer) × (result.hearing ≡ handed_on before slot.answer slot.call) }
-    ensures made_value { result.made ≡ true → (slot.made ≡ true) × (result.hearing.kept ≡ before.kept) }
+    ensures handed { (result.answer ≡ slot.answer) × (result.hearing ≡ handed_on before slot.answer slot.call) }
+    ensures made_before { result.made ≡ true → (slot.made ≡ true) × (result.hearing.kept ≡ before.kept) }
 {
     let answer = slot.answer;
     let call = slot.call;
@@ -70,7 +70,7 @@ fn kept_on(before: Hearing, slot: Slot) -> Recorded
 
 fn voice_step(before: Hearing, step: &mut [u8], session: &mut [u8], made: bool) -> Recorded
     requires { (length step.old ≡ step_octets) × Cached made (call_of before) session.old }
-    ensures step_after { (result.answer, (result.hearing, step.new)) ≡ taken (slot_in before.call.terms.rate step.old) before step.old }
+    ensures taken { (result.answer, (result.hearing, step.new)) ≡ taken (slot_in before.call.terms.rate step.old) before step.old }
     ensures cached { Cached result.made (call_of result.hearing) session.new }
 {
     let call = call_of(before);
@@ -81,8 +81,8 @@ fn voice_step(before: Hearing, step: &mut [u8], session: &mut [u8], made: bool) 
 }
 
 fn lost_step(before: Hearing, made: bool) -> Recorded
-    ensures by_index { (step : List ℕ) → (result.answer, (result.hearing, step)) ≡ taken Lost before step }
-    ensures by_index_2 { (session : List ℕ) → Cached made (call_of before) session → Cached result.made (call_of result.hearing) session }
+    ensures taken { (step : List ℕ) → (result.answer, (result.hearing, step)) ≡ taken Lost before step }
+    ensures stays_cached { (session : List ℕ) → Cached made (call_of before) session → Cached result.made (call_of result.hearing) session }
 {
     let slot = lost_slot(call_of(before), made);
     kept_on(before, slot)
@@ -90,8 +90,8 @@ fn lost_step(before: Hearing, made: bool) -> Recorded
 
 // A vector that is announced begins the call's session, so what was made before is void: a carried vector, if one was known, has given way.
 fn announce_step(before: Hearing, vector: &[u8], made: bool) -> Recorded
-    ensures by_index { (step : List ℕ) → (result.answer, (result.hearing, step)) ≡ taken (Announce vector.now) before step }
-    ensures by_index_2 { (session : List ℕ) → Cached made (call_of before) session → Cached result.made (call_of result.hearing) session }
+    ensures taken { (step : List ℕ) → (result.answer, (result.hearing, step)) ≡ taken (Announce vector.now) before step }
+    ensures stays_cached { (session : List ℕ) → Cached made (call_of before) session → Cached result.made (call_of result.hearing) session }
 {
     let told = announce(call_of(before), vector);
     kept_on(before, anew(told, made))
@@ -99,8 +99,8 @@ fn announce_step(before: Hearing, vector: &[u8], made: bool) -> Recorded
 
 // One that is heard and kept is the next session's, and the call stays in its own; one that is announced at once begins it.
 fn heard_step(before: Hearing, vector: &[u8], made: bool) -> Recorded
-    ensures by_index { (step : List ℕ) → (result.answer, (result.hearing, step)) ≡ taken (Heard vector.now) before step }
-    ensures by_index_2 { (session : List ℕ) → Cached made (call_of before) session → Cached result.made (call_of result.hearing) session }
+    ensures taken { (step : List ℕ) → (result.answer, (result.hearing, step)) ≡ taken (Heard vector.now) before step }
+    ensures stays_cached { (session : List ℕ) → Cached made (call_of before) session → Cached result.made (call_of result.hearing) session }
 {
     let carried = heard(before, vector);
     let answer = carried.answer;
@@ -130,7 +130,7 @@ fn heard_step(before: Hearing, vector: &[u8], made: bool) -> Recorded
 
 fn record_step(before: Hearing, step: &mut [u8], session: &mut [u8], made: bool) -> Recorded
     requires { (length step.old ≡ step_octets) × Cached made (call_of before) session.old }
-    ensures step_after { (result.answer, (result.hearing, step.new)) ≡ recorded before step.old }
+    ensures recorded { (result.answer, (result.hearing, step.new)) ≡ recorded before step.old }
     ensures cached { Cached result.made (call_of result.hearing) session.new }
 {
     let kind = step[KIND];

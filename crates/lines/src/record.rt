@@ -45,8 +45,8 @@ fn alone(parsed: Parsed, cursor: Cursor) -> Parsed
 
 fn load_record(line: &[u8], cursor: Cursor, octets: &mut [u8]) -> Parsed
     requires { (cursor.at ≤ length line.now) × (length octets.old ≡ record_room) }
-    ensures octets_after { record_in result octets.new ≡ load_record (left line.now cursor) }
-    ensures result_bound { key_count result ≤ record_room }
+    ensures fields { record_in result octets.new ≡ load_record (left line.now cursor) }
+    ensures fits { key_count result ≤ record_room }
 {
     let pair = next_pair(line, cursor);
     let Pair::Of { cipher, id, next } = pair else {
@@ -69,8 +69,8 @@ fn load_record(line: &[u8], cursor: Cursor, octets: &mut [u8]) -> Parsed
 
 fn open_record(line: &[u8], cursor: Cursor, octets: &mut [u8]) -> Parsed
     requires { (cursor.at ≤ length line.now) × (length octets.old ≡ record_room) }
-    ensures octets_after { record_in result octets.new ≡ open_record (left line.now cursor) }
-    ensures result_bound { key_count result ≤ record_room }
+    ensures fields { record_in result octets.new ≡ open_record (left line.now cursor) }
+    ensures fits { key_count result ≤ record_room }
 {
     let pair = next_pair(line, cursor);
     let Pair::Of { cipher, id, next } = pair else {
@@ -84,8 +84,8 @@ fn open_record(line: &[u8], cursor: Cursor, octets: &mut [u8]) -> Parsed
 
 fn join_record(line: &[u8], cursor: Cursor) -> Parsed
     requires { cursor.at ≤ length line.now }
-    ensures by_index { (xs : List ℕ) → record_in result xs ≡ join_record (left line.now cursor) }
-    ensures result_bound { key_count result ≤ record_room }
+    ensures fields { (xs : List ℕ) → record_in result xs ≡ join_record (left line.now cursor) }
+    ensures fits { key_count result ≤ record_room }
 {
     let pair = next_pair(line, cursor);
     let Pair::Of { cipher, id, next } = pair else {
@@ -96,8 +96,8 @@ fn join_record(line: &[u8], cursor: Cursor) -> Parsed
 
 fn voice_record(line: &[u8], cursor: Cursor, octets: &mut [u8]) -> Parsed
     requires { (cursor.at ≤ length line.now) × (length octets.old ≡ record_room) }
-    ensures octets_after { record_in result octets.new ≡ voice_record (left line.now cursor) }
-    ensures result_bound { key_count result ≤ record_room }
+    ensures fields { record_in result octets.new ≡ voice_record (left line.now cursor) }
+    ensures fits { key_count result ≤ record_room }
 {
     let first = next_number(line, cursor, MOST_NUMBER);
     let mask_field = first.number;
@@ -113,8 +113,8 @@ fn voice_record(line: &[u8], cursor: Cursor, octets: &mut [u8]) -> Parsed
 
 fn announce_record(line: &[u8], cursor: Cursor, octets: &mut [u8]) -> Parsed
     requires { (cursor.at ≤ length line.now) × (length octets.old ≡ record_room) }
-    ensures octets_after { record_in result octets.new ≡ announce_record (left line.now cursor) }
-    ensures result_bound { key_count result ≤ record_room }
+    ensures fields { record_in result octets.new ≡ announce_record (left line.now cursor) }
+    ensures fits { key_count result ≤ record_room }
 {
     if last_hex(line, cursor, &mut octets[..VECTOR_OCTETS]) {
         return Parsed::Announce;
@@ -125,9 +125,9 @@ fn announce_record(line: &[u8], cursor: Cursor, octets: &mut [u8]) -> Parsed
 // The record of a line; its octets are the first of the lent ones.
 pub fn read(line: &[u8], octets: &mut [u8]) -> Parsed
     requires { length octets.old ≡ record_room }
-    ensures octets_after { record_in result octets.new ≡ line_of line.now }
-    ensures octets_len { length octets.new ≡ record_room }
-    ensures result_bound { key_count result ≤ record_room }
+    ensures line { record_in result octets.new ≡ line_of line.now }
+    ensures room { length octets.new ≡ record_room }
+    ensures fits { key_count result ≤ record_room }
 {
     if line.len() > LINE_OCTETS {
         return Parsed::Malformed;

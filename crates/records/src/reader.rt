@@ -136,9 +136,9 @@ fn take_from(
 
 // Takes a piece as far as there is room for output, and at least one octet where there is room for an output line.
 pub fn take(carry: Carry, piece: &[u8], book: &mut [u8], out: &mut [u8]) -> Took
-    ensures out_after { (result.used, (result.wrote, (result.carry, (book.new, out.new)))) ≡ take_of carry piece.now book.old out.old }
-    ensures used_in_bounds { (result.used ≤ length piece.now) × (result.wrote ≤ length out.new) }
-    ensures le_used { answer_room ≤ length out.old → 1 ≤ length piece.now → 1 ≤ result.used }
+    ensures taken { (result.used, (result.wrote, (result.carry, (book.new, out.new)))) ≡ take_of carry piece.now book.old out.old }
+    ensures within { (result.used ≤ length piece.now) × (result.wrote ≤ length out.new) }
+    ensures goes_on { answer_room ≤ length out.old → 1 ≤ length piece.now → 1 ≤ result.used }
 {
     let line = carry.line;
     let call = carry.call;
@@ -183,8 +183,8 @@ fn finish_from(
 
 // The end of the input. A last line may lack its line end. With no room for an output line nothing is done, and the line is carried on.
 pub fn finish(carry: Carry, book: &mut [u8], out: &mut [u8]) -> Finished
-    ensures out_after { (result.wrote, (result.carry, (book.new, out.new))) ≡ close_of carry book.old out.old }
-    ensures wrote_in_bounds { result.wrote ≤ length out.new }
+    ensures closed { (result.wrote, (result.carry, (book.new, out.new))) ≡ close_of carry book.old out.old }
+    ensures within { result.wrote ≤ length out.new }
 {
     let line = carry.line;
     let call = carry.call;

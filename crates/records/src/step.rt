@@ -53,8 +53,8 @@ fn load_unnamed(book: &mut [u8], cipher: u8, id: u8, key: &[u8]) -> Answer
 
 // A record after which the session's keystream is to be made anew. A refusal leaves the call, and its session as it was.
 fn anew(stepped: Stepped, made: bool) -> Outcome
-    ensures answer_value { (result.answer ≡ stepped.answer) × (result.call ≡ stepped.call) × (result.shown ≡ 0) }
-    ensures made_value { result.made ≡ true → (made ≡ true) × (2 ≤ number_of stepped.answer) }
+    ensures as_stepped { (result.answer ≡ stepped.answer) × (result.call ≡ stepped.call) × (result.shown ≡ 0) }
+    ensures made_if_refused { result.made ≡ true → (made ≡ true) × (2 ≤ number_of stepped.answer) }
 {
     let slot = sessions::anew(stepped, made);
     let answer = slot.answer;
@@ -65,8 +65,8 @@ fn anew(stepped: Stepped, made: bool) -> Outcome
 // A held slot's frame is not shown.
 fn voice_slot(call: Call, mask: u8, frame: &mut [u8], session: &mut [u8], made: bool) -> Outcome
     requires { (length frame.old ≡ record_frame) × Cached made call session.old }
-    ensures frame_after { (result.answer, (result.call, frame.new)) ≡ voice_of call mask frame.old }
-    ensures shown_value { result.shown ≡ pick (is_done result.answer) record_frame 0 }
+    ensures slot { (result.answer, (result.call, frame.new)) ≡ voice_of call mask frame.old }
+    ensures shown { result.shown ≡ pick (is_done result.answer) record_frame 0 }
     ensures cached { Cached result.made result.call session.new }
 {
     let slot = sessions::voice_slot(call, mask, frame, session, made);
@@ -84,9 +84,9 @@ fn voice_slot(call: Call, mask: u8, frame: &mut [u8], session: &mut [u8], made: 
 }
 
 fn lost_slot(call: Call, made: bool) -> Outcome
-    ensures call_value { (result.answer, result.call) ≡ lost_of call }
-    ensures shown_value { result.shown ≡ 0 }
-    ensures by_index { (session : List ℕ) → Cached made call session → Cached result.made result.call session }
+    ensures slot { (result.answer, result.call) ≡ lost_of call }
+    ensures shown { result.shown ≡ 0 }
+    ensures stays_cached { (session : List ℕ) → Cached made call session → Cached result.made result.call session }
 {
     let slot = sessions::lost_slot(call, made);
     let answer = slot.answer;
@@ -114,8 +114,8 @@ pub fn step(
     made: bool,
 ) -> Outcome
     requires { (length octets.old ≡ record_room) × (key_count parsed ≤ record_room) × Cached made call session.old }
-    ensures octets_after { as_effect result.answer book.new result.call (take result.shown octets.new) ≡ step_of (record_in parsed octets.old) book.old call }
-    ensures shown_le_record_frame { (result.shown ≤ record_frame) × Cached result.made result.call session.new }
+    ensures effect { as_effect result.answer book.new result.call (take result.shown octets.new) ≡ step_of (record_in parsed octets.old) book.old call }
+    ensures cached { (result.shown ≤ record_frame) × Cached result.made result.call session.new }
 {
     match parsed {
         Parsed::Load { cipher, id, count } => no_frame(

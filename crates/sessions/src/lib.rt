@@ -55,8 +55,8 @@ fn goes_on(cipher: u8, position: u8) -> bool
 
 // An operation after which the session's keystream is to be made anew. A refusal leaves the call, and its session as it was.
 pub fn anew(stepped: Stepped, made: bool) -> Slot
-    ensures answer_value { (result.answer ≡ stepped.answer) × (result.call ≡ stepped.call) }
-    ensures made_value { result.made ≡ true → (made ≡ true) × (2 ≤ number_of stepped.answer) }
+    ensures as_stepped { (result.answer ≡ stepped.answer) × (result.call ≡ stepped.call) }
+    ensures made_if_refused { result.made ≡ true → (made ≡ true) × (2 ≤ number_of stepped.answer) }
 {
     let answer = stepped.answer;
     let call = stepped.call;
@@ -72,8 +72,8 @@ pub fn anew(stepped: Stepped, made: bool) -> Slot
 
 // A slot after which the keystream is still the session's, unless another session begins. A refused one leaves the call where it was.
 fn gone_on(before: Call, stepped: Stepped) -> Slot
-    ensures answer_value { (result.answer ≡ stepped.answer) × (result.call ≡ stepped.call) }
-    ensures cipher_value { result.made ≡ true → number_of stepped.answer ≤ 1 → result.call.position ≡ 0 → scrambles before.terms.cipher ≡ true }
+    ensures as_stepped { (result.answer ≡ stepped.answer) × (result.call ≡ stepped.call) }
+    ensures made_at_start { result.made ≡ true → number_of stepped.answer ≤ 1 → result.call.position ≡ 0 → scrambles before.terms.cipher ≡ true }
 {
     let answer = stepped.answer;
     let call = stepped.call;
@@ -95,7 +95,7 @@ fn gone_on(before: Call, stepped: Stepped) -> Slot
 // least.
 pub fn voice_slot(call: Call, mask: u8, frame: &mut [u8], session: &mut [u8], made: bool) -> Slot
     requires { Cached made call session.old }
-    ensures frame_after { (result.answer, (result.call, frame.new)) ≡ voice_of call mask frame.old }
+    ensures slot { (result.answer, (result.call, frame.new)) ≡ voice_of call mask frame.old }
     ensures cached { Cached result.made result.call session.new }
 {
     if !hold_session(call, session, made) {
@@ -118,8 +118,8 @@ pub fn voice_slot(call: Call, mask: u8, frame: &mut [u8], session: &mut [u8], ma
 
 // A lost slot. It needs no octets: those that held the call's session hold that of the call after it, where it says so.
 pub fn lost_slot(call: Call, made: bool) -> Slot
-    ensures call_value { (result.answer, result.call) ≡ lost_of call }
-    ensures by_index { (session : List ℕ) → Cached made call session → Cached result.made result.call session }
+    ensures slot { (result.answer, result.call) ≡ lost_of call }
+    ensures stays_cached { (session : List ℕ) → Cached made call session → Cached result.made result.call session }
 {
     let stepped = lost(call);
     if !made {

@@ -7,10 +7,10 @@ use Rattle.batch.proofs.announce_step.Goals as goal
 
 pub returns : goal.returns
 returns c =
-    let is = refusal_is c.anew.ensures.answer_value c.announce-told.ensures in
+    let is = refusal_is c.anew.ensures.as_stepped c.announce-told.ensures in
     record {
-      by_index = λ step. announce_stepped _ step c.call_of.ensures c.kept_on.ensures.answer_value _ is;
-      by_index_2 = λ session h.
-          let made = refused_cached _ session (rw c.call_of.ensures h) c.announce-told.ensures (announce_keeps _ _) c.anew.ensures.answer_value.1 c.anew.ensures.made_value in
-          kept_cached _ _ _ (announce_same _ is c.call_of.ensures) made c.kept_on.ensures.answer_value.1 c.kept_on.ensures.made_value;
+      taken = λ step. announce_stepped _ step c.call_of.ensures c.kept_on.ensures.handed _ is;
+      stays_cached = λ session h.
+          let made = refused_cached _ session (rw c.call_of.ensures h) c.announce-told.ensures (announce_keeps _ _) c.anew.ensures.as_stepped.1 c.anew.ensures.made_if_refused in
+          kept_cached _ _ _ (announce_same _ is c.call_of.ensures) made c.kept_on.ensures.handed.1 c.kept_on.ensures.made_before;
     }

@@ -13,7 +13,7 @@ record_step-done-requires c = (search rules, c.loop-i.invariant.1)
 
 pub loop-i-preserved : goal.loop-i-preserved
 loop-i-preserved c =
-    (going_on_lem _ _ _ c.loop-i.invariant.0 (search rules) (search rules) c.record_step-done.ensures.step_after c.number.ensures, c.record_step-done.ensures.cached, search rules)
+    (going_on_lem _ _ _ c.loop-i.invariant.0 (search rules) (search rules) c.record_step-done.ensures.recorded c.number.ensures, c.record_step-done.ensures.cached, search rules)
 
 pub returns : goal.returns
 returns c = going_all _ _ _ c.loop-i.invariant.0 (search rules)

@@ -3,4 +3,4 @@ use mathlib.Core.Bool.{false≢true}
 use Rattle.batch.proofs.kept_on.Goals as goal
 
 pub returns-then-hearing-before : goal.returns-then-hearing-before
-returns-then-hearing-before c = record { answer_value = c.carry-carried.ensures; made_value = λ t. absurd (false≢true t) }
+returns-then-hearing-before c = record { handed = c.carry-carried.ensures; made_before = λ t. absurd (false≢true t) }

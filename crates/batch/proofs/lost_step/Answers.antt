@@ -4,4 +4,4 @@ use Rattle.batch.proofs.lost_step.Goals as goal
 
 pub returns : goal.returns
 returns c =
-    record { by_index = λ step. lost-stepped _ step c.call_of.ensures c.kept_on.ensures.answer_value c.lost_slot-slot.ensures.call_value; by_index_2 = λ session h. kept_cached _ _ _ (lost_same c.lost_slot-slot.ensures.call_value c.call_of.ensures) (c.lost_slot-slot.ensures.by_index session (rw c.call_of.ensures h)) c.kept_on.ensures.answer_value.1 c.kept_on.ensures.made_value }
+    record { taken = λ step. lost-stepped _ step c.call_of.ensures c.kept_on.ensures.handed c.lost_slot-slot.ensures.slot; stays_cached = λ session h. kept_cached _ _ _ (lost_same c.lost_slot-slot.ensures.slot c.call_of.ensures) (c.lost_slot-slot.ensures.stays_cached session (rw c.call_of.ensures h)) c.kept_on.ensures.handed.1 c.kept_on.ensures.made_before }

@@ -4,20 +4,20 @@ use Rattle.batch.proofs.record_step.Goals as goal
 
 pub returns-then-kind-eq-VOICE : goal.returns-then-kind-eq-VOICE
 returns-then-kind-eq-VOICE c =
-    record { step_after = is_voice _ _ c.if-kind-eq-VOICE.true c.voice_step.ensures.step_after; cached = c.voice_step.ensures.cached }
+    record { recorded = is_voice _ _ c.if-kind-eq-VOICE.true c.voice_step.ensures.taken; cached = c.voice_step.ensures.cached }
 
 pub returns-then-kind-eq-LOST : goal.returns-then-kind-eq-LOST
 returns-then-kind-eq-LOST c =
-    record { step_after = is_lost _ _ c.if-kind-eq-LOST.true (c.lost_step.ensures.by_index _); cached = c.lost_step.ensures.by_index_2 _ c.requires.1 }
+    record { recorded = is_lost _ _ c.if-kind-eq-LOST.true (c.lost_step.ensures.taken _); cached = c.lost_step.ensures.stays_cached _ c.requires.1 }
 
 pub returns-then-kind-eq-ANNOUNCE : goal.returns-then-kind-eq-ANNOUNCE
 returns-then-kind-eq-ANNOUNCE c =
-    record { step_after = is_announce _ _ c.if-kind-eq-ANNOUNCE.true (c.announce_step.ensures.by_index _); cached = c.announce_step.ensures.by_index_2 _ c.requires.1 }
+    record { recorded = is_announce _ _ c.if-kind-eq-ANNOUNCE.true (c.announce_step.ensures.taken _); cached = c.announce_step.ensures.stays_cached _ c.requires.1 }
 
 pub returns-then-kind-eq-HEARD : goal.returns-then-kind-eq-HEARD
 returns-then-kind-eq-HEARD c =
-    record { step_after = is-heard _ _ c.if-kind-eq-HEARD.true (c.heard_step.ensures.by_index _); cached = c.heard_step.ensures.by_index_2 _ c.requires.1 }
+    record { recorded = is-heard _ _ c.if-kind-eq-HEARD.true (c.heard_step.ensures.taken _); cached = c.heard_step.ensures.stays_cached _ c.requires.1 }
 
 pub returns : goal.returns
 returns c =
-    record { step_after = is_unknown _ _ c.if-kind-eq-VOICE.false c.if-kind-eq-LOST.false c.if-kind-eq-ANNOUNCE.false c.if-kind-eq-HEARD.false; cached = c.requires.1 }
+    record { recorded = is_unknown _ _ c.if-kind-eq-VOICE.false c.if-kind-eq-LOST.false c.if-kind-eq-ANNOUNCE.false c.if-kind-eq-HEARD.false; cached = c.requires.1 }

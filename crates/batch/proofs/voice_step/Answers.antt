@@ -12,7 +12,7 @@ voice_slot-slot-requires c = rw c.call_of-call.ensures c.requires.1
 pub returns : goal.returns
 returns c =
     record {
-      step_after = voice_stepped _ c.args.step.now c.call_of-call.ensures c.kept_on.ensures.answer_value _ c.args.before.call.terms.rate c.frame_octets-octets.result (c.frame_octets-octets.ensures ∙ ap frame_octets c.width.ensures.0)
-          (omega (arith, c.frame_octets-octets.ensures, c.width.ensures.1, c.requires.0)) c.voice_slot-slot.ensures.frame_after (search rules);
-      cached = kept_cached _ _ _ (voice_same _ _ c.voice_slot-slot.ensures.frame_after c.call_of-call.ensures) c.voice_slot-slot.ensures.cached c.kept_on.ensures.answer_value.1 c.kept_on.ensures.made_value;
+      taken = voice_stepped _ c.args.step.now c.call_of-call.ensures c.kept_on.ensures.handed _ c.args.before.call.terms.rate c.frame_octets-octets.result (c.frame_octets-octets.ensures ∙ ap frame_octets c.width.ensures.0)
+          (omega (arith, c.frame_octets-octets.ensures, c.width.ensures.1, c.requires.0)) c.voice_slot-slot.ensures.slot (search rules);
+      cached = kept_cached _ _ _ (voice_same _ _ c.voice_slot-slot.ensures.slot c.call_of-call.ensures) c.voice_slot-slot.ensures.cached c.kept_on.ensures.handed.1 c.kept_on.ensures.made_before;
     }

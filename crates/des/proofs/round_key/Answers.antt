@@ -16,9 +16,8 @@ slice_bounds-permute-end c = within _ c.requires.0 (omega arith)
 pub slice_bounds-permute-end-2 : goal.slice_bounds-permute-end-2
 slice_bounds-permute-end-2 c = within _ c.requires.0 (omega arith)
 
-pub permute-requires : goal.permute-requires
-permute-requires c =
-    record { out_len = (c-asked _ 904 (within _ c.requires.0 (omega arith)) c.c_in_round-c.result refl (c_part _ _ c.requires.0.parts) (search rules)).0; by_index = (c-asked _ 904 (within _ c.requires.0 (omega arith)) c.c_in_round-c.result refl (c_part _ _ c.requires.0.parts) (search rules)).1 }
+pub permute-requires-clause-by_index : goal.permute-requires-clause-by_index
+permute-requires-clause-by_index c = (c-asked _ 904 (within _ c.requires.0 (omega arith)) c.c_in_round-c.result refl (c_part _ _ c.requires.0.parts) (search rules)).1
 
 pub slice_bounds-permute-end-3 : goal.slice_bounds-permute-end-3
 slice_bounds-permute-end-3 c = within _ c.requires.0 (omega arith)
@@ -30,9 +29,8 @@ pub slice_bounds-key-end-2 : goal.slice_bounds-key-end-2
 slice_bounds-key-end-2 c =
     omega (arith, first_long (replicate 48 0) _ (replicate 24 0) 24 24 (length-c-bits _ _ (c_part _ _ c.requires.0.parts)) refl refl _ c.permute.ensures)
 
-pub permute-requires-2 : goal.permute-requires-2
-permute-requires-2 c =
-    record { out_len = (d-asked _ 904 (within _ c.requires.0 (omega arith)) (c.c_in_round-c.result + 28) (search rules) (d_part _ _ c.requires.0.parts) (search rules)).0; by_index = (d-asked _ 904 (within _ c.requires.0 (omega arith)) (c.c_in_round-c.result + 28) refl (d_part _ _ c.requires.0.parts) (search rules)).1 }
+pub permute-requires-2-clause-by_index : goal.permute-requires-2-clause-by_index
+permute-requires-2-clause-by_index c = (d-asked _ 904 (within _ c.requires.0 (omega arith)) (c.c_in_round-c.result + 28) refl (d_part _ _ c.requires.0.parts) (search rules)).1
 
 pub returns : goal.returns
 returns c =

@@ -19,9 +19,8 @@ pub slice_bounds-permute-end-2 : goal.slice_bounds-permute-end-2
 unfolding pc_2
 slice_bounds-permute-end-2 c = omega (arith, ap length c.requires.1)
 
-pub permute-requires : goal.permute-requires
-permute-requires c =
-    record { out_len = (c-asked c.args.halves.now (length c.args.halves.now) (omega arith) c.args.shifts refl (ap (take 24) c.requires.1) (search rules)).0; by_index = (c-asked c.args.halves.now (length c.args.halves.now) (omega arith) c.args.shifts refl (ap (take 24) c.requires.1) (search rules)).1 }
+pub permute-requires-clause-by_index : goal.permute-requires-clause-by_index
+permute-requires-clause-by_index c = (c-asked c.args.halves.now (length c.args.halves.now) (omega arith) c.args.shifts refl (ap (take 24) c.requires.1) (search rules)).1
 
 pub slice_bounds-permute-end-4 : goal.slice_bounds-permute-end-4
 unfolding pc_2
@@ -31,9 +30,8 @@ pub slice_bounds-bits-end-2 : goal.slice_bounds-bits-end-2
 slice_bounds-bits-end-2 c =
     omega (arith, first_long (replicate 48 0) _ (replicate 24 0) 24 24 (length-c-bits _ _ (ap (take 24) c.requires.1)) refl refl _ c.permute.ensures)
 
-pub permute-requires-2 : goal.permute-requires-2
-permute-requires-2 c =
-    record { out_len = (d-asked c.args.halves.now (length c.args.halves.now) (omega arith) (c.args.shifts + 28) (search rules) (d_part _ c.requires.1) (search rules)).0; by_index = (d-asked c.args.halves.now (length c.args.halves.now) (omega arith) (c.args.shifts + 28) refl (d_part _ c.requires.1) (search rules)).1 }
+pub permute-requires-2-clause-by_index : goal.permute-requires-2-clause-by_index
+permute-requires-2-clause-by_index c = (d-asked c.args.halves.now (length c.args.halves.now) (omega arith) (c.args.shifts + 28) refl (d_part _ c.requires.1) (search rules)).1
 
 pub returns : goal.returns
 returns c key n h is-halves is-shifts =

@@ -12,4 +12,4 @@ pub returns : goal.returns
 returns c = new_written _ _ c.clear.ensures c.copy.ensures
 
 pub shape_of-e : goal.shape_of-e
-shape_of-e c = ap length (new_written _ _ c.clear.ensures c.copy.ensures) ∙ new_length _ _ _ c.requires.1 ∙ sym c.requires.0
+shape_of-e c = ap length (returns c) ∙ new_length _ _ _ c.requires.1 ∙ sym c.requires.0

@@ -5,7 +5,7 @@ use borrow.Author.Rules.{rules}
 use Rattle.sessions.proofs.anew.Goals as goal
 
 pub returns-then-number-gt1 : goal.returns-then-number-gt1
-returns-then-number-gt1 c = record { answer_value = (refl, refl); made_value = λ t. (t, search rules) }
+returns-then-number-gt1 c = record { as_stepped = (refl, refl); made_if_refused = λ t. (t, search rules) }
 
 pub returns : goal.returns
-returns c = record { answer_value = (refl, refl); made_value = λ t. absurd (false≢true t) }
+returns c = record { as_stepped = (refl, refl); made_if_refused = λ t. absurd (false≢true t) }

@@ -24,18 +24,18 @@ pub loop-at-init : goal.loop-at-init
 loop-at-init g c = (fed-none _ c.args.piece.now, search rules, search rules, search rules)
 
 pub slice_bounds-write_all-end-in-loop-at : goal.slice_bounds-write_all-end-in-loop-at
-slice_bounds-write_all-end-in-loop-at g c = sym (length-take-le _ _ c.take-took.ensures.used_in_bounds.1)
+slice_bounds-write_all-end-in-loop-at g c = sym (length-take-le _ _ c.take-took.ensures.within.1)
 
 pub returns-then-is_err : goal.returns-then-is_err
 returns-then-is_err g c e = absurd (false≢true e)
 
 pub loop-at-smaller : goal.loop-at-smaller
 loop-at-smaller g c =
-    less-left _ c.loop-at.at _ (search rules) (c.take-took.ensures.le_used (search rules) (rest_some c.args.piece.now c.loop-at.at (search rules)))
+    less-left _ c.loop-at.at _ (search rules) (c.take-took.ensures.goes_on (search rules) (rest_some c.args.piece.now c.loop-at.at (search rules)))
 
 pub loop-at-preserved : goal.loop-at-preserved
 loop-at-preserved g c = (
-  fed_more _ _ c.loop-at.out c.loop-at.at c.loop-at.now c.loop-at.book c.loop-at.invariant.0 c.take-took.ensures.out_after,
+  fed_more _ _ c.loop-at.out c.loop-at.at c.loop-at.now c.loop-at.book c.loop-at.invariant.0 c.take-took.ensures.taken,
   search rules,
   search rules,
   search rules,

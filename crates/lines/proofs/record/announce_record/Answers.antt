@@ -14,8 +14,8 @@ last_hex-requires c = part_fits c.args.octets.now vector_octets (omega arith) (s
 
 pub returns-then-last_hex : goal.returns-then-last_hex
 returns-then-last_hex c =
-    record { octets_after = announce_done _ _ _ _ (last-lent c.args.octets.now vector_octets (omega arith) _ _ _ _ (c.last_hex.ensures.value, c.last_hex.ensures.octets_after)) c.if-last_hex.true _; result_bound = search rules }
+    record { fields = announce_done _ _ _ _ (last-lent c.args.octets.now vector_octets (omega arith) _ _ _ _ (c.last_hex.ensures.value, c.last_hex.ensures.octets_after)) c.if-last_hex.true _; fits = search rules }
 
 pub returns : goal.returns
 returns c =
-    record { octets_after = announce_not _ _ _ _ (last-lent c.args.octets.now vector_octets (omega arith) _ _ _ _ (c.last_hex.ensures.value, c.last_hex.ensures.octets_after)) c.if-last_hex.false; result_bound = search rules }
+    record { fields = announce_not _ _ _ _ (last-lent c.args.octets.now vector_octets (omega arith) _ _ _ _ (c.last_hex.ensures.value, c.last_hex.ensures.octets_after)) c.if-last_hex.false; fits = search rules }

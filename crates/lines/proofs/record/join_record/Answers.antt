@@ -4,8 +4,8 @@ use Rattle.lines.proofs.RecordLaws.{join_no_pair, join_is, join_count}
 use Rattle.lines.proofs.record.join_record.Goals as goal
 
 pub returns-in_default : goal.returns-in_default
-returns-in_default c = record { by_index = λ xs. join_no_pair _ _ _ c.next_pair-pair.ensures c.in_default.is; result_bound = search rules }
+returns-in_default c = record { fields = λ xs. join_no_pair _ _ _ c.next_pair-pair.ensures c.in_default.is; fits = search rules }
 
 pub returns : goal.returns
 returns c =
-    record { by_index = join_is _ _ _ c.next_pair-pair.ensures _ _ _ c.in-Of.is _ c.alone.ensures; result_bound = join_count _ _ _ c.next_pair-pair.ensures _ _ _ c.in-Of.is _ c.alone.ensures }
+    record { fields = join_is _ _ _ c.next_pair-pair.ensures _ _ _ c.in-Of.is _ c.alone.ensures; fits = join_count _ _ _ c.next_pair-pair.ensures _ _ _ c.in-Of.is _ c.alone.ensures }

@@ -8,18 +8,18 @@ use Rattle.lines.proofs.RecordLaws.{pair_within, load_no_pair, load_none, load_l
 use Rattle.lines.proofs.record.load_record.Goals as goal
 
 pub returns-in_default : goal.returns-in_default
-returns-in_default c = record { octets_after = load_no_pair _ _ _ c.next_pair-pair.ensures c.in_default.is; result_bound = search rules }
+returns-in_default c = record { fields = load_no_pair _ _ _ c.next_pair-pair.ensures c.in_default.is; fits = search rules }
 
 pub overflow_sub-count : goal.overflow_sub-count
 overflow_sub-count c = pair_within _ _ _ c.next_pair-pair.ensures _ _ _ c.in-Of.is
 
 pub returns-then-count-eq0 : goal.returns-then-count-eq0
 returns-then-count-eq0 c =
-    record { octets_after = load_none _ _ _ c.next_pair-pair.ensures _ _ _ c.in-Of.is _ refl (search rules); result_bound = search rules }
+    record { fields = load_none _ _ _ c.next_pair-pair.ensures _ _ _ c.in-Of.is _ refl (search rules); fits = search rules }
 
 pub returns-then-count-gt-KEY_ROOM : goal.returns-then-count-gt-KEY_ROOM
 returns-then-count-gt-KEY_ROOM c =
-    record { octets_after = load_long _ _ _ c.next_pair-pair.ensures _ _ _ c.in-Of.is _ refl (search rules); result_bound = search rules }
+    record { fields = load_long _ _ _ c.next_pair-pair.ensures _ _ _ c.in-Of.is _ refl (search rules); fits = search rules }
 
 pub slice_bounds-last_hex-end-2 : goal.slice_bounds-last_hex-end-2
 slice_bounds-last_hex-end-2 c = part_size c.args.octets.now _ (omega arith)
@@ -31,8 +31,8 @@ last_hex-requires c =
 
 pub returns-then-last_hex : goal.returns-then-last_hex
 returns-then-last_hex c =
-    record { octets_after = load_done _ _ _ c.next_pair-pair.ensures _ _ _ c.in-Of.is _ refl (omega arith) (omega arith) _ _ (last-lent c.args.octets.now _ (omega arith) _ _ _ _ (c.last_hex.ensures.value, c.last_hex.ensures.octets_after)) c.if-last_hex.true _; result_bound = search rules }
+    record { fields = load_done _ _ _ c.next_pair-pair.ensures _ _ _ c.in-Of.is _ refl (omega arith) (omega arith) _ _ (last-lent c.args.octets.now _ (omega arith) _ _ _ _ (c.last_hex.ensures.value, c.last_hex.ensures.octets_after)) c.if-last_hex.true _; fits = search rules }
 
 pub returns : goal.returns
 returns c =
-    record { octets_after = load_not _ _ _ c.next_pair-pair.ensures _ _ _ c.in-Of.is _ refl (omega arith) (omega arith) _ _ (last-lent c.args.octets.now _ (omega arith) _ _ _ _ (c.last_hex.ensures.value, c.last_hex.ensures.octets_after)) c.if-last_hex.false; result_bound = search rules }
+    record { fields = load_not _ _ _ c.next_pair-pair.ensures _ _ _ c.in-Of.is _ refl (omega arith) (omega arith) _ _ (last-lent c.args.octets.now _ (omega arith) _ _ _ _ (c.last_hex.ensures.value, c.last_hex.ensures.octets_after)) c.if-last_hex.false; fits = search rules }

@@ -7,7 +7,7 @@ use Rattle.lines.proofs.RecordLaws.{pair_within, open_no_pair, open_done, open_n
 use Rattle.lines.proofs.record.open_record.Goals as goal
 
 pub returns-in_default : goal.returns-in_default
-returns-in_default c = record { octets_after = open_no_pair _ _ _ c.next_pair-pair.ensures c.in_default.is; result_bound = search rules }
+returns-in_default c = record { fields = open_no_pair _ _ _ c.next_pair-pair.ensures c.in_default.is; fits = search rules }
 
 pub slice_bounds-last_hex-end-2 : goal.slice_bounds-last_hex-end-2
 slice_bounds-last_hex-end-2 c = part_size c.args.octets.now vector_octets (omega arith)
@@ -18,8 +18,8 @@ last_hex-requires c =
 
 pub returns-then-last_hex : goal.returns-then-last_hex
 returns-then-last_hex c =
-    record { octets_after = open_done _ _ _ c.next_pair-pair.ensures _ _ _ c.in-Of.is _ _ (last-lent c.args.octets.now vector_octets (omega arith) _ _ _ _ (c.last_hex.ensures.value, c.last_hex.ensures.octets_after)) c.if-last_hex.true _; result_bound = search rules }
+    record { fields = open_done _ _ _ c.next_pair-pair.ensures _ _ _ c.in-Of.is _ _ (last-lent c.args.octets.now vector_octets (omega arith) _ _ _ _ (c.last_hex.ensures.value, c.last_hex.ensures.octets_after)) c.if-last_hex.true _; fits = search rules }
 
 pub returns : goal.returns
 returns c =
-    record { octets_after = open_not _ _ _ c.next_pair-pair.ensures _ _ _ c.in-Of.is _ _ (last-lent c.args.octets.now vector_octets (omega arith) _ _ _ _ (c.last_hex.ensures.value, c.last_hex.ensures.octets_after)) c.if-last_hex.false; result_bound = search rules }
+    record { fields = open_not _ _ _ c.next_pair-pair.ensures _ _ _ c.in-Of.is _ _ (last-lent c.args.octets.now vector_octets (omega arith) _ _ _ _ (c.last_hex.ensures.value, c.last_hex.ensures.octets_after)) c.if-last_hex.false; fits = search rules }

@@ -10,7 +10,7 @@ use Rattle.lines.proofs.record.voice_record.Goals as goal
 
 pub returns-in_default : goal.returns-in_default
 returns-in_default c =
-    record { octets_after = voice_no_mask _ _ (sym c.next_number-first.ensures.number_value ∙ c.in_default.is); result_bound = search rules }
+    record { fields = voice_no_mask _ _ (sym c.next_number-first.ensures.number_value ∙ c.in_default.is); fits = search rules }
 
 pub slice_bounds-last_hex-end-2 : goal.slice_bounds-last_hex-end-2
 slice_bounds-last_hex-end-2 c = part_size c.args.octets.now record_frame (omega arith)
@@ -23,8 +23,8 @@ overflow_cast-result c = omega (arith, number-most _ _ _ (sym c.in-Of.is ∙ c.n
 
 pub returns-then-last_hex : goal.returns-then-last_hex
 returns-then-last_hex c =
-    record { octets_after = voice_done _ _ _ c.next_number-first.ensures.next_value.0 _ _ (last-lent c.args.octets.now record_frame (omega arith) _ _ _ _ (c.last_hex.ensures.value, c.last_hex.ensures.octets_after)) _ (sym c.next_number-first.ensures.number_value ∙ c.in-Of.is) c.if-last_hex.true _; result_bound = search rules }
+    record { fields = voice_done _ _ _ c.next_number-first.ensures.next_value.0 _ _ (last-lent c.args.octets.now record_frame (omega arith) _ _ _ _ (c.last_hex.ensures.value, c.last_hex.ensures.octets_after)) _ (sym c.next_number-first.ensures.number_value ∙ c.in-Of.is) c.if-last_hex.true _; fits = search rules }
 
 pub returns : goal.returns
 returns c =
-    record { octets_after = voice_not _ _ _ c.next_number-first.ensures.next_value.0 _ _ (last-lent c.args.octets.now record_frame (omega arith) _ _ _ _ (c.last_hex.ensures.value, c.last_hex.ensures.octets_after)) c.if-last_hex.false; result_bound = search rules }
+    record { fields = voice_not _ _ _ c.next_number-first.ensures.next_value.0 _ _ (last-lent c.args.octets.now record_frame (omega arith) _ _ _ _ (c.last_hex.ensures.value, c.last_hex.ensures.octets_after)) c.if-last_hex.false; fits = search rules }

@@ -6,4 +6,4 @@ use Rattle.records.proofs.reader.finish.Goals as goal
 
 pub returns : goal.returns
 returns c =
-    record { out_after = c.finish_from.ensures ∙ rw (reading-is c.args.carry.line _ _ _ _ (search rules) c.least.ensures.2); wrote_in_bounds = close_bounds _ _ c.finish_from.ensures (search rules) }
+    record { closed = c.finish_from.ensures ∙ rw (reading-is c.args.carry.line _ _ _ _ (search rules) c.least.ensures.2); within = close_bounds _ _ c.finish_from.ensures (search rules) }

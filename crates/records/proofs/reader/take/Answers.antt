@@ -6,4 +6,4 @@ use Rattle.records.proofs.reader.take.Goals as goal
 
 pub returns : goal.returns
 returns c =
-    record { out_after = c.take_from.ensures ∙ rw (reading-is c.args.carry.line _ _ _ _ (search rules) c.least.ensures.2); used_in_bounds = (take_bounds _ _ _ c.take_from.ensures (search rules)).0; le_used = (take_bounds _ _ _ c.take_from.ensures (search rules)).1 }
+    record { taken = c.take_from.ensures ∙ rw (reading-is c.args.carry.line _ _ _ _ (search rules) c.least.ensures.2); within = (take_bounds _ _ _ c.take_from.ensures (search rules)).0; goes_on = (take_bounds _ _ _ c.take_from.ensures (search rules)).1 }

@@ -31,32 +31,32 @@ slice_bounds-announce-end-in-Announce c = sym (length-take-le 8 c.args.octets.no
 
 pub returns-in-Load : goal.returns-in-Load
 returns-in-Load c =
-    record { octets_after = comes c.no_frame.result _ _ c.no_frame.ensures.0 c.no_frame.ensures.1 c.no_frame.ensures.2 (load_is _ _ _ _ c.in-Load.is ∙ ap (book_step c.args.call) (sym c.load_unnamed.ensures)); shown_le_record_frame = (rw c.no_frame.ensures.2 (omega arith), rw (c.no_frame.ensures.3, c.no_frame.ensures.1) c.requires.2) }
+    record { effect = comes c.no_frame.result _ _ c.no_frame.ensures.0 c.no_frame.ensures.1 c.no_frame.ensures.2 (load_is _ _ _ _ c.in-Load.is ∙ ap (book_step c.args.call) (sym c.load_unnamed.ensures)); cached = (rw c.no_frame.ensures.2 (omega arith), rw (c.no_frame.ensures.3, c.no_frame.ensures.1) c.requires.2) }
 
 pub returns-in-Open : goal.returns-in-Open
 returns-in-Open c =
-    record { octets_after = comes c.anew.result _ _ c.anew.ensures.answer_value.0 c.anew.ensures.answer_value.1 c.anew.ensures.answer_value.2 (open_is _ _ _ _ c.in-Open.is ∙ ap (call_step c.args.book.now) (sym c.«open».ensures)); shown_le_record_frame = (rw c.anew.ensures.answer_value.2 (omega arith), refused_cached _ _ c.requires.2 c.«open».ensures (open_keeps _ _ _ _ _ _ _) c.anew.ensures.answer_value.1 c.anew.ensures.made_value) }
+    record { effect = comes c.anew.result _ _ c.anew.ensures.as_stepped.0 c.anew.ensures.as_stepped.1 c.anew.ensures.as_stepped.2 (open_is _ _ _ _ c.in-Open.is ∙ ap (call_step c.args.book.now) (sym c.«open».ensures)); cached = (rw c.anew.ensures.as_stepped.2 (omega arith), refused_cached _ _ c.requires.2 c.«open».ensures (open_keeps _ _ _ _ _ _ _) c.anew.ensures.as_stepped.1 c.anew.ensures.made_if_refused) }
 
 pub returns-in-Join : goal.returns-in-Join
 returns-in-Join c =
-    record { octets_after = comes c.anew-in-Join.result _ _ c.anew-in-Join.ensures.answer_value.0 c.anew-in-Join.ensures.answer_value.1 c.anew-in-Join.ensures.answer_value.2 (join_is _ _ _ _ c.in-Join.is ∙ ap (call_step c.args.book.now) (sym c.join.ensures)); shown_le_record_frame = (rw c.anew-in-Join.ensures.answer_value.2 (omega arith), refused_cached _ _ c.requires.2 c.join.ensures (join_keeps _ _ _ _ _ _) c.anew-in-Join.ensures.answer_value.1 c.anew-in-Join.ensures.made_value) }
+    record { effect = comes c.anew-in-Join.result _ _ c.anew-in-Join.ensures.as_stepped.0 c.anew-in-Join.ensures.as_stepped.1 c.anew-in-Join.ensures.as_stepped.2 (join_is _ _ _ _ c.in-Join.is ∙ ap (call_step c.args.book.now) (sym c.join.ensures)); cached = (rw c.anew-in-Join.ensures.as_stepped.2 (omega arith), refused_cached _ _ c.requires.2 c.join.ensures (join_keeps _ _ _ _ _ _) c.anew-in-Join.ensures.as_stepped.1 c.anew-in-Join.ensures.made_if_refused) }
 
 pub returns-in-Voice : goal.returns-in-Voice
 returns-in-Voice c =
-    record { octets_after = slot_comes c.voice_slot.result _ _ _ (omega (arith, length-take-le record_frame c.args.octets.now (omega (arith, c.requires.0)))) c.voice_slot.ensures.frame_after c.voice_slot.ensures.shown_value (voice_is _ _ _ _ c.in-Voice.is); shown_le_record_frame = (shown-fits c.voice_slot.result.answer c.voice_slot.ensures.shown_value, c.voice_slot.ensures.cached) }
+    record { effect = slot_comes c.voice_slot.result _ _ _ (omega (arith, length-take-le record_frame c.args.octets.now (omega (arith, c.requires.0)))) c.voice_slot.ensures.slot c.voice_slot.ensures.shown (voice_is _ _ _ _ c.in-Voice.is); cached = (shown-fits c.voice_slot.result.answer c.voice_slot.ensures.shown, c.voice_slot.ensures.cached) }
 
 pub returns-in-Announce : goal.returns-in-Announce
 returns-in-Announce c =
-    record { octets_after = comes c.anew-in-Announce.result _ _ c.anew-in-Announce.ensures.answer_value.0 c.anew-in-Announce.ensures.answer_value.1 c.anew-in-Announce.ensures.answer_value.2 (announce_is _ _ _ _ c.in-Announce.is ∙ ap (call_step c.args.book.now) (sym c.announce.ensures)); shown_le_record_frame = (rw c.anew-in-Announce.ensures.answer_value.2 (omega arith), refused_cached _ _ c.requires.2 c.announce.ensures (announce_keeps _ _) c.anew-in-Announce.ensures.answer_value.1 c.anew-in-Announce.ensures.made_value) }
+    record { effect = comes c.anew-in-Announce.result _ _ c.anew-in-Announce.ensures.as_stepped.0 c.anew-in-Announce.ensures.as_stepped.1 c.anew-in-Announce.ensures.as_stepped.2 (announce_is _ _ _ _ c.in-Announce.is ∙ ap (call_step c.args.book.now) (sym c.announce.ensures)); cached = (rw c.anew-in-Announce.ensures.as_stepped.2 (omega arith), refused_cached _ _ c.requires.2 c.announce.ensures (announce_keeps _ _) c.anew-in-Announce.ensures.as_stepped.1 c.anew-in-Announce.ensures.made_if_refused) }
 
 pub returns-in-Lost : goal.returns-in-Lost
 returns-in-Lost c =
-    record { octets_after = comes c.lost_slot.result _ _ refl refl c.lost_slot.ensures.shown_value (lost-is _ _ _ _ c.in-Lost.is ∙ ap (call_step c.args.book.now) (sym c.lost_slot.ensures.call_value)); shown_le_record_frame = (rw c.lost_slot.ensures.shown_value (omega arith), c.lost_slot.ensures.by_index _ c.requires.2) }
+    record { effect = comes c.lost_slot.result _ _ refl refl c.lost_slot.ensures.shown (lost-is _ _ _ _ c.in-Lost.is ∙ ap (call_step c.args.book.now) (sym c.lost_slot.ensures.slot)); cached = (rw c.lost_slot.ensures.shown (omega arith), c.lost_slot.ensures.stays_cached _ c.requires.2) }
 
 pub returns-in-End : goal.returns-in-End
 returns-in-End c =
-    record { octets_after = comes c.anew-in-End.result _ _ c.anew-in-End.ensures.answer_value.0 c.anew-in-End.ensures.answer_value.1 c.anew-in-End.ensures.answer_value.2 (end_is _ _ _ _ c.in-End.is ∙ ap (call_step c.args.book.now) (sym c.ended.ensures)); shown_le_record_frame = (rw c.anew-in-End.ensures.answer_value.2 (omega arith), refused_cached _ _ c.requires.2 c.ended.ensures (λ r. ap (λ (d : Call × Counts). d.0) (end_keeps _ r)) c.anew-in-End.ensures.answer_value.1 c.anew-in-End.ensures.made_value) }
+    record { effect = comes c.anew-in-End.result _ _ c.anew-in-End.ensures.as_stepped.0 c.anew-in-End.ensures.as_stepped.1 c.anew-in-End.ensures.as_stepped.2 (end_is _ _ _ _ c.in-End.is ∙ ap (call_step c.args.book.now) (sym c.ended.ensures)); cached = (rw c.anew-in-End.ensures.as_stepped.2 (omega arith), refused_cached _ _ c.requires.2 c.ended.ensures (λ r. ap (λ (d : Call × Counts). d.0) (end_keeps _ r)) c.anew-in-End.ensures.as_stepped.1 c.anew-in-End.ensures.made_if_refused) }
 
 pub returns-in-Malformed : goal.returns-in-Malformed
 returns-in-Malformed c =
-    record { octets_after = comes c.no_frame-in-Malformed.result _ _ c.no_frame-in-Malformed.ensures.0 c.no_frame-in-Malformed.ensures.1 c.no_frame-in-Malformed.ensures.2 (malformed_is _ _ _ _ c.in-Malformed.is); shown_le_record_frame = (rw c.no_frame-in-Malformed.ensures.2 (omega arith), rw (c.no_frame-in-Malformed.ensures.3, c.no_frame-in-Malformed.ensures.1) c.requires.2) }
+    record { effect = comes c.no_frame-in-Malformed.result _ _ c.no_frame-in-Malformed.ensures.0 c.no_frame-in-Malformed.ensures.1 c.no_frame-in-Malformed.ensures.2 (malformed_is _ _ _ _ c.in-Malformed.is); cached = (rw c.no_frame-in-Malformed.ensures.2 (omega arith), rw (c.no_frame-in-Malformed.ensures.3, c.no_frame-in-Malformed.ensures.1) c.requires.2) }
