@@ -6,8 +6,8 @@ use native.Mathlib.Omega.{arith}
 use lib.Bits.{bit_or, bit_xor, xor_comm, xor_lt, xor_zero_r}
 use lib.ListN.{get_or}
 use Rattle.octets.specs.Lists.{tab}
-use Rattle.octets.proofs.BitLaws.{xor_assoc}
 use Rattle.octets.proofs.ListLaws.{length-tab, get_or-tab}
+use Rattle.octets.proofs.BitLaws.{xor_assoc}
 use Rattle.aes.specs.Field.{xtime, reduce, digit, mul_bits, mul, sbox_of}
 use Rattle.aes.specs.Cipher.{mixed, mix_columns}
 use Rattle.aes.specs.Prepared.{as_word, word_in, octet_of, mixed_alone, IsColumns}
@@ -97,14 +97,14 @@ module _ (a b c d : ℕ) (ha : a < 256) (hb : b < 256) (hc : c < 256) (hd : d < 
     unfolding word_in
     column_sum = summed ∙ word_same sum_row _ (λ r h. sum_row_lem r h ∙ column_law x q a b c d hq ea eb ec ed r h)
 
--- ---- the table, as `aes::columns` makes it
+-- ---- the table, as `Sbox::columns` makes it
 
 abbrev pub column_of : ℕ → ℕ
 column_of x = as_word (mixed_alone (sbox_of x))
 
-pub column_is : (x s d : ℕ) → s ≡ sbox_of x → d ≡ xtime s → d + 256 * s + 65536 * s + 16777216 * bit_xor s d ≡ column_of x
+pub alone_is : (s d : ℕ) → d ≡ xtime s → d + 256 * s + 65536 * s + 16777216 * bit_xor s d ≡ as_word (mixed_alone s)
 unfolding as_word
-column_is x s d es ed = rw (ed, es, alone-0, alone-1, alone-2, alone-3)
+alone_is s d e = rw (e, alone-0, alone-1, alone-2, alone-3)
 
 pub columns_done : (t : List ℕ) → t ≡ tab column_of 256 → IsColumns t
 columns_done t e = rw e (record { size = length-tab column_of 256; rule = get_or-tab column_of 256 })

@@ -10,6 +10,7 @@ use lib.Dec.{eqb}
 use lib.ListN.{length, get_or, set, take, length-append}
 use lib.Seq.{take_all, take-append-le, get_or-set_same, get_or-set_other}
 use borrow.Author.Tests.{ne_eqb}
+use Rattle.std.specs.Int.{w32, from_le_bytes, to_le_bytes}
 use Rattle.octets.specs.Tests.{pick, all_below}
 use Rattle.octets.specs.Bits.{Octets}
 use Rattle.octets.specs.Lists.{tab}
@@ -20,7 +21,7 @@ use Rattle.aes.specs.Field.{xtime, reduce, sbox_of}
 use Rattle.aes.specs.Cipher.{word, xors, rot_word, sub_word, rcon_of, temp, next_word, expanded, key_expansion, aes}
 use Rattle.aes.specs.Prepared.{as_word, octet_of, octets_of, octets_in}
 use Rattle.aes.proofs.FieldLaws.{xtime_lt, sbox_lt}
-use Rattle.aes.proofs.WordLaws.{octet_lt, octet_xor, as_octets, rotated_24, octet-at, four_octets, octets_same, word-octets}
+use Rattle.aes.proofs.WordLaws.{le_word, le_octet, octet_lt, octet_xor, as_octets, rotated_24, octet-at, four_octets, octets_same, word-octets}
 use Rattle.aes.proofs.StateLaws.{octets-first, length-cipher, octets-cipher}
 
 -- ---- words
@@ -34,11 +35,13 @@ rotated-octets t h =
     ∙ four_octets (λ r. octet_of t ((r + 1) % 4)) (λ r. octet_lt t ((r + 1) % 4))
     ∙ tab_same (λ r. octet_of t ((r + 1) % 4)) (λ i. get_or (octets_of t) ((i + 1) % 4) 0) 4 (λ r l. sym (octet-at t ((r + 1) % 4) (omega arith)))
 
-pub substituted-octets : (t a b c d : ℕ) → a ≡ sbox_of (octet_of t 0) → b ≡ sbox_of (octet_of t 1) → c ≡ sbox_of (octet_of t 2) → d ≡ sbox_of (octet_of t 3)
-    → octets_of (a + 256 * b + 65536 * c + 16777216 * d) ≡ sub_word (octets_of t)
+-- a word put together of the S-box's values at another's octets
+pub substituted-octets : (t : ℕ) (x y : List ℕ) → x ≡ to_le_bytes w32 t → ((r : ℕ) → r < 4 → get_or y r 0 ≡ sbox_of (get_or x r 0)) → octets_of (from_le_bytes w32 y) ≡ sub_word (octets_of t)
 unfolding as_word sub_word
-substituted-octets t a b c d ea eb ec ed =
-    rw (ea, eb, ec, ed)
+substituted-octets t x y is e =
+    let each : (r : ℕ) → r < 4 → get_or y r 0 ≡ sbox_of (octet_of t r) = λ r h. e r h ∙ ap (λ (z : List ℕ). sbox_of (get_or z r 0)) is ∙ ap sbox_of (le_octet t r h) in
+    ap octets_of (le_word (get_or y 0 0) (get_or y 1 0) (get_or y 2 0) (get_or y 3 0))
+    ∙ rw (each 0 (omega arith), each 1 (omega arith), each 2 (omega arith), each 3 (omega arith))
     (four_octets (λ r. sbox_of (octet_of t r)) (λ r. sbox_lt (octet_of t r) (octet_lt t r))
     ∙ tab_same (λ r. sbox_of (octet_of t r)) (λ i. sbox_of (get_or (octets_of t) i 0)) 4 (λ r l. ap sbox_of (sym (octet-at t r l))))
 

@@ -1,9 +1,8 @@
 -- Laws of the state: its places, its columns, its size, and that its elements are octets.
-use mathlib.Core.Path.{◌≡◌, refl, sym, ap, ap₂, ◌∙◌}
+use mathlib.Core.Path.{◌≡◌, sym, ap, ap₂, ◌∙◌}
 use mathlib.Core.List.{List, [], ◌∷◌}
-use Prim.Native.Nat.{ℕ, zero, suc, ◌+◌, ◌*◌, ◌/◌, ◌%◌, ◌<◌}
+use Prim.Native.Nat.{ℕ, zero, suc, ◌+◌, ◌-◌, ◌*◌, ◌/◌, ◌%◌, ◌≤◌, ◌<◌}
 use native.Mathlib.Nat.{add-zero, add_comm}
-use native.Mathlib.Numerals.{add-one}
 use native.Mathlib.Omega.{arith}
 use lib.Bits.{bit_xor, xor_lt}
 use lib.ListN.{length, get_or}
@@ -15,7 +14,7 @@ use Rattle.aes.specs.Field.{sbox_of}
 use Rattle.aes.specs.Cipher.{word, cell, sub_bytes, shift_rows, mixed, mix_columns, add_round_key, rounds, cipher}
 use Rattle.aes.specs.Prepared.{octet_of, octets_in}
 use Rattle.aes.proofs.FieldLaws.{mul_lt, sbox_lt}
-use Rattle.aes.proofs.WordLaws.{octet_xor, four_at_lem, octets-at, length-octets_in, octets-octets_in}
+use Rattle.aes.proofs.WordLaws.{octet_xor, octets-at, length-octets_in, octets-octets_in}
 
 -- ---- sizes
 
@@ -88,49 +87,44 @@ pub column_law : (x : List ℕ) (q a b c d : ℕ) → q < 4
 column_law x q a b c d h ea eb ec ed r l =
     ap (λ (t : List ℕ). mixed t r 0) (four x q a b c d ea eb ec ed) ∙ mixed-at x q r l ∙ mixed-place x q r h l
 
--- ---- a state in words, as `aes::cipher` has it
+-- ---- a state in words
 
 -- octet i after ShiftRows
 pub shifted_at : (s : List ℕ) (i : ℕ) → i < 16 → octet_of (get_or s (5 * i % 16 / 4) 0) (5 * i % 16 % 4) ≡ get_or (shift_rows (octets_in 4 s)) i 0
 shifted_at s i h = sym (shift_at (octets_in 4 s) i h ∙ octets-at 4 s (5 * i % 16) (omega arith))
 
 -- the sum of a state and a round key
-module _ (w s : List ℕ) (n : ℕ) (h : n < 15) where
-  abbrev sums : List ℕ
-  sums =
-      bit_xor (get_or s 0 0) (get_or w (4 * n) 0) ∷ bit_xor (get_or s 1 0) (get_or w (4 * n + 1) 0)
-      ∷ bit_xor (get_or s 2 0) (get_or w (4 * n + 2) 0) ∷ bit_xor (get_or s 3 0) (get_or w (4 * n + 3) 0) ∷ []
-
-  sum-at : (q : ℕ) → q < 4 → get_or sums q 0 ≡ bit_xor (get_or s q 0) (get_or w (4 * n + q) 0)
-  sum-at = four_at_lem (λ q. bit_xor (get_or s q 0) (get_or w (4 * n + q) 0)) (rw add-zero) refl refl refl
-
+module _ (w s t : List ℕ) (n : ℕ) (h : n < 15) (sum-at : (q : ℕ) → q < 4 → get_or t q 0 ≡ bit_xor (get_or s q 0) (get_or w (4 * n + q) 0)) where
   key-octet : (i : ℕ) → i < 16 → octet_of (get_or w (4 * n + i / 4) 0) (i % 4) ≡ get_or (octets_in 60 w) (16 * n + i) 0
   key-octet i l =
       let e : 4 * n + i / 4 ≡ (16 * n + i) / 4 = omega arith in
       let f : i % 4 ≡ (16 * n + i) % 4 = omega arith in
       rw (e, f) (sym (octets-at 60 w (16 * n + i) (omega arith)))
 
-  pub key_added : octets_in 4 sums ≡ add_round_key (octets_in 60 w) (octets_in 4 s) n
+  pub key_added : octets_in 4 t ≡ add_round_key (octets_in 60 w) (octets_in 4 s) n
   key_added =
-      ext_get_or 0 (octets_in 4 sums) (add_round_key (octets_in 60 w) (octets_in 4 s) n) (length-octets_in 4 sums ∙ sym (length-add_round_key (octets_in 60 w) (octets_in 4 s) n))
+      ext_get_or 0 (octets_in 4 t) (add_round_key (octets_in 60 w) (octets_in 4 s) n) (length-octets_in 4 t ∙ sym (length-add_round_key (octets_in 60 w) (octets_in 4 s) n))
       (λ i l.
-      let k : i < 16 = omega (arith, length-octets_in 4 sums) in
-      octets-at 4 sums i k
+      let k : i < 16 = omega (arith, length-octets_in 4 t) in
+      octets-at 4 t i k
       ∙ ap (λ (v : ℕ). octet_of v (i % 4)) (sum-at (i / 4) (omega arith))
       ∙ octet_xor (get_or s (i / 4) 0) (get_or w (4 * n + i / 4) 0) (i % 4)
       ∙ ap₂ bit_xor (sym (octets-at 4 s i k)) (key-octet i k)
       ∙ add_round_key-at (octets_in 60 w) (octets_in 4 s) n i k)
 
--- ---- the rounds, as `aes::cipher` makes them
+-- ---- the rounds, as `PreparedKey::encipher` makes them
 
-module _ (w b s : List ℕ) (n : ℕ) (e : s ≡ rounds w b n) where
-  pub rounds_more : (r : List ℕ) → r ≡ add_round_key w (mix_columns (shift_rows (sub_bytes s))) (n + 1) → r ≡ rounds w b (n + 1)
+module _ (w b s : List ℕ) (n : ℕ) (h : 1 ≤ n) (e : s ≡ rounds w b (n - 1)) where
+  pub rounds_more : (r : List ℕ) → r ≡ add_round_key w (mix_columns (shift_rows (sub_bytes s))) n → r ≡ rounds w b (n + 1 - 1)
   unfolding rounds
-  rounds_more r p = rw (p, e, add-one)
+  rounds_more r p =
+      let after : n + 1 - 1 ≡ suc (n - 1) = omega arith in
+      let this : n ≡ suc (n - 1) = omega arith in
+      rw after (p ∙ ap₂ (λ (t : List ℕ) (k : ℕ). add_round_key w (mix_columns (shift_rows (sub_bytes t))) k) e this)
 
-  pub rounds-last : (r : List ℕ) → n ≡ 13 → r ≡ add_round_key w (shift_rows (sub_bytes s)) 14 → r ≡ cipher w b
+  pub rounds-last : (r : List ℕ) → n ≡ 14 → r ≡ add_round_key w (shift_rows (sub_bytes s)) 14 → r ≡ cipher w b
   unfolding cipher
-  rounds-last r h p = rw (p, e, h)
+  rounds-last r q p = rw (p, e, q)
 
 -- ---- octets
 

@@ -1,5 +1,5 @@
 -- Laws of words: the octets of a word and the word of its octets, words rotated by rows and added, and a list of octets as words.
-use mathlib.Core.Path.{◌≡◌, sym, ap, ap₂, ◌∙◌}
+use mathlib.Core.Path.{◌≡◌, refl, sym, ap, ap₂, ◌∙◌}
 use mathlib.Core.List.{List, [], ◌∷◌}
 use Prim.Native.Nat.{ℕ, zero, suc, ◌+◌, ◌*◌, ◌/◌, ◌%◌, ◌^◌, ◌≤◌, ◌<◌}
 use native.Mathlib.Nat.{add-zero}
@@ -7,6 +7,7 @@ use native.Mathlib.Omega.{arith}
 use lib.Bits.{bit_or, bit_xor, or_shifted, xor_block, xor_shr, xor_mod}
 use lib.ListN.{length, get_or, take}
 use lib.Seq.{ext_get_or, get_or-take, length-take-le}
+use Rattle.std.specs.Int.{w32, from_le_bytes, to_le_bytes}
 use Rattle.octets.specs.Bits.{Octets}
 use Rattle.octets.specs.Lists.{tab}
 use Rattle.octets.proofs.Front.{Front}
@@ -15,6 +16,18 @@ use Rattle.aes.specs.Cipher.{word}
 use Rattle.aes.specs.Prepared.{as_word, word_in, octet_of, octets_of, octets_in}
 
 -- ---- a word
+
+-- of the library's methods: a word of four octets, and its octets
+pub le_word : (a b c d : ℕ) → from_le_bytes w32 (a ∷ b ∷ c ∷ d ∷ []) ≡ a + 256 * b + 65536 * c + 16777216 * d
+le_word a b c d = omega arith
+
+pub le_octet : (w r : ℕ) → r < 4 → get_or (to_le_bytes w32 w) r 0 ≡ octet_of w r
+unfolding octet_of
+le_octet w zero h = omega arith
+le_octet w (suc zero) h = refl
+le_octet w (suc (suc zero)) h = refl
+le_octet w (suc (suc (suc zero))) h = refl
+le_octet w (suc (suc (suc (suc r)))) h = absurd (omega arith)
 
 pub octet_lt : (w r : ℕ) → octet_of w r < 256
 unfolding octet_of
@@ -110,6 +123,10 @@ pub length-octets_in : (n : ℕ) (w : List ℕ) → length (octets_in n w) ≡ 4
 unfolding octets_in
 length-octets_in n w = length-tab (λ i. octet_of (get_or w (i / 4) 0) (i % 4)) (4 * n)
 
+-- octets that are those of n words, each of its word
+pub octets-are : (n : ℕ) (w x : List ℕ) → length x ≡ 4 * n → ((i : ℕ) → i < 4 * n → get_or x i 0 ≡ octet_of (get_or w (i / 4) 0) (i % 4)) → x ≡ octets_in n w
+octets-are n w x l e = ext_get_or 0 x (octets_in n w) (l ∙ sym (length-octets_in n w)) (λ i h. e i (omega arith) ∙ sym (octets-at n w i (omega arith)))
+
 pub octets-octets_in : (n : ℕ) (w : List ℕ) → Octets (octets_in n w)
 unfolding octets_in
 octets-octets_in n w = octets-tab (λ i. octet_of (get_or w (i / 4) 0) (i % 4)) (4 * n) (λ i h. octet_lt (get_or w (i / 4) 0) (i % 4))
@@ -146,13 +163,10 @@ pub word-is : (x : List ℕ) (q a b c d : ℕ) → a ≡ get_or x (4 * q) 0 → 
 unfolding word_in as_word
 word-is x q a b c d ea eb ec ed = rw (ea, eb, ec, ed, add-zero)
 
--- four words in a list
-pub four_at_lem : (f : ℕ → ℕ) {a b c d : ℕ} → a ≡ f 0 → b ≡ f 1 → c ≡ f 2 → d ≡ f 3 → (q : ℕ) → q < 4 → get_or (a ∷ b ∷ c ∷ d ∷ []) q 0 ≡ f q
-four_at_lem f ea eb ec ed zero h = ea
-four_at_lem f ea eb ec ed (suc zero) h = eb
-four_at_lem f ea eb ec ed (suc (suc zero)) h = ec
-four_at_lem f ea eb ec ed (suc (suc (suc zero))) h = ed
-four_at_lem f ea eb ec ed (suc (suc (suc (suc q)))) h = absurd (omega arith)
+-- and of any four octets that are its
+pub word-bytes : (x : List ℕ) (q : ℕ) (b : List ℕ) → ((r : ℕ) → r < 4 → get_or b r 0 ≡ get_or x (4 * q + r) 0) → from_le_bytes w32 b ≡ word_in x q
+unfolding word_in as_word
+word-bytes x q b e = le_word (get_or b 0 0) (get_or b 1 0) (get_or b 2 0) (get_or b 3 0) ∙ word_same (λ r. get_or b r 0) (λ r. get_or x (4 * q + r) 0) e
 
 -- the words of x have the octets of x
 module _ (x : List ℕ) (o : Octets x) where
@@ -162,16 +176,12 @@ module _ (x : List ℕ) (o : Octets x) where
       let e : 4 * (i / 4) + i % 4 ≡ i = omega arith in
       octet-word (λ r. get_or x (4 * (i / 4) + r) 0) (λ r. o (4 * (i / 4) + r)) (i % 4) (omega arith) ∙ ap (λ (k : ℕ). get_or x k 0) e
 
-  octets-words : (n : ℕ) (w : List ℕ) → length x ≡ 4 * n → ((q : ℕ) → q < n → get_or w q 0 ≡ word_in x q) → octets_in n w ≡ x
+  pub octets-words : (n : ℕ) (w : List ℕ) → length x ≡ 4 * n → ((q : ℕ) → q < n → get_or w q 0 ≡ word_in x q) → octets_in n w ≡ x
   octets-words n w l e =
       ext_get_or 0 (octets_in n w) x (length-octets_in n w ∙ sym l)
       (λ i h.
       let k : i < 4 * n = omega (arith, length-octets_in n w) in
       octets-at n w i k ∙ ap (λ (v : ℕ). octet_of v (i % 4)) (e (i / 4) (omega arith)) ∙ word-octet i)
-
-  pub four_words : (a b c d : ℕ) → length x ≡ 16 → a ≡ word_in x 0 → b ≡ word_in x 1 → c ≡ word_in x 2 → d ≡ word_in x 3
-      → octets_in 4 (a ∷ b ∷ c ∷ d ∷ []) ≡ x
-  four_words a b c d l ea eb ec ed = octets-words 4 (a ∷ b ∷ c ∷ d ∷ []) l (four_at_lem (word_in x) ea eb ec ed)
 
   -- a list whose first n words are those of x
   pub front_words : (n m : ℕ) (w₀ w : List ℕ) (i : ℕ) → length x ≡ 4 * n → n ≤ i → n ≤ m → Front (tab (word_in x) m) w₀ w i → octets_in n w ≡ x

@@ -1,5 +1,5 @@
--- A key as `prepare` leaves it for the blocks that come. Other crates pass it on and name `Prepared` and `key_of` alone; its form, and the tables that it
--- takes, are cited by this crate's own contracts only.
+-- A key as `PreparedKey` has it for the blocks that come: its schedule, and behind that the columns. Other crates name `key_of` alone; the form, and the tables
+-- that it takes, are cited by this crate's own contracts only.
 use Rattle.std.specs.Prelude.{◌≡◌, List, [], ◌∷◌, ℕ, ◌<◌, ◌+◌, ◌*◌, ◌/◌, ◌%◌, ◌^◌, length, get_or, drop}
 use Rattle.octets.specs.Lists.{tab}
 use Rattle.aes.specs.Field.{sbox_of}

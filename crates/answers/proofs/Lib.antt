@@ -2,3 +2,4 @@ pub mod NumberLaws
 pub mod OutcomeLaws
 pub mod OrderLaws
 pub mod TableLaws
+pub mod ResultLaws

@@ -3,8 +3,9 @@
 
 ghost use Rattle.std.specs.Prelude.{◌≡◌};
 ghost use Rattle.answers.specs.Numbers.{number_of};
+ghost use Rattle.answers.specs.Outcomes.{answer_in};
 
-#[derive(Clone, Copy)]
+#[derive(Clone, Copy, Debug, PartialEq, Eq)]
 pub enum Answer {
     Done,
     Held,
@@ -48,6 +49,18 @@ impl Answer {
             Answer::Malformed => 15,
             Answer::PastLimit => 16,
             Answer::BadName => 17,
+        }
+    }
+}
+
+// The answer that a Result stands for: done, or the refusal.
+impl From<Result<(), Answer>> for Answer {
+    ghost from_gives = { λ outcome answer. answer ≡ answer_in outcome };
+
+    fn from(outcome: Result<(), Answer>) -> Answer {
+        match outcome {
+            Ok(()) => Answer::Done,
+            Err(refusal) => refusal,
         }
     }
 }

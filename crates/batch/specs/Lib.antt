@@ -1,1 +1,3 @@
+pub mod Kind
 pub mod Batch
+pub mod Told

@@ -2,27 +2,46 @@
 #![tactic(auto)]
 
 ghost use Rattle.std.specs.Prelude.{◌≡◌, true, List, ℕ, ◌*◌, length};
+ghost use Rattle.std.specs.Option.{IfNone, IfSome};
 ghost use Rattle.hearing.specs.Hearing.{call_of};
-ghost use Rattle.hearing.specs.Heard.{handed_on};
+ghost use Rattle.hearing.specs.Heard.{handed};
 ghost use Rattle.sessions.specs.Session.{Cached};
+ghost use Rattle.batch.specs.Kind.{kind_number, IsNoKind};
+ghost use Rattle.batch.specs.Told.{recorded_of, hearing_after};
 ghost use Rattle.batch.specs.Batch.{step_octets, slot_in, Lost, Announce, Heard, taken, recorded, batch_of};
 
 use answers::Answer;
-use calls::call::Stepped;
+use calls::call::Call;
 use calls::vector::announce;
 use hearing::{Hearing, ONE, call_of, carry, heard};
-use sessions::{MOST_SESSION_OCTETS, Slot, anew, lost_slot, voice_slot};
+use sessions::{MOST_SESSION_OCTETS, Session};
 use sizes::cipher::VECTOR_OCTETS;
 use sizes::frame::{frame_octets, width};
 
 // What a step is.
-const VOICE: u8 = 1;
+#[derive(Clone, Copy, PartialEq, Eq)]
+enum Kind {
+    Voice,
+    Lost,
+    Announce,
+    Heard,
+}
 
-const LOST: u8 = 2;
-
-const ANNOUNCE: u8 = 3;
-
-const HEARD: u8 = 4;
+impl Kind {
+    // By its octet, or none where the octet says none of these.
+    fn of(octet: u8) -> Option<Kind>
+        ensures numbered { IfSome result (λ kind. octet ≡ kind_number kind) }
+        ensures other { IfNone result (IsNoKind octet) }
+    {
+        match octet {
+            1 => Some(Kind::Voice),
+            2 => Some(Kind::Lost),
+            3 => Some(Kind::Announce),
+            4 => Some(Kind::Heard),
+            _ => None,
+        }
+    }
+}
 
 // Where its parts are: what it is, the mask, and the frame or the vector.
 const KIND: usize = 0;
@@ -34,122 +53,105 @@ const LENT: usize = 2;
 // Enough for a frame at full rate.
 pub const STEP_OCTETS: usize = 38;
 
-// What a step answers, what it leaves, and whether the lent octets hold the session of the call that it leaves.
+// What a step leaves that nothing refuses. A slot may have been held.
 #[derive(Clone, Copy)]
-pub struct Recorded {
-    pub answer: Answer,
-    pub hearing: Hearing,
-    pub made: bool,
+struct Recorded {
+    held: bool,
+    hearing: Hearing,
 }
 
 // ---- the kinds of steps
 
 // What is kept, after an operation on the call. A vector that was kept and is handed on begins the call's session, so what was made before is void.
-fn kept_on(before: Hearing, slot: Slot) -> Recorded
-    ensures handed { (result.answer ≡ slot.answer) × (result.hearing ≡ handed_on before slot.answer slot.call) }
-    ensures made_before { result.made ≡ true → (slot.made ≡ true) × (result.hearing.kept ≡ before.kept) }
+fn kept_on(before: Hearing, call: Call, session: &mut Session<'_>) -> Hearing
+    ensures handed { result ≡ handed before.kept before.next call }
+    ensures as_they_were { session.new.octets.now ≡ session.old.octets.now }
+    ensures made_before { session.new.made ≡ true → (session.old.made ≡ true) × (result.kept ≡ before.kept) }
 {
-    let answer = slot.answer;
-    let call = slot.call;
-    let carried = carry(before, Stepped { answer, call });
-    let answer = carried.answer;
-    let hearing = carried.hearing;
-    if hearing.kept != before.kept {
-        return Recorded {
-            answer,
-            hearing,
-            made: false,
-        };
+    let after = carry(before, call);
+    if after.kept != before.kept {
+        session.made = false;
     }
-    Recorded {
-        answer,
-        hearing,
-        made: slot.made,
-    }
+    after
 }
 
-fn voice_step(before: Hearing, step: &mut [u8], session: &mut [u8], made: bool) -> Recorded
-    requires { (length step.old ≡ step_octets) × Cached made (call_of before) session.old }
-    ensures taken { (result.answer, (result.hearing, step.new)) ≡ taken (slot_in before.call.terms.rate step.old) before step.old }
-    ensures cached { Cached result.made (call_of result.hearing) session.new }
+fn voice_step(
+    before: Hearing,
+    step: &mut [u8],
+    session: &mut Session<'_>,
+) -> Result<Recorded, Answer>
+    requires { (length step.old ≡ step_octets) × Cached session.old.made (call_of before) session.old.octets.now }
+    ensures taken { (result, step.new) ≡ recorded_of (taken (slot_in before.call.terms.rate step.old) before step.old) }
+    ensures cached { Cached session.new.made (call_of (hearing_after before result)) session.new.octets.now }
 {
-    let call = call_of(before);
     let mask = step[MASK];
     let octets = frame_octets(width(before.call.terms.rate));
-    let slot = voice_slot(call, mask, &mut step[LENT..LENT + octets], session, made);
-    kept_on(before, slot)
+    let slot = session.voice_slot(call_of(before), mask, &mut step[LENT..LENT + octets])?;
+    Ok(Recorded {
+        held: slot.held,
+        hearing: kept_on(before, slot.call, session),
+    })
 }
 
-fn lost_step(before: Hearing, made: bool) -> Recorded
-    ensures taken { (step : List ℕ) → (result.answer, (result.hearing, step)) ≡ taken Lost before step }
-    ensures stays_cached { (session : List ℕ) → Cached made (call_of before) session → Cached result.made (call_of result.hearing) session }
+fn lost_step(before: Hearing, session: &mut Session<'_>) -> Result<Recorded, Answer>
+    ensures taken { (step : List ℕ) → (result, step) ≡ recorded_of (taken Lost before step) }
+    ensures stays_cached { Cached session.old.made (call_of before) session.old.octets.now → Cached session.new.made (call_of (hearing_after before result)) session.new.octets.now }
 {
-    let slot = lost_slot(call_of(before), made);
-    kept_on(before, slot)
+    let call = session.lost_slot(call_of(before))?;
+    Ok(Recorded {
+        held: false,
+        hearing: kept_on(before, call, session),
+    })
 }
 
 // A vector that is announced begins the call's session, so what was made before is void: a carried vector, if one was known, has given way.
-fn announce_step(before: Hearing, vector: &[u8], made: bool) -> Recorded
-    ensures taken { (step : List ℕ) → (result.answer, (result.hearing, step)) ≡ taken (Announce vector.now) before step }
-    ensures stays_cached { (session : List ℕ) → Cached made (call_of before) session → Cached result.made (call_of result.hearing) session }
+fn announce_step(
+    before: Hearing,
+    vector: &[u8],
+    session: &mut Session<'_>,
+) -> Result<Recorded, Answer>
+    ensures taken { (step : List ℕ) → (result, step) ≡ recorded_of (taken (Announce vector.now) before step) }
+    ensures stays_cached { Cached session.old.made (call_of before) session.old.octets.now → Cached session.new.made (call_of (hearing_after before result)) session.new.octets.now }
 {
-    let told = announce(call_of(before), vector);
-    kept_on(before, anew(told, made))
+    let call = session.anew(announce(call_of(before), vector))?;
+    Ok(Recorded {
+        held: false,
+        hearing: kept_on(before, call, session),
+    })
 }
 
 // One that is heard and kept is the next session's, and the call stays in its own; one that is announced at once begins it.
-fn heard_step(before: Hearing, vector: &[u8], made: bool) -> Recorded
-    ensures taken { (step : List ℕ) → (result.answer, (result.hearing, step)) ≡ taken (Heard vector.now) before step }
-    ensures stays_cached { (session : List ℕ) → Cached made (call_of before) session → Cached result.made (call_of result.hearing) session }
+fn heard_step(before: Hearing, vector: &[u8], session: &mut Session<'_>) -> Result<Recorded, Answer>
+    ensures taken { (step : List ℕ) → (result, step) ≡ recorded_of (taken (Heard vector.now) before step) }
+    ensures stays_cached { Cached session.old.made (call_of before) session.old.octets.now → Cached session.new.made (call_of (hearing_after before result)) session.new.octets.now }
 {
-    let carried = heard(before, vector);
-    let answer = carried.answer;
-    let hearing = carried.hearing;
-    if answer.number() > 1 {
-        return Recorded {
-            answer,
-            hearing,
-            made,
-        };
+    let hearing = heard(before, vector)?;
+    if hearing.kept != ONE {
+        session.made = false;
     }
-    if hearing.kept == ONE {
-        return Recorded {
-            answer,
-            hearing,
-            made,
-        };
-    }
-    Recorded {
-        answer,
+    Ok(Recorded {
+        held: false,
         hearing,
-        made: false,
-    }
+    })
 }
 
 // ---- a step, and all of them
 
-fn record_step(before: Hearing, step: &mut [u8], session: &mut [u8], made: bool) -> Recorded
-    requires { (length step.old ≡ step_octets) × Cached made (call_of before) session.old }
-    ensures recorded { (result.answer, (result.hearing, step.new)) ≡ recorded before step.old }
-    ensures cached { Cached result.made (call_of result.hearing) session.new }
+fn record_step(
+    before: Hearing,
+    step: &mut [u8],
+    session: &mut Session<'_>,
+) -> Result<Recorded, Answer>
+    requires { (length step.old ≡ step_octets) × Cached session.old.made (call_of before) session.old.octets.now }
+    ensures recorded { (result, step.new) ≡ recorded_of (recorded before step.old) }
+    ensures cached { Cached session.new.made (call_of (hearing_after before result)) session.new.octets.now }
 {
-    let kind = step[KIND];
-    if kind == VOICE {
-        return voice_step(before, step, session, made);
-    }
-    if kind == LOST {
-        return lost_step(before, made);
-    }
-    if kind == ANNOUNCE {
-        return announce_step(before, &step[LENT..LENT + VECTOR_OCTETS], made);
-    }
-    if kind == HEARD {
-        return heard_step(before, &step[LENT..LENT + VECTOR_OCTETS], made);
-    }
-    Recorded {
-        answer: Answer::OutOfRange,
-        hearing: before,
-        made,
+    match Kind::of(step[KIND]) {
+        Some(Kind::Voice) => voice_step(before, step, session),
+        Some(Kind::Lost) => lost_step(before, session),
+        Some(Kind::Announce) => announce_step(before, &step[LENT..LENT + VECTOR_OCTETS], session),
+        Some(Kind::Heard) => heard_step(before, &step[LENT..LENT + VECTOR_OCTETS], session),
+        None => Err(Answer::OutOfRange),
     }
 }
 
@@ -158,22 +160,21 @@ pub fn batch(mut hearing: Hearing, steps: &mut [u8], answers: &mut [u8]) -> Hear
     requires { length steps.old ≡ step_octets * length answers.old }
     ensures { (answers.new, (result, steps.new)) ≡ batch_of (length answers.old) hearing steps.old }
 {
-    let mut session = [0; MOST_SESSION_OCTETS];
-    let mut made = false;
-    let mut i = 0;
-    while i < answers.len() {
+    let mut octets = [0; MOST_SESSION_OCTETS];
+    let mut session = Session {
+        octets: &mut octets,
+        made: false,
+    };
+    for (i, answer) in answers.iter_mut().enumerate() {
         let from = STEP_OCTETS * i;
-        let done = record_step(
-            hearing,
-            &mut steps[from..from + STEP_OCTETS],
-            &mut session,
-            made,
-        );
-        let answer = done.answer;
-        answers[i] = answer.number();
-        hearing = done.hearing;
-        made = done.made;
-        i += 1;
+        let step = &mut steps[from..from + STEP_OCTETS];
+        match record_step(hearing, step, &mut session) {
+            Ok(recorded) => {
+                *answer = u8::from(recorded.held);
+                hearing = recorded.hearing;
+            }
+            Err(refusal) => *answer = refusal.number(),
+        }
     }
     hearing
 }

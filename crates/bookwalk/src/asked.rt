@@ -9,6 +9,14 @@ use std::io;
 // Room for a book and one octet more.
 const ROOM: usize = BOOK_OCTETS + 1;
 
+const FREE: Shown = Shown {
+    cipher: 0,
+    id: 0,
+    loaded: 0,
+    ready: false,
+    name: [0; NAME_OCTETS],
+};
+
 // ---- what is written
 
 fn text(rt: &impl Print, t: &str) -> io::Result<()> {
@@ -24,10 +32,8 @@ fn octet(rt: &impl Print, x: u8) -> io::Result<()> {
 }
 
 fn octets(rt: &impl Print, xs: &[u8]) -> io::Result<()> {
-    let mut i = 0;
-    while i < xs.len() {
-        octet(rt, xs[i])?;
-        i += 1;
+    for x in xs {
+        octet(rt, *x)?;
     }
     Ok(())
 }
@@ -35,9 +41,9 @@ fn octets(rt: &impl Print, xs: &[u8]) -> io::Result<()> {
 fn subject(rt: &impl Print, what: &str, cipher: u8, id: u8) -> io::Result<()> {
     text(rt, what)?;
     text(rt, " ")?;
-    number(rt, cipher as u64)?;
+    number(rt, u64::from(cipher))?;
     text(rt, " ")?;
-    number(rt, id as u64)
+    number(rt, u64::from(id))
 }
 
 // What is walked.
@@ -70,42 +76,20 @@ pub fn spoil(rt: &impl Print, book: &mut [u8], place: usize, value: u8) -> io::R
 
 // ---- whether a refusal changed the book
 
-fn octet_or_zero(book: &[u8], i: usize) -> u8 {
-    if i < book.len() {
-        return book[i];
-    }
-    0
-}
-
+// A book's octets, and zeros after them.
 fn copied(book: &[u8]) -> [u8; ROOM] {
     let mut before = [0u8; ROOM];
-    let mut i = 0;
-    while i < ROOM {
-        before[i] = octet_or_zero(book, i);
-        i += 1;
+    for (to, from) in before.iter_mut().zip(book) {
+        *to = *from;
     }
     before
 }
 
-fn is_as(book: &[u8], before: [u8; ROOM]) -> bool {
-    let mut i = 0;
-    while i < ROOM {
-        if octet_or_zero(book, i) != before[i] {
-            return false;
-        }
-        i += 1;
-    }
-    true
-}
-
 fn answered(rt: &impl Print, answer: Answer, book: &[u8], before: [u8; ROOM]) -> io::Result<()> {
-    let n = answer.number();
     text(rt, ": ")?;
-    number(rt, n as u64)?;
-    if n != 0 {
-        if !is_as(book, before) {
-            text(rt, " changed")?;
-        }
+    number(rt, u64::from(answer.number()))?;
+    if answer != Answer::Done && copied(book) != before {
+        text(rt, " changed")?;
     }
     text(rt, "\n")
 }
@@ -122,7 +106,7 @@ pub fn seen(rt: &impl Print, book: &mut [u8]) -> io::Result<()> {
 
 fn begun(rt: &impl Print, book: &mut [u8], cipher: u8, id: u8, name: &[u8]) -> io::Result<()> {
     let before = copied(book);
-    let a = keybook::begin(book, cipher, id, name);
+    let a = Answer::from(keybook::begin(book, cipher, id, name));
     answered(rt, a, book, before)
 }
 
@@ -152,51 +136,49 @@ pub fn add(rt: &impl Print, book: &mut [u8], cipher: u8, id: u8, xs: &[u8]) -> i
     text(rt, " ")?;
     octets(rt, xs)?;
     let before = copied(book);
-    let a = keybook::add(book, cipher, id, xs);
+    let a = Answer::from(keybook::add(book, cipher, id, xs));
     answered(rt, a, book, before)
 }
 
 pub fn finish(rt: &impl Print, book: &mut [u8], cipher: u8, id: u8) -> io::Result<()> {
     subject(rt, "finish", cipher, id)?;
     let before = copied(book);
-    let a = keybook::finish(book, cipher, id);
+    let a = Answer::from(keybook::finish(book, cipher, id));
     answered(rt, a, book, before)
 }
 
 pub fn erase(rt: &impl Print, book: &mut [u8], cipher: u8, id: u8) -> io::Result<()> {
     subject(rt, "erase", cipher, id)?;
     let before = copied(book);
-    let a = keybook::erase(book, cipher, id);
+    let a = Answer::from(keybook::erase(book, cipher, id));
     answered(rt, a, book, before)
 }
 
-// An answer, and octets that are handed out.
-fn handed(rt: &impl Print, answer: Answer, xs: &[u8]) -> io::Result<()> {
+// An answer, and octets that are handed out: with a refusal zeros.
+fn handed<const N: usize>(rt: &impl Print, outcome: Result<[u8; N], Answer>) -> io::Result<()> {
+    let (answer, xs) = match outcome {
+        Ok(xs) => (Answer::Done, xs),
+        Err(refusal) => (refusal, [0; N]),
+    };
     text(rt, ": ")?;
-    number(rt, answer.number() as u64)?;
+    number(rt, u64::from(answer.number()))?;
     text(rt, " ")?;
-    octets(rt, xs)?;
+    octets(rt, &xs)?;
     text(rt, "\n")
 }
 
 pub fn ready(rt: &impl Print, book: &[u8], cipher: u8, id: u8) -> io::Result<()> {
     subject(rt, "ready", cipher, id)?;
-    let r = keybook::ready_key(book, cipher, id);
-    let a = r.answer;
-    let key = r.key;
-    handed(rt, a, &key)
+    handed(rt, keybook::ready_key(book, cipher, id))
 }
 
 pub fn name(rt: &impl Print, book: &[u8], cipher: u8, id: u8) -> io::Result<()> {
     subject(rt, "name", cipher, id)?;
-    let r = keybook::screen::name(book, cipher, id);
-    let a = r.answer;
-    let name = r.name;
-    handed(rt, a, &name)
+    handed(rt, keybook::screen::name(book, cipher, id))
 }
 
 fn field(rt: &impl Print, n: u8) -> io::Result<()> {
-    number(rt, n as u64)?;
+    number(rt, u64::from(n))?;
     text(rt, " ")
 }
 
@@ -205,23 +187,20 @@ fn shown(rt: &impl Print, e: Shown) -> io::Result<()> {
     field(rt, e.cipher)?;
     field(rt, e.id)?;
     field(rt, e.loaded)?;
-    if e.ready {
-        field(rt, 1)?;
-    } else {
-        field(rt, 0)?;
-    }
-    let name = e.name;
-    octets(rt, &name)
+    field(rt, u8::from(e.ready))?;
+    octets(rt, &e.name)
 }
 
+// With a refusal what a free entry shows.
 pub fn inventory(rt: &impl Print, book: &[u8], k: usize) -> io::Result<()> {
     text(rt, "inventory ")?;
     number(rt, k as u64)?;
-    let r = keybook::screen::inventory(book, k);
-    let a = r.answer;
-    let e = r.entry;
+    let (answer, e) = match keybook::screen::inventory(book, k) {
+        Ok(e) => (Answer::Done, e),
+        Err(refusal) => (refusal, FREE),
+    };
     text(rt, ": ")?;
-    field(rt, a.number())?;
+    field(rt, answer.number())?;
     shown(rt, e)?;
     text(rt, "\n")
 }

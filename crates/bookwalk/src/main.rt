@@ -70,10 +70,8 @@ fn no_entry(rt: &impl Print, book: &mut [u8]) -> io::Result<()> {
 
 // Begins entries for each key ID below n.
 fn fill(rt: &impl Print, book: &mut [u8], n: u8) -> io::Result<()> {
-    let mut id = 0;
-    while id < n {
+    for id in 0..n {
         begin(rt, book, 1, id)?;
-        id += 1;
     }
     Ok(())
 }

@@ -5,6 +5,8 @@ use Prim.Native.Nat.{ℕ, ◌+◌, ◌/◌, ◌%◌, ◌≤◌, ◌<◌}
 use native.Mathlib.Omega.{arith}
 use lib.Dec.{eqb}
 use borrow.Author.Tests.{eq-eqb, eqb-true, le-leb, leb-true}
+use lib.Count.{ones, ones_step}
+use Rattle.std.proofs.lemmas.Nat.{ones_le_self}
 use Rattle.octets.specs.Tests.{pick, every}
 use Rattle.octets.proofs.TestLaws.{every-at}
 use Rattle.sizes.specs.Ciphers.{superframe_slots}
@@ -44,15 +46,16 @@ bit_word x l = go (eqb x 1) refl
         not-one : eqb x 1 ≡ false → (x ≡ 1 → ⊥)
         not-one f q = false≢true (sym f ∙ eq-eqb x 1 q)
 
--- as the code adds them up
-pub mask_words : (mask : ℕ) → mask % 2 + mask / 2 % 2 + mask / 4 % 2 + mask / 8 % 2 ≡ words_in mask
+-- as the code counts them: the ones of a number of four bits
+pub mask_words : (mask : ℕ) → ones (mask % 16) ≡ words_in mask
 mask_words mask =
+    let m = mask % 16 in
     rw (
       ← bit_word (mask / 1 % 2) (omega arith),
       ← bit_word (mask / 2 % 2) (omega arith),
       ← bit_word (mask / 4 % 2) (omega arith),
       ← bit_word (mask / 8 % 2) (omega arith),
-    ) (omega arith)
+    ) (omega (arith, ones_step m, ones_step (m / 2), ones_step (m / 2 / 2), ones_step (m / 2 / 2 / 2), ones_le_self (m / 2 / 2 / 2 / 2)))
 
 -- the sort of words that a slot may add: four, lost whole or not at all; none held where the vector is known, and none opened where it isn't
 pub record Fits (known : Bool) (w : Counts) : Type 0 where

@@ -80,27 +80,32 @@ read_written n (receiving t p k) b g = is_receiver (written n (receiving t p k))
 
 -- ---- read, then written
 
+-- closed is one struct, all zero
+pub none_closed : is_closed no_call ≡ true
+unfolding is_closed closed_tests all_zero all_below
+none_closed = refl
+
+pub closed_is : (c : Call) → length c.terms.key ≡ key_room → length c.vector ≡ vector_octets → is_closed c ≡ true → c ≡ no_call
+unfolding is_closed closed_tests
+closed_is c lk lv e =
+    let r : Call = call_at c.end (terms_of c.terms.cipher c.terms.key c.terms.rate c.terms.strictness) c.position c.known c.vector c.counts in
+    rw (
+      eqb-true c.end 0 (every-at (closed_tests c) 0 e),
+      eqb-true c.terms.cipher 0 (every-at (closed_tests c) 1 e),
+      eqb-true c.terms.rate 0 (every-at (closed_tests c) 2 e),
+      eqb-true c.terms.strictness 0 (every-at (closed_tests c) 3 e),
+      eqb-true c.position 0 (every-at (closed_tests c) 4 e),
+      eqb-true c.known 0 (every-at (closed_tests c) 5 e),
+      zeros_are c.terms.key key_room lk (every-at (closed_tests c) 6 e),
+      zeros_are c.vector vector_octets lv (every-at (closed_tests c) 7 e),
+      none-counted c.counts (eqb-true _ _ (every-at (closed_tests c) 8 e)),
+    ) refl
+
 -- a good call of the struct's lengths is the one struct of what it stands for
 module _ (c : Call) (lk : length c.terms.key ≡ key_room) (lv : length c.vector ≡ vector_octets) (good : good_call c ≡ true) where
-  closed_is : is_closed c ≡ true → c ≡ no_call
-  unfolding is_closed closed_tests
-  closed_is e =
-      let r : Call = call_at c.end (terms_of c.terms.cipher c.terms.key c.terms.rate c.terms.strictness) c.position c.known c.vector c.counts in
-      rw (
-        eqb-true c.end 0 (every-at (closed_tests c) 0 e),
-        eqb-true c.terms.cipher 0 (every-at (closed_tests c) 1 e),
-        eqb-true c.terms.rate 0 (every-at (closed_tests c) 2 e),
-        eqb-true c.terms.strictness 0 (every-at (closed_tests c) 3 e),
-        eqb-true c.position 0 (every-at (closed_tests c) 4 e),
-        eqb-true c.known 0 (every-at (closed_tests c) 5 e),
-        zeros_are c.terms.key key_room lk (every-at (closed_tests c) 6 e),
-        zeros_are c.vector vector_octets lv (every-at (closed_tests c) 7 e),
-        none-counted c.counts (eqb-true _ _ (every-at (closed_tests c) 8 e)),
-      ) refl
-
   pub written_read : c ≡ written c.counts (standing c)
   written_read =
-      by_stands c good (λ o e s. closed_is o ∙ ap (written c.counts) (sym s)) (λ o e s. sym (known_written c (ap knows s)))
+      by_stands c good (λ o e s. closed_is c lk lv o ∙ ap (written c.counts) (sym s)) (λ o e s. sym (known_written c (ap knows s)))
       (λ o e s.
       ap (λ (n : ℕ). call_at n c.terms c.position c.known c.vector c.counts) e
       ∙ receiver_is c.terms c.position c.known c.vector c.counts lv (rw e at (open_vector c o))

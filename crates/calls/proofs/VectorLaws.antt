@@ -1,22 +1,34 @@
 -- Which calls wait for a vector or have a next one, as the code tests it.
 use mathlib.Core.Path.{◌≡◌, refl, sym, ap, ◌∙◌}
-use mathlib.Core.Bool.{true, false, true≢false}
+use mathlib.Core.Bool.{Bool, true, false, ◌&&◌, not, true≢false}
 use mathlib.Core.List.{List}
 use Prim.Native.Nat.{ℕ}
+use lib.Dec.{eqb}
+use borrow.Author.Tests.{eqb-true, eqb-false}
+use Rattle.sizes.specs.Ciphers.{scrambles}
 use Rattle.generator.specs.Generator.{next_vector}
 use Rattle.answers.specs.declared.Answer.TheVariants.{Done}
 use Rattle.answers.proofs.OutcomeLaws.{NoneHolds, none_settles, Refuses, answer_at, refused_at}
 use Rattle.calls.specs.declared.call.Call.{Call}
-use Rattle.calls.specs.Call.{sending_end, receiving_end, good_call, told, Standing, receiving, standing, written}
+use Rattle.calls.specs.Call.{sending_end, receiving_end, told_vector, good_call, told, Standing, receiving, standing, written}
 use Rattle.calls.specs.Vector.{awaits, with_vector, announce_refusals, announce_of, generates, following, next_refusals, next_vector_of}
-use Rattle.calls.proofs.CallLaws.{by_stands, unless_receiver, unless_sender}
+use Rattle.calls.proofs.CallLaws.{by_stands, unless_receiver, unless_sender, is_receiver, is-sender, is_told_lem}
 
 module _ (c : Call) (good : good_call c ≡ true) where
-  pub awaits-not : (c.end ≡ receiving_end → ⊥) → awaits (standing c) ≡ false
-  awaits-not = unless_receiver c good awaits refl (λ t p v. refl)
+  pub awaits_by : awaits (standing c) ≡ (eqb c.end receiving_end && (not (scrambles c.terms.cipher) && (eqb c.position 0 && not (eqb c.known told_vector))))
+  awaits_by = go (eqb c.end receiving_end) refl
+    where
+      go : (t : Bool) → eqb c.end receiving_end ≡ t
+          → awaits (standing c) ≡ (t && (not (scrambles c.terms.cipher) && (eqb c.position 0 && not (eqb c.known told_vector))))
+      go true e = rw (is_receiver c good (eqb-true _ _ e), is_told_lem c.known c.vector)
+      go false e = unless_receiver c good awaits refl (λ t p v. refl) (eqb-false _ _ e)
 
-  pub generates-not : (c.end ≡ sending_end → ⊥) → generates (standing c) ≡ false
-  generates-not = unless_sender c good generates refl (λ t p k. refl)
+  pub generates_by : generates (standing c) ≡ (eqb c.end sending_end && not (scrambles c.terms.cipher))
+  generates_by = go (eqb c.end sending_end) refl
+    where
+      go : (t : Bool) → eqb c.end sending_end ≡ t → generates (standing c) ≡ (t && not (scrambles c.terms.cipher))
+      go true e = rw (is-sender c good (eqb-true _ _ e))
+      go false e = unless_sender c good generates refl (λ t p k. refl) (eqb-false _ _ e)
 
   -- the struct of a receiver that has been told w
   pub told_is : awaits (standing c) ≡ true → (w : List ℕ)

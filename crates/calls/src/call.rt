@@ -1,15 +1,19 @@
 // A call by value, the rules that a good one keeps, and its end.
 ghost use Rattle.std.specs.Prelude.{◌≡◌, ◌&&◌, eqb};
+ghost use Rattle.answers.specs.Outcomes.{result_of};
 ghost use Rattle.calls.specs.Call.{receiving_end, unknown_vector, by_default, terms_right, vector_right, counts_right, is_closed, is_open, good_call, known_number, untold, sending_end, told_vector, call_at, no_call, end_of};
 ghost use Rattle.calls.specs.Counts.{no_counts};
 
-use crate::counts::{Counts, no_counts, receiver_counts_right, total};
+use crate::counts::{Counts, receiver_counts_right, total};
 use answers::Answer;
 use ciphers::key::key_right;
-use octets::{all_zero, wide};
+use octets::all_zero;
 use sizes::cipher::{KEY_ROOM, Scramble, VECTOR_OCTETS, session_slots};
 use sizes::frame::is_rate;
 
+// Kept: an end, what is known of a vector, a strictness, a cipher and a rate are numbers, here and in the structs below, and no enums or Options: octets
+// that a host held can have any number there, and `held::call::read` and `write` owe each its own struct, by held's `hearing_in` and `octets_of`. What no good
+// call has is a bad one by `good_call`, of which theorems speak.
 pub const CLOSED: u8 = 0;
 
 pub const SENDING: u8 = 1;
@@ -29,7 +33,7 @@ pub const DEFAULT: u8 = 0;
 pub const STRICT: u8 = 1;
 
 // What an opening fixes. A sender's strictness is 0.
-#[derive(Clone, Copy)]
+#[derive(Clone, Copy, PartialEq, Eq)]
 pub struct Terms {
     pub cipher: u8,
     pub key: [u8; KEY_ROOM],
@@ -38,7 +42,7 @@ pub struct Terms {
 }
 
 // Closed is all zero. A scramble vector is told and zeros, an unknown vector is zeros, and a strict receiver carries none. Only a receiver counts words.
-#[derive(Clone, Copy)]
+#[derive(Clone, Copy, PartialEq, Eq)]
 pub struct Call {
     pub end: u8,
     pub terms: Terms,
@@ -48,69 +52,40 @@ pub struct Call {
     pub counts: Counts,
 }
 
-// What an operation answers, and the call after it.
-#[derive(Clone, Copy)]
-pub struct Stepped {
-    pub answer: Answer,
-    pub call: Call,
-}
-
-// What end answers, the call after it, and what it has counted.
-#[derive(Clone, Copy)]
-pub struct Ended {
-    pub answer: Answer,
-    pub call: Call,
-    pub counts: Counts,
-}
-
 // ---- the rules
 
+#[tactic(auto, unfolding(crate::specs::Call::terms_right))]
 pub(crate) fn terms_right(end: u8, rate: u8, strictness: u8) -> bool
     ensures { result ≡ terms_right end rate strictness }
 {
-    if !is_rate(rate) {
-        return false;
-    }
-    if strictness == DEFAULT {
-        return true;
-    }
-    strictness == STRICT && end == RECEIVING
+    is_rate(rate) && (strictness == DEFAULT || strictness == STRICT && end == RECEIVING)
 }
 
+#[tactic(auto, unfolding(crate::specs::Call::vector_right))]
 fn vector_right(end: u8, cipher: u8, strictness: u8, known: u8, zeros: bool) -> bool
     ensures { result ≡ vector_right end cipher strictness known zeros }
 {
     if cipher == Scramble::TYPE {
-        if known == TOLD {
-            return zeros;
-        }
-        return false;
+        return known == TOLD && zeros;
     }
     if end == SENDING {
-        if known == TOLD {
-            return !zeros;
-        }
-        return false;
+        return known == TOLD && !zeros;
     }
-    if known == UNKNOWN {
-        return zeros;
+    match known {
+        UNKNOWN => zeros,
+        CARRIED => strictness == DEFAULT,
+        _ => known == TOLD,
     }
-    if known == CARRIED {
-        return strictness == DEFAULT;
-    }
-    known == TOLD
 }
 
 // Whether a receiver has known no vector so far.
 fn never_known(strictness: u8, known: u8) -> bool
     ensures { result ≡ (eqb strictness by_default && eqb known unknown_vector) }
 {
-    if strictness != DEFAULT {
-        return false;
-    }
-    known == UNKNOWN
+    strictness == DEFAULT && known == UNKNOWN
 }
 
+#[tactic(auto, unfolding(crate::specs::Call::counts_right))]
 fn counts_right(
     end: u8,
     cipher: u8,
@@ -135,83 +110,42 @@ fn counts_right(
 fn is_closed(call: Call) -> bool
     ensures { result ≡ is_closed call }
 {
-    if call.end != CLOSED {
-        return false;
-    }
-    if call.terms.cipher != 0 {
-        return false;
-    }
-    if call.terms.rate != 0 {
-        return false;
-    }
-    if call.terms.strictness != 0 {
-        return false;
-    }
-    if call.position != 0 {
-        return false;
-    }
-    if call.known != UNKNOWN {
-        return false;
-    }
-    let key = call.terms.key;
-    if !all_zero(&key) {
-        return false;
-    }
-    let vector = call.vector;
-    if !all_zero(&vector) {
-        return false;
-    }
-    let counts = call.counts;
-    total(counts) == 0
+    call == no_call()
 }
 
+#[tactic(auto, unfolding(crate::specs::Call::is_open, crate::specs::Call::open_tests))]
 fn is_open(call: Call) -> bool
     ensures { result ≡ is_open call }
 {
-    if call.end < SENDING {
-        return false;
-    }
-    if call.end > RECEIVING {
-        return false;
-    }
-    let key = call.terms.key;
-    if !key_right(call.terms.cipher, key) {
-        return false;
-    }
-    if !terms_right(call.end, call.terms.rate, call.terms.strictness) {
-        return false;
-    }
-    if wide(call.position) >= session_slots(call.terms.cipher) {
-        return false;
-    }
+    let terms = call.terms;
     let vector = call.vector;
-    if !vector_right(
-        call.end,
-        call.terms.cipher,
-        call.terms.strictness,
-        call.known,
-        all_zero(&vector),
-    ) {
-        return false;
-    }
-    let counts = call.counts;
-    counts_right(
-        call.end,
-        call.terms.cipher,
-        call.terms.strictness,
-        call.known,
-        call.position,
-        counts,
-    )
+    SENDING <= call.end
+        && call.end <= RECEIVING
+        && key_right(terms.cipher, terms.key)
+        && terms_right(call.end, terms.rate, terms.strictness)
+        && usize::from(call.position) < session_slots(terms.cipher)
+        && vector_right(
+            call.end,
+            terms.cipher,
+            terms.strictness,
+            call.known,
+            all_zero(&vector),
+        )
+        && counts_right(
+            call.end,
+            terms.cipher,
+            terms.strictness,
+            call.known,
+            call.position,
+            call.counts,
+        )
 }
 
+#[tactic(auto, unfolding(crate::specs::Call::good_call))]
 pub fn good_call(call: Call) -> bool
     ensures { result ≡ good_call call }
 {
-    if is_closed(call) {
-        return true;
-    }
-    is_open(call)
+    is_closed(call) || is_open(call)
 }
 
 // ---- a call made
@@ -230,7 +164,7 @@ pub fn no_call() -> Call
         position: 0,
         known: UNKNOWN,
         vector: [0; VECTOR_OCTETS],
-        counts: no_counts(),
+        counts: Counts::default(),
     }
 }
 
@@ -243,7 +177,7 @@ pub fn sender(terms: Terms, position: u8, vector: [u8; VECTOR_OCTETS]) -> Call
         position,
         known: TOLD,
         vector,
-        counts: no_counts(),
+        counts: Counts::default(),
     }
 }
 
@@ -276,39 +210,17 @@ pub fn untold(cipher: u8) -> u8
     UNKNOWN
 }
 
-// What a refusal leaves: the call as it was.
-pub fn refused(answer: Answer, call: Call) -> Stepped
-    ensures { (result.answer ≡ answer) × (result.call ≡ call) }
-{
-    Stepped { answer, call }
-}
-
 // ---- its end
 
-// A refusal hands out zeros.
-fn not_ended(answer: Answer, call: Call) -> Ended
-    ensures { (result.answer ≡ answer) × (result.call ≡ call) × (result.counts ≡ no_counts) }
-{
-    Ended {
-        answer,
-        call,
-        counts: no_counts(),
-    }
-}
-
-pub fn end(call: Call) -> Ended
-    ensures { (result.answer, (result.call, result.counts)) ≡ end_of call }
+// No call, and what it has counted.
+pub fn end(call: Call) -> Result<(Call, Counts), Answer>
+    ensures { result ≡ result_of (end_of call) }
 {
     if !good_call(call) {
-        return not_ended(Answer::Bad, call);
+        return Err(Answer::Bad);
     }
     if call.end == CLOSED {
-        return not_ended(Answer::NotNow, call);
+        return Err(Answer::NotNow);
     }
-    let counts = call.counts;
-    Ended {
-        answer: Answer::Done,
-        call: no_call(),
-        counts,
-    }
+    Ok((no_call(), call.counts))
 }

@@ -1,79 +1,63 @@
 // Vectors of a call: one announced to a receiver, and the next one of a sender.
 ghost use Rattle.std.specs.Prelude.{◌≡◌, true};
+ghost use Rattle.answers.specs.Outcomes.{result_of, done_of};
 ghost use Rattle.calls.specs.Call.{good_call, standing};
 ghost use Rattle.calls.specs.Vector.{awaits, announce_of, generates, next_vector_of};
 
-use crate::call::{Call, RECEIVING, SENDING, Stepped, TOLD, good_call, receiver, refused};
+use crate::call::{Call, RECEIVING, SENDING, TOLD, good_call, receiver};
 use answers::Answer;
-use octets::copy;
 use sizes::cipher::{Scramble, VECTOR_OCTETS};
 
 // Whether the call waits for a vector: it was told none of this session.
+#[tactic(auto, using(crate::proofs::VectorLaws::awaits_by))]
 fn is_awaiting(call: Call) -> bool
     requires { good_call call ≡ true }
     ensures { result ≡ awaits (standing call) }
 {
-    if call.end != RECEIVING {
-        return false;
-    }
-    if call.terms.cipher == Scramble::TYPE {
-        return false;
-    }
-    if call.position != 0 {
-        return false;
-    }
-    call.known != TOLD
+    call.end == RECEIVING
+        && call.terms.cipher != Scramble::TYPE
+        && call.position == 0
+        && call.known != TOLD
 }
 
 // A vector for the session that begins, once in it; a carried one gives way. It belongs to no session that is under way.
-pub fn announce(call: Call, vector: &[u8]) -> Stepped
-    ensures { (result.answer, result.call) ≡ announce_of call vector.now }
+pub fn announce(call: Call, vector: &[u8]) -> Result<Call, Answer>
+    ensures { result ≡ result_of (announce_of call vector.now) }
 {
-    if vector.len() != VECTOR_OCTETS {
-        return refused(Answer::WrongLength, call);
-    }
+    let Ok(own) = <[u8; VECTOR_OCTETS]>::try_from(vector) else {
+        return Err(Answer::WrongLength);
+    };
     if !good_call(call) {
-        return refused(Answer::Bad, call);
+        return Err(Answer::Bad);
     }
     if !is_awaiting(call) {
-        return refused(Answer::NotNow, call);
+        return Err(Answer::NotNow);
     }
-    let terms = call.terms;
-    let counts = call.counts;
-    let mut own = [0; VECTOR_OCTETS];
-    copy(vector, &mut own);
-    Stepped {
-        answer: Answer::Done,
-        call: receiver(terms, call.position, TOLD, own, counts),
-    }
+    Ok(receiver(call.terms, call.position, TOLD, own, call.counts))
 }
 
 // Whether the call is a sender that has a next vector.
+#[tactic(auto, using(crate::proofs::VectorLaws::generates_by))]
 fn is_generating(call: Call) -> bool
     requires { good_call call ≡ true }
     ensures { result ≡ generates (standing call) }
 {
-    if call.end != SENDING {
-        return false;
-    }
-    call.terms.cipher != Scramble::TYPE
+    call.end == SENDING && call.terms.cipher != Scramble::TYPE
 }
 
 // L(S) of the sender's session, written into lent octets.
-pub fn next_vector(call: Call, out: &mut [u8]) -> Answer
-    ensures { (result, out.new) ≡ next_vector_of call out.old }
+pub fn next_vector(call: Call, out: &mut [u8]) -> Result<(), Answer>
+    ensures { (result, out.new) ≡ done_of (next_vector_of call out.old) }
 {
     if out.len() != VECTOR_OCTETS {
-        return Answer::WrongLength;
+        return Err(Answer::WrongLength);
     }
     if !good_call(call) {
-        return Answer::Bad;
+        return Err(Answer::Bad);
     }
     if !is_generating(call) {
-        return Answer::NotNow;
+        return Err(Answer::NotNow);
     }
-    let vector = call.vector;
-    let next = generator::next_vector(&vector);
-    copy(&next, out);
-    Answer::Done
+    out.copy_from_slice(&generator::next_vector(&call.vector));
+    Ok(())
 }

@@ -1,32 +1,23 @@
--- Output feedback, a block at a time: the octets of a session, copied from the blocks that they stand in. Over any step from one block to the next, the block
--- itself or what is carried in its place, and over the octets of a block.
-use mathlib.Core.Path.{◌≡◌, refl, sym, ap, subst, ◌∙◌}
+-- Output feedback, a block at a time: the octets of a session, copied from the blocks that they stand in. Over any form in which a block is carried to the next
+-- one, and over the octets of a block.
+use mathlib.Core.Path.{◌≡◌, sym, ap, subst, ◌∙◌}
 use mathlib.Core.List.{List}
 use mathlib.Core.Logic.{◌⊎◌, inl, inr}
 use Prim.Native.Nat.{ℕ, ◌+◌, ◌-◌, ◌*◌, ◌/◌, ◌%◌, ◌≤◌, ◌<◌, min}
 use native.Mathlib.Nat.{add-zero, add_assoc}
-use native.Mathlib.Numerals.{add-one}
 use native.Mathlib.Omega.{arith}
 use borrow.Rule.Slice.PartMut.{put_mid}
 use lib.ListN.{length, get_or, take, drop, length-drop}
 use lib.Seq.{get_or-take, get_or-drop, length-take-le}
-use Rattle.octets.specs.Lists.{iterate}
 use Rattle.octets.specs.Bits.{bit, octets_from, Octets}
 use Rattle.octets.proofs.BitLaws.{bit_lt, bit_at, octet_of_lem, get_or-octets_from, length-octets_from}
 use Rattle.octets.proofs.Front.{Front, front_start, front_part, front_done}
-use Rattle.ciphers.specs.declared.feedback.Engine.{Engine}
-use Rattle.ciphers.specs.declared.feedback.Engine.TheVariants.{Des, Aes}
-use Rattle.ciphers.specs.Engine.{block_octets}
 
 -- ---- the octets of a block
 
 -- a block has 8 octets, DES's, or 16, AES's
 abbrev pub Wide : ℕ → Type 0
 Wide n = (n ≡ 8) ⊎ (n ≡ 16)
-
-pub wide : (e : Engine) (n : ℕ) → n ≡ block_octets e → Wide n
-wide Des n h = inl h
-wide Aes n h = inr h
 
 pub wide_bounds : (n : ℕ) → Wide n → (8 ≤ n) × (n ≤ 16)
 wide_bounds n (inl e) = (omega arith, omega arith)
@@ -36,11 +27,6 @@ wide_bounds n (inr e) = (omega arith, omega arith)
 pub place_lt : (w m : ℕ) → Wide w → m % w < w
 place_lt w m (inl e) = rw e (omega arith)
 place_lt w m (inr e) = rw e (omega arith)
-
--- at most so many blocks lie before it
-pub block_le : (w m : ℕ) → Wide w → m / w ≤ m / 8
-block_le w m (inl e) = rw e (omega arith)
-block_le w m (inr e) = rw e (omega arith)
 
 -- r octets on, in the block
 same_block : (w m r : ℕ) → Wide w → m % w + r < w → ((m + r) / w ≡ m / w) × ((m + r) % w ≡ m % w + r)
@@ -61,45 +47,19 @@ bits-placed w m k (inr e) h = (rw e (omega arith), rw e (omega arith))
 pub least_by : {n m k : ℕ} (w at i : ℕ) → n ≡ min (w - at) (m - i) → m ≡ k → n ≡ min (w - at) (k - i)
 least_by w at i e l = rw l at e
 
--- n octets: the rest of a block's w from `at` on, or of m from i on
-module _ (w m i at n : ℕ) (l : i < m) (h : at < w) (least : n ≡ min (w - at) (m - i)) where
-  pub fewer_left : m - (i + n) < m - i
-  fewer_left = let some : (0 < n) × (i + n ≤ m) = omega arith in omega (arith, some)
-
-  -- what is copied is as long as what it is copied to
-  pub same_count : (d b : List ℕ) → length d ≡ m → length b ≡ w → length (take (i + n - i) (drop i d)) ≡ length (take (at + n - at) (drop at b))
-  same_count d b ld lb =
-      let e : i + n - i ≡ n = omega arith in
-      let f : at + n - at ≡ n = omega arith in
-      let there : i + n ≤ m = omega arith in
-      let here : at + n ≤ w = omega arith in
-      rw (e, f)
-      (length-take-le n (drop i d) (omega (arith, length-drop i d)) ∙ sym (length-take-le n (drop at b) (omega (arith, length-drop at b))))
-
--- ---- steps in a loop
-
-module _ {A : Type 0} (step : A → A) (x : A) where
-  -- y comes n steps after x
-  pub record On (n : ℕ) (y : A) : Type 0 where
-    pub is : y ≡ iterate step n x
-
-  pub on_none : On 0 x
-  unfolding iterate
-  on_none = record { is = refl }
-
-  pub on_more : {n : ℕ} {y z : A} → On n y → z ≡ step y → On (n + 1) z
-  unfolding iterate
-  on_more {n} e f = record { is = rw (add-one n) (f ∙ ap step e.is) }
-
-  pub on_to : {m n : ℕ} {y : A} → On m y → m ≡ n → On n y
-  on_to {m} {n} {y} e q = subst (λ (k : ℕ). On k y) q e
+-- n octets of m are lent from i on
+pub lent_count : (m i n : ℕ) → i + n ≤ m → (d : List ℕ) → length d ≡ m → length (take (i + n - i) (drop i d)) ≡ n
+lent_count m i n h d l =
+    let e : i + n - i ≡ n = omega arith in
+    rw e (length-take-le n (drop i d) (omega (arith, length-drop i d)))
 
 -- ---- the octets of a session
 
-module _ {A : Type 0} (step : A → A) (block : A → List ℕ) (first : A) (w : ℕ) where
+-- x is carried for block n, where `For n x`
+module _ {A : Type 0} (For : ℕ → A → Type 0) (block : ℕ → List ℕ) (w : ℕ) where
   -- used block j, counted from 0
   abbrev used : ℕ → List ℕ
-  used j = block (iterate step (j + 2) first)
+  used j = block (j + 2)
 
   -- bit n of the used blocks
   abbrev pub used_bit : ℕ → ℕ
@@ -114,14 +74,14 @@ module _ {A : Type 0} (step : A → A) (block : A → List ℕ) (first : A) (w :
 
     -- d has the first i octets; the next one is octet `at` of the block after x
     pub record Fed (d : List ℕ) (x : A) (at i : ℕ) : Type 0 where
-      pub next : i < length o → On step first ((from + i) / w + 1) x
+      pub next : i < length o → For ((from + i) / w + 1) x
       pub place : i < length o → at ≡ (from + i) % w
       pub front : Front session o d i
 
-    pub fed_start : (x : A) → x ≡ iterate step (from / w + 1) first → Fed o x (from % w) 0
+    pub fed_start : (x : A) → For (from / w + 1) x → Fed o x (from % w) 0
     fed_start x e =
         record {
-          next = λ h. rw (add-zero from) (record { is = e });
+          next = λ h. rw (add-zero from) e;
           place = λ h. rw (add-zero from);
           front = front_start session o (sym length-session);
         }
@@ -143,19 +103,18 @@ module _ {A : Type 0} (step : A → A) (block : A → List ℕ) (first : A) (w :
 
       -- a turn of the loop: the rest of a block, or of the octets
       pub fed_more : (d : List ℕ) (x : A) (at i : ℕ) → Fed d x at i → i < length o
-          → (y : A) (b part : List ℕ) (n : ℕ) → y ≡ step x → length b ≡ w → Octets b → b ≡ block y
-          → n ≡ min (w - at) (length o - i) → part ≡ take (at + n - at) (drop at b) → Fed (put_mid i (i + n - i) d part) y 0 (i + n)
-      fed_more d x at i f l y b part n e long octets is_b size as_taken =
+          → (y : A) (b part : List ℕ) (n : ℕ) → ((m : ℕ) → For m x → For (m + 1) y) → length b ≡ w → Octets b → ((m : ℕ) → For m y → b ≡ block m)
+          → n ≡ min (w - at) (length o - i) → (m : ℕ) → m ≡ n → part ≡ take m (drop at b) → Fed (put_mid i (i + n - i) d part) y 0 (i + n)
+      fed_more d x at i f l y b part n e long octets is_b size m count as_taken =
           let p : at ≡ (from + i) % w = f.place l in
           let inside : at < w = rw p (place_lt w (from + i) wd) in
-          let on = on_more step first (f.next l) e in
-          let count : at + n - at ≡ n = omega arith in
+          let on = e ((from + i) / w + 1) (f.next l) in
           let is_part_lem : part ≡ take n (drop at b) = rw count at as_taken in
           let fits : at + n ≤ w = omega arith in
           let after : i + n < length o → ((from + i + n) / w ≡ (from + i) / w + 1) × ((from + i + n) % w ≡ 0) =
           λ h. next-block w (from + i) n wd (rw (← p) (omega arith)) in
           record {
-            next = λ h. on_to step first on (rw (← add_assoc from i n, (after h).0));
+            next = λ h. subst (λ (k : ℕ). For k y) (sym (rw (← add_assoc from i n, (after h).0))) on;
             place = λ h. rw (← add_assoc from i n, (after h).1);
             front =
                 front_part session o d part i (i + n - i) n f.front (omega arith) (ap length is_part_lem ∙ length-take-le n (drop at b) (omega (arith, length-drop at b)))
@@ -165,5 +124,5 @@ module _ {A : Type 0} (step : A → A) (block : A → List ℕ) (first : A) (w :
                 let two : (from + i) / w + 1 + 1 ≡ (from + i) / w + 2 = add_assoc ((from + i) / w) 1 1 in
                 ap (λ (x : List ℕ). get_or x r 0) is_part_lem ∙ get_or-take n (drop at b) r 0 h ∙ get_or-drop at b r 0
                 ∙ stands (i + r) (at + r) (omega arith) (rw (← add_assoc from i r, q.1, p)) b octets
-                (rw (← add_assoc from i r, q.0) (is_b ∙ ap block (on_to step first on two).is)));
+                (rw (← add_assoc from i r, q.0) (is_b ((from + i) / w + 2) (subst (λ (k : ℕ). For k y) two on))));
           }

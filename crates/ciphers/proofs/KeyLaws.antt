@@ -1,10 +1,12 @@
 -- The cases of the keys' definitions, each as a way through the code meets it.
-use Prim.Native.Nat.{ℕ, ◌+◌, ◌-◌, ◌/◌, ◌%◌, ◌≤◌, ◌<◌}
+use Prim.Native.Nat.{ℕ, zero, suc, ◌+◌, ◌-◌, ◌*◌, ◌/◌, ◌%◌, ◌≤◌, ◌<◌}
+use native.Mathlib.Decide.{ℕ_discrete, dec_lt}
 use native.Mathlib.Omega.{arith}
-use mathlib.Core.Path.{◌≡◌, refl, sym, ap, ◌∙◌, fun_ext}
+use mathlib.Core.Path.{◌≡◌, refl, sym, ap, ap₂, ◌∙◌, fun_ext}
 use mathlib.Core.Bool.{Bool, true, false, ◌&&◌, not, true≢false}
-use mathlib.Core.List.{List, ◌++◌}
-use lib.ListN.{length, get_or, take, drop, replicate}
+use mathlib.Core.List.{List, [], ◌∷◌, ◌++◌}
+use lib.ListN.{length, get_or, take, drop, replicate, length-append, get_or-append}
+use lib.Seq.{get_or-take, length-take-le, get_or-append_seam}
 use lib.Bits.{bit_xor}
 use lib.Dec.{ltb, eqb}
 use borrow.Author.Tests.{lt-ltb, le-ltb, eq-eqb, ne_eqb, eqb-true}
@@ -16,27 +18,45 @@ use Rattle.octets.proofs.TestLaws.{and_left, all-step, agree}
 use Rattle.octets.proofs.ListLaws.{padded-at}
 use Rattle.sizes.specs.Ciphers.{by_cipher}
 
-module _ (k : List ℕ) where
-  pub scramble_top : 128 ≤ get_or k 0 0 → false ≡ scramble_key k
+-- two octets as one number, the high one first
+module _ (k : List ℕ) (n : ℕ) (is : n ≡ get_or k 0 0 * 256 + get_or k 1 0) (octet : get_or k 1 0 < 256) where
+  pub scramble-none : n ≤ 0 → ltb 0 n ≡ scramble_key k
   unfolding scramble_key
-  scramble_top h = rw (le-ltb _ _ h)
+  scramble-none h =
+      let high : get_or k 0 0 ≡ 0 = omega arith in
+      let low : get_or k 1 0 ≡ 0 = omega arith in
+      rw (le-ltb 0 n h, high, low)
 
-  pub scramble_high : get_or k 0 0 < 128 → (get_or k 0 0 ≡ 0 → ⊥) → true ≡ scramble_key k
+  pub scramble-some : 0 < n → ltb n 32768 ≡ scramble_key k
   unfolding scramble_key
-  scramble_high h n = rw (lt-ltb _ _ h, ne_eqb _ _ n)
+  scramble-some h = go (dec_lt (get_or k 0 0) 128) (ℕ_discrete (get_or k 0 0) 0)
+    where
+      go : Dec (get_or k 0 0 < 128) → Dec (get_or k 0 0 ≡ 0) → ltb n 32768 ≡ (ltb (get_or k 0 0) 128 && not (eqb (get_or k 0 0) 0 && eqb (get_or k 1 0) 0))
+      go (no t) e = rw (le-ltb n 32768 (omega arith), le-ltb (get_or k 0 0) 128 (omega arith))
+      go (yes t) (no e) = rw (lt-ltb n 32768 (omega arith), lt-ltb (get_or k 0 0) 128 t, ne_eqb (get_or k 0 0) 0 e)
+      go (yes t) (yes e) = rw (lt-ltb n 32768 (omega arith), lt-ltb (get_or k 0 0) 128 t, eq-eqb (get_or k 0 0) 0 e, ne_eqb (get_or k 1 0) 0 (λ z. omega arith))
 
-  pub scramble_low : get_or k 0 0 < 128 → get_or k 0 0 ≡ 0 → not (eqb (get_or k 1 0) 0) ≡ scramble_key k
-  unfolding scramble_key
-  scramble_low h e = rw (lt-ltb _ _ h, eq-eqb _ _ e)
+-- tests that agree below n
+alike : (f g : ℕ → Bool) (n : ℕ) → ((i : ℕ) → i < n → f i ≡ g i) → all_below f n ≡ all_below g n
+unfolding all_below
+alike f g zero e = refl
+alike f g (suc n) e = rw (alike f g n (λ i h. e i (omega arith)), e n (omega arith))
 
-  -- the first i octets have odd parity, and the next
-  pub des_more : (i : ℕ) (odd next : Bool) → odd ≡ all_below (λ j. odd_octet (get_or k j 0)) i → next ≡ odd_octet (get_or k i 0)
-      → (odd && next) ≡ all_below (λ j. odd_octet (get_or k j 0)) (i + 1)
-  des_more i odd next e f = rw (e, f, all-step)
+-- each octet of a list has odd parity
+abbrev pub all_odd : List ℕ → Bool
+all_odd xs = all_below (λ i. odd_octet (get_or xs i 0)) (length xs)
 
-  pub des-all : (i : ℕ) (odd : Bool) → i ≤ 8 → 8 ≤ i → odd ≡ all_below (λ j. odd_octet (get_or k j 0)) i → odd ≡ des_key k
-  unfolding des_key
-  des-all i odd h h' e = let z : i ≡ 8 = omega arith in rw z at e
+-- and the next
+pub odd_more : (xs : List ℕ) (x : ℕ) (odd more : Bool) → odd ≡ all_odd xs → more ≡ (odd && odd_octet x) → more ≡ all_odd (xs ++ x ∷ [])
+odd_more xs x odd more e f =
+    let size : length (xs ++ x ∷ []) ≡ length xs + 1 = length-append xs (x ∷ []) in
+    rw (size, all-step)
+    (f ∙ ap₂ ◌&&◌ (e ∙ alike _ _ (length xs) (λ i h. ap odd_octet (sym (get_or-append xs (x ∷ []) 0 i h)))) (ap odd_octet (sym (get_or-append_seam xs x [] 0))))
+
+pub first_odd : (k : List ℕ) → 8 ≤ length k → all_odd (take 8 k) ≡ des_key k
+unfolding des_key
+first_odd k h =
+    rw (length-take-le 8 k h) (alike (λ i. odd_octet (get_or (take 8 k) i 0)) (λ i. odd_octet (get_or k i 0)) 8 (λ i l. ap odd_octet (get_or-take 8 k i 0 l)))
 
 -- the bits above a place, folded onto those below it
 abbrev fold_at : ℕ → ℕ → ℕ

@@ -1,4 +1,3 @@
 pub mod Keys
 pub mod Keystream
-pub mod Engine
 pub mod DesEngines

@@ -1,5 +1,5 @@
 // Which keys a cipher allows.
-ghost use Rattle.std.specs.Prelude.{◌≡◌, ◌≤◌, length};
+ghost use Rattle.std.specs.Prelude.{◌≡◌, ◌≤◌, length, take};
 ghost use Rattle.ciphers.specs.Keys.{odd_octet, scramble_key, des_key, key_allowed, key_right};
 
 use octets::all_zero;
@@ -20,13 +20,8 @@ fn scramble_key(key: &[u8]) -> bool
     requires { 2 ≤ length key.now }
     ensures { result ≡ scramble_key key.now }
 {
-    if key[0] >= 128 {
-        return false;
-    }
-    if key[0] != 0 {
-        return true;
-    }
-    key[1] != 0
+    let number = u16::from_be_bytes([key[0], key[1]]);
+    number > 0 && number < 0x8000
 }
 
 // Odd parity in every octet. All are looked at, so the compiler takes many at a time.
@@ -34,13 +29,18 @@ fn des_key(key: &[u8]) -> bool
     requires { 8 ≤ length key.now }
     ensures { result ≡ des_key key.now }
 {
-    let mut odd = true;
-    let mut i = 0;
-    while i < Des::KEY_OCTETS {
-        odd = odd & odd_octet(key[i]);
-        i += 1;
-    }
-    odd
+    key[..Des::KEY_OCTETS]
+        .iter()
+        .fold(true, |odd, &octet| odd & odd_octet(octet))
+}
+
+// A key of DES, whose octets come first.
+pub fn des_octets(key: &[u8; KEY_ROOM]) -> [u8; Des::KEY_OCTETS]
+    ensures { result ≡ take 8 key.now }
+{
+    let mut octets = [0; Des::KEY_OCTETS];
+    octets.copy_from_slice(&key[..Des::KEY_OCTETS]);
+    octets
 }
 
 // Whether a key is allowed; its octets come first.
@@ -60,9 +60,5 @@ pub fn key_allowed(cipher: u8, key: &[u8]) -> bool
 pub fn key_right(cipher: u8, key: [u8; KEY_ROOM]) -> bool
     ensures { result ≡ key_right cipher key }
 {
-    if !key_allowed(cipher, &key) {
-        return false;
-    }
-    let length = key_octets(cipher);
-    all_zero(&key[length..])
+    key_allowed(cipher, &key) && all_zero(&key[key_octets(cipher)..])
 }

@@ -8,23 +8,22 @@ ghost use Rattle.generator.specs.Generator.{aes_vector};
 ghost use Rattle.sizes.specs.Ciphers.{block_bits};
 ghost use Rattle.ciphers.specs.Keystream.{feedback, stream};
 
-use crate::feedback::{Engine, feed_back};
-use sizes::cipher::{Aes, Des, KEY_ROOM, Scramble, VECTOR_OCTETS};
+use crate::feedback::feed_back;
+use crate::key::des_octets;
+use sizes::cipher::{Des, KEY_ROOM, Scramble, VECTOR_OCTETS};
 
-fn des_stream(key: [u8; KEY_ROOM], vector: [u8; VECTOR_OCTETS], from: usize, out: &mut [u8])
-    ensures { out.new ≡ octets_from (length out.old) (λ k. feedback (des key) (block_bits 2) vector (8 * from + k)) }
+fn des_stream(key: &[u8; KEY_ROOM], vector: &[u8; VECTOR_OCTETS], from: usize, out: &mut [u8])
+    ensures { out.new ≡ octets_from (length out.old) (λ k. feedback (des key.now) (block_bits 2) vector.now (8 * from + k)) }
 {
-    let prepared = des::prepare(&key[..Des::KEY_OCTETS]);
-    let mut block: [u8; Des::BLOCK_BITS / 8] = vector;
-    feed_back(Engine::Des, &prepared, &[], &mut block, from, out);
+    let prepared = des::PreparedKey::new(&des_octets(key));
+    feed_back(&prepared, vector, from, out);
 }
 
-fn aes_stream(key: [u8; KEY_ROOM], vector: [u8; VECTOR_OCTETS], from: usize, out: &mut [u8])
-    ensures { out.new ≡ octets_from (length out.old) (λ k. feedback (aes key) (block_bits 3) (aes_vector vector) (8 * from + k)) }
+fn aes_stream(key: &[u8; KEY_ROOM], vector: &[u8; VECTOR_OCTETS], from: usize, out: &mut [u8])
+    ensures { out.new ≡ octets_from (length out.old) (λ k. feedback (aes key.now) (block_bits 3) (aes_vector vector.now) (8 * from + k)) }
 {
-    let prepared = aes::prepare(&key);
-    let mut block: [u8; Aes::BLOCK_BITS / 8] = generator::aes_vector(&vector);
-    feed_back(Engine::Aes, &[], &prepared, &mut block, from, out);
+    let prepared = aes::PreparedKey::new(key);
+    feed_back(&prepared, &generator::aes_vector(vector), from, out);
 }
 
 // The bits of a session from octet `from` on. The key's own octets come first in `key`.
@@ -40,7 +39,7 @@ pub fn keystream(
 {
     match cipher {
         Scramble::TYPE => scramble::write(&key, 8 * from, out),
-        Des::TYPE => des_stream(key, vector, from, out),
-        _ => aes_stream(key, vector, from, out),
+        Des::TYPE => des_stream(&key, &vector, from, out),
+        _ => aes_stream(&key, &vector, from, out),
     }
 }

@@ -1,3 +1,4 @@
+pub mod LentResults
 pub mod KindLaws
 pub mod PacketLaws
 pub mod OpeningLaws

@@ -1,5 +1,5 @@
 -- A message of a packet, as the code goes through it.
-use mathlib.Core.Path.{◌≡◌, refl, sym, ap, ap₂, ◌∙◌}
+use mathlib.Core.Path.{◌≡◌, refl, sym, ap, ◌∙◌}
 use mathlib.Core.Bool.{true, false, ◌||◌, not, or-true, true≢false}
 use mathlib.Core.List.{List, [], ◌∷◌, ◌++◌, append-nil}
 use Prim.Native.Nat.{ℕ, ◌+◌, ◌-◌, ◌*◌, ◌/◌, ◌≤◌, ◌<◌}
@@ -19,7 +19,7 @@ use Rattle.answers.specs.declared.Answer.{Answer}
 use Rattle.answers.specs.declared.Answer.TheVariants.{Done, WrongLength}
 use Rattle.answers.specs.Numbers.{is_done}
 use Rattle.answers.specs.Outcomes.{Refusals, settled, outcome}
-use Rattle.answers.proofs.OutcomeLaws.{NoneHolds, never_done, none_left, none_right, none_settles, none_first, Refuses, answer_at, refused_at, refusal_keeps, first_refuses, done_none}
+use Rattle.answers.proofs.OutcomeLaws.{NoneHolds, never_done, none_left, none_right, none_settles, none_first, Refuses, answer_at, refused_at, first_refuses, done_none}
 use Rattle.ciphers.proofs.KeystreamLaws.{bits-stream}
 use Rattle.octets.proofs.TestLaws.{or_right, or_neither}
 use Rattle.octets.proofs.Turning.{turned-within}
@@ -72,13 +72,9 @@ module _ (p : Packet) where
   unfolding lost_refusals
   lost-never = refl
 
-  module _ (a : Answer) (q : Packet) (e : (a, q) ≡ lost_of p) where
-    abbrev same_answer : a ≡ (lost_of p).0
-    same_answer = ap (λ (o : Answer × Packet). o.0) e
-
-    pub lost-none : is_done a ≡ true → NoneHolds (lost_refusals p)
-    unfolding lost_of
-    lost-none d = done_none (lost_refusals p) p (counted p) lost-never (sym (ap is_done same_answer) ∙ d)
+  pub lost-none : {q : Packet} → lost_of p ≡ (Done, q) → NoneHolds (lost_refusals p)
+  unfolding lost_of
+  lost-none e = done_none (lost_refusals p) p (counted p) lost-never (ap (λ (o : Answer × Packet). is_done o.0) e)
 
 -- ---- its octets
 
@@ -152,18 +148,19 @@ module _ (p : Packet) (message : List ℕ) where
   abbrev last : Answer × (Packet × List ℕ)
   last = (Done, (counted p, message_turned p message))
 
-  -- an outcome's answer and packet
-  pub parted : (a : Answer) (q : Packet) (m : List ℕ) → (a, (q, m)) ≡ message_of p message → (a ≡ (message_of p message).0) × (q ≡ (message_of p message).1.0)
-  parted a q m e = (ap (λ (o : Answer × (Packet × List ℕ)). o.0) e, ap (λ (o : Answer × (Packet × List ℕ)). o.1.0) e)
+  -- its answer, and the packet after it
+  abbrev pub step_of : Answer × Packet
+  step_of = ((message_of p message).0, (message_of p message).1.0)
+
+  pub parted : {a : Answer} {q : Packet} {m : List ℕ} → (a, (q, m)) ≡ message_of p message → (a, q) ≡ step_of
+  parted e = ap (λ (o : Answer × (Packet × List ℕ)). (o.0, o.1.0)) e
 
   -- what a lost message would be refused, a message is
-  pub lost_decides : (a : Answer) (q : Packet) → (a, q) ≡ lost_of p → is_done a ≡ false → (a, (q, message)) ≡ message_of p message
+  pub lost_decides : {a : Answer} → (lost_of p).0 ≡ a → is_done a ≡ false → (a, (p, message)) ≡ message_of p message
   unfolding lost_of message_of message_refusals
-  lost_decides a q e d =
-      let d' : is_done (lost_of p).0 ≡ false = sym (ap is_done (ap (λ (o : Answer × Packet). o.0) e)) ∙ d in
-      let k : (lost_of p).1 ≡ p = refusal_keeps p (lost_refusals p) (Done, counted p) (λ z. true≢false (sym (ap is_done z) ∙ d')) in
-      ap₂ (λ (x : Answer) (y : Packet). (x, (y, message))) (ap (λ (o : Answer × Packet). o.0) e) (ap (λ (o : Answer × Packet). o.1) e ∙ k)
-      ∙ sym (first_refuses (lost_refusals p) right p (counted p) (p, message) last d')
+  lost_decides r d =
+      ap (λ (x : Answer). (x, (p, message))) (sym r)
+      ∙ sym (first_refuses (lost_refusals p) right p (counted p) (p, message) last (ap is_done r ∙ d))
 
   module _ (n : NoneHolds (lost_refusals p)) where
     left : message_of p message ≡ outcome (p, message) right (counted p, message_turned p message)
@@ -176,10 +173,12 @@ module _ (p : Packet) (message : List ℕ) where
     pub message_done : length message ≡ message_octets p.kind → (Done, (counted p, message_turned p message)) ≡ message_of p message
     message_done h = sym (left ∙ rw (eq-eqb _ _ h))
 
-    -- the packet is then the one that a lost message leaves
-    pub lost-leaves : (a : Answer) (q : Packet) → (a, q) ≡ lost_of p → length message ≡ message_octets p.kind
-        → (a, (q, message_turned p message)) ≡ message_of p message
-    lost-leaves a q e h = ap (λ (x : Answer × Packet). (x.0, (x.1, message_turned p message))) (e ∙ sym (lost_done p n)) ∙ message_done h
+  -- the packet is then the one that a lost message leaves
+  pub lost-leaves : {q : Packet} → lost_of p ≡ (Done, q) → length message ≡ message_octets p.kind
+      → (Done, (q, message_turned p message)) ≡ message_of p message
+  lost-leaves e h =
+      let n = lost-none p e in
+      ap (λ (x : Answer × Packet). (x.0, (x.1, message_turned p message))) (sym e ∙ sym (lost_done p n)) ∙ message_done n h
 
   -- ---- where nothing refuses it
 
@@ -200,35 +199,31 @@ module _ (p : Packet) (message : List ℕ) where
     unfolding message_refusals
     none_long = eqb-true _ _ (not-false _ (none_right (lost_refusals p) right n).0)
 
--- ---- as the code goes: an answer and a packet, and the message turned after them where the answer is 0
+-- ---- as the code goes: an answer and a packet, and the message turned after them where it is done
 
-module _ (p : Packet) (message : List ℕ) (a : Answer) (q : Packet) (stepped : (a ≡ (message_of p message).0) × (q ≡ (message_of p message).1.0)) where
-  pub step-none : is_done a ≡ true → NoneHolds (message_refusals p message)
-  step-none d = done_none_holds p message (sym (ap is_done stepped.0) ∙ d)
-
+module _ (p : Packet) (message : List ℕ) where
   -- refused, all is as it was, whatever else would be refused
-  pub step-first : (rest : Refusals) (end : Answer × (Packet × List ℕ)) → is_done a ≡ false
-      → (a, (q, message)) ≡ settled (p, message) (message_refusals p message ++ rest) end
-  unfolding message_of
-  step-first rest end d =
-      let d' : is_done (message_of p message).0 ≡ false = sym (ap is_done stepped.0) ∙ d in
-      let k : (message_of p message).1 ≡ (p, message) =
-      refusal_keeps (p, message) (message_refusals p message) (last p message) (λ z. true≢false (sym (ap is_done z) ∙ d')) in
-      ap₂ (λ (x : Answer) (y : Packet). (x, (y, message))) stepped.0 (stepped.1 ∙ ap (λ (o : Packet × List ℕ). o.0) k)
-      ∙ sym (first_refuses (message_refusals p message) rest (p, message) (counted p, message_turned p message) (p, message) end d')
+  module _ {a : Answer} (r : (message_of p message).0 ≡ a) (d : is_done a ≡ false) where
+    pub step-first : (rest : Refusals) (end : Answer × (Packet × List ℕ)) → (a, (p, message)) ≡ settled (p, message) (message_refusals p message ++ rest) end
+    unfolding message_of
+    step-first rest end =
+        ap (λ (x : Answer). (x, (p, message))) (sym r)
+        ∙ sym (first_refuses (message_refusals p message) rest (p, message) (counted p, message_turned p message) (p, message) end (ap is_done r ∙ d))
 
-  pub step_refused : is_done a ≡ false → (a, (q, message)) ≡ message_of p message
-  unfolding message_of
-  step_refused d = rw append-nil at (step-first [] (last p message) d)
+    pub step_refused : (a, (p, message)) ≡ message_of p message
+    unfolding message_of
+    step_refused = rw append-nil at (step-first [] (last p message))
 
   -- done, the packet is one message on
-  pub step_counts : is_done a ≡ true → (a ≡ Done) × (q ≡ counted p)
-  step_counts d =
-      let n = step-none d in
-      let e = sym (message_done p message (none-lost p message n) (none_long p message n)) in
-      (stepped.0 ∙ ap (λ (o : Answer × (Packet × List ℕ)). o.0) e, stepped.1 ∙ ap (λ (o : Answer × (Packet × List ℕ)). o.1.0) e)
+  module _ {q : Packet} (e : step_of p message ≡ (Done, q)) where
+    pub step-none : NoneHolds (message_refusals p message)
+    step-none = done_none_holds p message (ap (λ (o : Answer × Packet). is_done o.0) e)
 
-  pub step-turned : is_done a ≡ true → (m : List ℕ) → m ≡ message_turned p message → (a, (q, m)) ≡ message_of p message
-  step-turned d m t =
-      let n = step-none d in
-      rw ((step_counts d).0, (step_counts d).1, t) (message_done p message (none-lost p message n) (none_long p message n))
+    done : (Done, (counted p, message_turned p message)) ≡ message_of p message
+    done = message_done p message (none-lost p message step-none) (none_long p message step-none)
+
+    pub step_counts : q ≡ counted p
+    step_counts = ap (λ (o : Answer × Packet). o.1) (sym e) ∙ sym (ap (λ (o : Answer × Packet). o.1) (parted p message done))
+
+    pub step-turned : {m : List ℕ} → m ≡ message_turned p message → (Done, (q, m)) ≡ message_of p message
+    step-turned t = rw (step_counts, t) done

@@ -4,17 +4,35 @@ use mathlib.Core.Bool.{Bool, true, false, ◌||◌, not}
 use Prim.Native.Nat.{ℕ}
 use native.Mathlib.Omega.{arith}
 use lib.Dec.{eqb}
+use lib.ListN.{length}
 use borrow.Author.Tests.{eqb-true, eqb-false}
 use Rattle.octets.specs.Lists.{all_zero}
+use Rattle.octets.specs.Tests.{all_below}
+use Rattle.octets.proofs.ListLaws.{zeros_are}
 use Rattle.octets.proofs.TestLaws.{every-at, or_left, not_so}
 use Rattle.answers.specs.declared.Answer.TheVariants.{Done}
 use Rattle.answers.proofs.OutcomeLaws.{NoneHolds, none_settles, Refuses, answer_at, refused_at}
-use Rattle.sizes.specs.Ciphers.{scrambles}
+use Rattle.sizes.specs.Ciphers.{key_room, vector_octets, scrambles}
 use Rattle.ciphers.specs.Keys.{key_right}
 use Rattle.data.specs.declared.packet.Packet.{Packet}
 use Rattle.data.specs.Kinds.{is_kind}
 use Rattle.data.specs.Packet.{closed_tests, open_tests, is_closed, is_open, good_packet, no_packet, end_refusals, end_of}
 use Rattle.data.proofs.KindLaws.{kind_range}
+
+pub none_closed : is_closed no_packet ≡ true
+unfolding is_closed closed_tests all_zero all_below
+none_closed = refl
+
+pub closed_is : (p : Packet) → length p.key ≡ key_room → length p.vector ≡ vector_octets → is_closed p ≡ true → p ≡ no_packet
+unfolding is_closed closed_tests
+closed_is p lk lv e =
+    rw (
+      eqb-true p.kind 0 (every-at (closed_tests p) 0 e),
+      eqb-true p.cipher 0 (every-at (closed_tests p) 1 e),
+      eqb-true p.count 0 (every-at (closed_tests p) 2 e),
+      zeros_are p.key key_room lk (every-at (closed_tests p) 3 e),
+      zeros_are p.vector vector_octets lv (every-at (closed_tests p) 4 e),
+    ) refl
 
 module _ (p : Packet) where
   closed-kind : is_closed p ≡ true → p.kind ≡ 0

@@ -19,7 +19,7 @@ use Rattle.data.specs.declared.packet.Packet.{Packet}
 use Rattle.data.specs.Kinds.{protected_octets, protected_bits}
 use Rattle.data.specs.Packet.{most_messages, is_open}
 use Rattle.data.specs.Message.{counted, lost_refusals, lost_of, message_refusals, of_message, turned_by, message_turned_by, stream_of, message_turned, message_of, stream_octets, short_refusals, message_by_octets, packet_stream_of, IsStream}
-use Rattle.data.proofs.MessageLaws.{none_open, none_few, none-lost, turned_alike, step-none, step-first, step_counts}
+use Rattle.data.proofs.MessageLaws.{none_open, none_few, none-lost, turned_alike, done_none_holds, step-first}
 use Rattle.data.proofs.GoodLaws.{at_count, at_open}
 
 -- ---- a message by lent octets
@@ -34,40 +34,38 @@ module _ (lent : List ℕ) (p : Packet) (message : List ℕ) where
   by_long n l = none_first (message_refusals p message) (short_refusals p lent) (p, message) last n ∙ rw (le-ltb _ _ l)
 
   -- as the code goes
-  module _ (a : Answer) (q : Packet) (stepped : (a ≡ (message_of p message).0) × (q ≡ (message_of p message).1.0)) where
-    pub lent_refused : is_done a ≡ false → (a, (q, message)) ≡ message_by_octets lent p message
-    unfolding message_by_octets
-    lent_refused = step-first p message a q stepped (short_refusals p lent) last
+  pub lent_refused : {a : Answer} → (message_of p message).0 ≡ a → is_done a ≡ false → (a, (p, message)) ≡ message_by_octets lent p message
+  unfolding message_by_octets
+  lent_refused r d = step-first p message r d (short_refusals p lent) last
 
-    module _ (d : is_done a ≡ true) (part end : ℕ) (is_part_lem : part ≡ protected_octets p.kind) (is-end : end ≡ part * (p.count + 1)) where
-      reach : end ≡ stream_octets p.kind (p.count + 1)
-      reach = is-end ∙ ap (λ (n : ℕ). n * (p.count + 1)) is_part_lem
+  module _ (n : NoneHolds (message_refusals p message)) (part end : ℕ) (is_part_lem : part ≡ protected_octets p.kind) (is-end : end ≡ part * (p.count + 1)) where
+    reach : end ≡ stream_octets p.kind (p.count + 1)
+    reach = is-end ∙ ap (λ (n : ℕ). n * (p.count + 1)) is_part_lem
 
-      -- where the message's bits begin
-      place : 8 * (end - part) ≡ protected_bits p.kind * p.count
-      place =
-          let e : end - part ≡ part * p.count = omega (arith, mul-add part p.count 1) in
-          rw (e, is_part_lem) (sym (mul_assoc 8 (protected_octets p.kind) p.count))
+    -- the message's bits lie before it, and begin there
+    pub part_before : part ≤ end
+    part_before = omega (arith, mul-add part p.count 1)
 
-      pub lent_short : length lent < end → (WrongLength, (p, message)) ≡ message_by_octets lent p message
-      unfolding message_by_octets short_refusals
-      lent_short l =
-          sym
-          (none_first (message_refusals p message) (short_refusals p lent) (p, message) last (step-none p message a q stepped d)
-          ∙ rw (lt-ltb _ _ (rw reach at l)))
+    place : 8 * (end - part) ≡ protected_bits p.kind * p.count
+    place =
+        let e : end - part ≡ part * p.count = omega (arith, mul-add part p.count 1) in
+        rw (e, is_part_lem) (sym (mul_assoc 8 (protected_octets p.kind) p.count))
 
-      pub lent-turned : end ≤ length lent → (m : List ℕ) → m ≡ turned_by (λ k. bit lent (8 * (end - part) + k)) p.kind message
-          → (a, (q, m)) ≡ message_by_octets lent p message
-      lent-turned l m t =
-          let s = step_counts p message a q stepped d in
-          rw (s.0, s.1, t, place) (sym (by_long (step-none p message a q stepped d) (rw reach at l)))
+    pub lent_short : length lent < end → (WrongLength, (p, message)) ≡ message_by_octets lent p message
+    unfolding message_by_octets short_refusals
+    lent_short l =
+        sym (none_first (message_refusals p message) (short_refusals p lent) (p, message) last n ∙ rw (lt-ltb _ _ (rw reach at l)))
+
+    pub lent-turned : {q : Packet} → q ≡ counted p → end ≤ length lent → {m : List ℕ} → m ≡ turned_by (λ k. bit lent (8 * (end - part) + k)) p.kind message
+        → (Done, (q, m)) ≡ message_by_octets lent p message
+    lent-turned c l t = rw (c, t, place) (sym (by_long n (rw reach at l)))
 
 -- ---- how many octets are enough
 
 -- a message that is done as it is, is done by lent octets too where they reach the last of its bits, and is 2 where they don't
 module _ (lent : List ℕ) (p : Packet) (message : List ℕ) (d : is_done (message_of p message).0 ≡ true) where
   none : NoneHolds (message_refusals p message)
-  none = step-none p message (message_of p message).0 (message_of p message).1.0 (refl, refl) d
+  none = done_none_holds p message d
 
   pub lent_enough : protected_bits p.kind * (p.count + 1) ≤ 8 * length lent → message_by_octets lent p message ≡ (Done, (counted p, message_turned_by (bit lent) p message))
   lent_enough l = by_long lent p message none (omega (arith, mul_assoc 8 (protected_octets p.kind) (p.count + 1)))
@@ -75,7 +73,7 @@ module _ (lent : List ℕ) (p : Packet) (message : List ℕ) (d : is_done (messa
   pub lent_too_few : 8 * length lent < protected_bits p.kind * (p.count + 1) → message_by_octets lent p message ≡ (WrongLength, (p, message))
   lent_too_few l =
       sym
-      (lent_short lent p message (message_of p message).0 (message_of p message).1.0 (refl, refl) d (protected_octets p.kind) _ refl refl
+      (lent_short lent p message none (protected_octets p.kind) _ refl refl
       (omega (arith, mul_assoc 8 (protected_octets p.kind) (p.count + 1))))
 
 -- ---- a packet's keystream, made

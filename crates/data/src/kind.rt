@@ -1,4 +1,5 @@
 // The message kinds and the numbers that belong to each.
+// Kept: a kind is a number, as the C interface gives it and as a packet in lent octets holds it, bad ones too.
 ghost use Rattle.std.specs.Prelude.{◌≡◌};
 ghost use Rattle.data.specs.Kinds.{by_kind, is_kind, message_octets, protected_octets};
 
@@ -16,13 +17,11 @@ pub const HEAD_OCTETS: usize = 2;
 // The most protected octets of a message: a DCALL's.
 pub const MOST_PROTECTED: usize = 20;
 
+#[tactic(auto, unfolding(crate::specs::Kinds::is_kind))]
 pub fn is_kind(kind: u8) -> bool
     ensures { result ≡ is_kind kind }
 {
-    if kind < DCALL {
-        return false;
-    }
-    kind <= FACCH1
+    DCALL <= kind && kind <= FACCH1
 }
 
 // What belongs to a kind, or 0 where there is no such kind.

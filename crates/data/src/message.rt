@@ -1,12 +1,13 @@
 // A message of a packet, arrived or lost.
 ghost use Rattle.std.specs.Prelude.{◌≡◌, true, ◌+◌, ◌*◌, ◌≤◌, ◌<◌, length};
 ghost use Rattle.octets.specs.Bits.{bit};
+ghost use Rattle.answers.specs.Outcomes.{result_of, lent_of};
 ghost use Rattle.data.specs.Kinds.{is_kind, message_octets, protected_bits};
 ghost use Rattle.data.specs.Packet.{most_messages, is_open};
 ghost use Rattle.data.specs.Message.{counted, lost_of, turned_by, message_turned, message_of, message_by_octets, packet_stream_of};
 
 use crate::kind::{HEAD_OCTETS, MOST_PROTECTED, message_octets, protected_octets};
-use crate::packet::{MOST_MESSAGES, NONE, Packet, Taken, good_packet, is_open};
+use crate::packet::{MOST_MESSAGES, NONE, Packet, good_packet, is_open};
 use answers::Answer;
 use ciphers::joined;
 use octets::turn;
@@ -22,25 +23,16 @@ fn count_on(mut packet: Packet) -> Packet
 
 // ---- a lost message
 
-pub fn lost(packet: Packet) -> Taken
-    ensures { (result.answer, result.packet) ≡ lost_of packet }
+pub fn lost(packet: Packet) -> Result<Packet, Answer>
+    ensures { result ≡ result_of (lost_of packet) }
 {
     if !good_packet(packet) {
-        return Taken {
-            answer: Answer::Bad,
-            packet,
-        };
+        return Err(Answer::Bad);
     }
     if packet.kind == NONE || packet.count >= MOST_MESSAGES {
-        return Taken {
-            answer: Answer::NotNow,
-            packet,
-        };
+        return Err(Answer::NotNow);
     }
-    Taken {
-        answer: Answer::Done,
-        packet: count_on(packet),
-    }
+    Ok(count_on(packet))
 }
 
 // ---- a message
@@ -65,72 +57,52 @@ fn turn_message(packet: Packet, message: &mut [u8])
     ensures { message.new ≡ message_turned packet message.old }
 {
     let part = protected_octets(packet.kind);
-    let count = packet.count as usize;
-    let key = packet.key;
-    let vector = packet.vector;
+    let count = usize::from(packet.count);
     let mut stream = [0; MOST_PROTECTED];
     joined::keystream(
         packet.cipher,
-        key,
-        vector,
+        packet.key,
+        packet.vector,
         part * count,
         &mut stream[..part],
     );
     turn_by(packet.kind, message, &stream, 0);
 }
 
-// What a message is answered, and the packet after it. It is to be turned where the answer is 0.
-fn step(packet: Packet, message: &[u8]) -> Taken
-    ensures { (result.answer ≡ (message_of packet message.now).0) × (result.packet ≡ (message_of packet message.now).1.0) }
+// The packet after a message, which is then to be turned.
+fn step(packet: Packet, message: &[u8]) -> Result<Packet, Answer>
+    ensures { result ≡ (lent_of (message_of packet message.now)).0 }
 {
-    let next = lost(packet);
-    let answer = next.answer;
-    if answer.number() != 0 {
-        return next;
-    }
+    let next = lost(packet)?;
     if message.len() != message_octets(packet.kind) {
-        return Taken {
-            answer: Answer::WrongLength,
-            packet,
-        };
+        return Err(Answer::WrongLength);
     }
-    next
+    Ok(next)
 }
 
 // A message sent or received.
-pub fn message(packet: Packet, message: &mut [u8]) -> Taken
-    ensures { (result.answer, (result.packet, message.new)) ≡ message_of packet message.old }
+pub fn message(packet: Packet, message: &mut [u8]) -> Result<Packet, Answer>
+    ensures { (result, message.new) ≡ lent_of (message_of packet message.old) }
 {
-    let next = step(packet, message);
-    let answer = next.answer;
-    if answer.number() != 0 {
-        return next;
-    }
+    let next = step(packet, message)?;
     turn_message(packet, message);
-    next
+    Ok(next)
 }
 
 // ---- a packet's keystream, made once
 
 // The same message, turned by lent octets that hold the packet's keystream. Fewer than reach its end would leave it in clear.
-pub fn message_by(packet: Packet, message: &mut [u8], stream: &[u8]) -> Taken
-    ensures { (result.answer, (result.packet, message.new)) ≡ message_by_octets stream.now packet message.old }
+pub fn message_by(packet: Packet, message: &mut [u8], stream: &[u8]) -> Result<Packet, Answer>
+    ensures { (result, message.new) ≡ lent_of (message_by_octets stream.now packet message.old) }
 {
-    let next = step(packet, message);
-    let answer = next.answer;
-    if answer.number() != 0 {
-        return next;
-    }
+    let next = step(packet, message)?;
     let part = protected_octets(packet.kind);
-    let end = part * (packet.count as usize + 1);
+    let end = part * usize::from(next.count);
     if stream.len() < end {
-        return Taken {
-            answer: Answer::WrongLength,
-            packet,
-        };
+        return Err(Answer::WrongLength);
     }
     turn_by(packet.kind, message, stream, 8 * (end - part));
-    next
+    Ok(next)
 }
 
 // The packet's keystream from bit 0 on, into lent octets of any length, with DES by its joined tables. Without an open packet they stay as they are.
@@ -140,7 +112,5 @@ pub fn packet_stream(packet: Packet, stream: &mut [u8])
     if !is_open(packet) {
         return;
     }
-    let key = packet.key;
-    let vector = packet.vector;
-    joined::keystream(packet.cipher, key, vector, 0, stream);
+    joined::keystream(packet.cipher, packet.key, packet.vector, 0, stream);
 }

@@ -1,13 +1,15 @@
 // How a packet begins. It has its own copy of the key, and does not keep what it was opened for.
 ghost use Rattle.std.specs.Prelude.{◌≡◌, ◌&&◌};
+ghost use Rattle.answers.specs.Outcomes.{result_of};
 ghost use Rattle.data.specs.Kinds.{is_kind};
 ghost use Rattle.data.specs.Opening.{is_end, open_of};
 
 use crate::kind::is_kind;
-use crate::packet::{NONE, Packet, Taken, good_packet};
+use crate::packet::{NONE, Packet, good_packet};
 use answers::Answer;
 use openings::{opening_key_with, session_vector};
 
+// Kept: an end is a number, as the C interface gives it, one that is neither too.
 pub const TO_RECEIVE: u8 = 0;
 
 pub const TO_SEND: u8 = 1;
@@ -29,10 +31,10 @@ pub fn open(
     id: u8,
     vector: &[u8],
     book: &[u8],
-) -> Taken
-    ensures { (result.answer, result.packet) ≡ open_of packet end kind cipher id vector.now book.now }
+) -> Result<Packet, Answer>
+    ensures { result ≡ result_of (open_of packet end kind cipher id vector.now book.now) }
 {
-    let ready = opening_key_with(
+    let key = opening_key_with(
         end == TO_SEND,
         is_end_and_kind(end, kind),
         !good_packet(packet),
@@ -41,20 +43,12 @@ pub fn open(
         id,
         vector,
         book,
-    );
-    let answer = ready.answer;
-    if answer.number() != 0 {
-        return Taken { answer, packet };
-    }
-    let key = ready.key;
-    Taken {
-        answer: Answer::Done,
-        packet: Packet {
-            kind,
-            cipher,
-            key,
-            count: 0,
-            vector: session_vector(cipher, vector),
-        },
-    }
+    )?;
+    Ok(Packet {
+        kind,
+        cipher,
+        key,
+        count: 0,
+        vector: session_vector(cipher, vector),
+    })
 }

@@ -1,5 +1,6 @@
 // A packet by value, the rules that a good one keeps, and its end.
 ghost use Rattle.std.specs.Prelude.{◌≡◌};
+ghost use Rattle.answers.specs.Outcomes.{result_of};
 ghost use Rattle.data.specs.Packet.{is_closed, is_open, good_packet, no_packet, end_of};
 
 use crate::kind::is_kind;
@@ -14,7 +15,8 @@ pub const NONE: u8 = 0;
 pub const MOST_MESSAGES: u16 = 1000;
 
 // No packet is all zero. A scramble vector is zeros.
-#[derive(Clone, Copy)]
+// Kept: kind and cipher may be any number, since a packet in lent octets may be bad, and held's strings and packets are one to one (packet_read_written).
+#[derive(Clone, Copy, PartialEq, Eq)]
 pub struct Packet {
     pub kind: u8,
     pub cipher: u8,
@@ -23,62 +25,29 @@ pub struct Packet {
     pub vector: [u8; VECTOR_OCTETS],
 }
 
-// What an operation answers, and the packet after it.
-#[derive(Clone, Copy)]
-pub struct Taken {
-    pub answer: Answer,
-    pub packet: Packet,
-}
-
 // ---- the rules
 
 fn is_closed(packet: Packet) -> bool
     ensures { result ≡ is_closed packet }
 {
-    if packet.kind != NONE {
-        return false;
-    }
-    if packet.cipher != 0 {
-        return false;
-    }
-    if packet.count != 0 {
-        return false;
-    }
-    let key = packet.key;
-    if !all_zero(&key) {
-        return false;
-    }
-    let vector = packet.vector;
-    all_zero(&vector)
+    packet == no_packet()
 }
 
+#[tactic(auto, unfolding(crate::specs::Packet::is_open, crate::specs::Packet::open_tests))]
 pub fn is_open(packet: Packet) -> bool
     ensures { result ≡ is_open packet }
 {
-    if !is_kind(packet.kind) {
-        return false;
-    }
-    let key = packet.key;
-    if !key_right(packet.cipher, key) {
-        return false;
-    }
-    if packet.count > MOST_MESSAGES {
-        return false;
-    }
-    if packet.cipher != Scramble::TYPE {
-        return true;
-    }
-    let vector = packet.vector;
-    all_zero(&vector)
+    is_kind(packet.kind)
+        && key_right(packet.cipher, packet.key)
+        && packet.count <= MOST_MESSAGES
+        && (packet.cipher != Scramble::TYPE || all_zero(&packet.vector))
 }
 
+#[tactic(auto, unfolding(crate::specs::Packet::good_packet))]
 pub fn good_packet(packet: Packet) -> bool
     ensures { result ≡ good_packet packet }
 {
-    if is_closed(packet) {
-        return true;
-    }
-    is_open(packet)
+    is_closed(packet) || is_open(packet)
 }
 
 // ---- its end
@@ -95,23 +64,15 @@ pub fn no_packet() -> Packet
     }
 }
 
-pub fn end(packet: Packet) -> Taken
-    ensures { (result.answer, result.packet) ≡ end_of packet }
+// No packet.
+pub fn end(packet: Packet) -> Result<Packet, Answer>
+    ensures { result ≡ result_of (end_of packet) }
 {
     if !good_packet(packet) {
-        return Taken {
-            answer: Answer::Bad,
-            packet,
-        };
+        return Err(Answer::Bad);
     }
     if packet.kind == NONE {
-        return Taken {
-            answer: Answer::NotNow,
-            packet,
-        };
+        return Err(Answer::NotNow);
     }
-    Taken {
-        answer: Answer::Done,
-        packet: no_packet(),
-    }
+    Ok(no_packet())
 }

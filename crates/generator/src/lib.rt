@@ -2,7 +2,7 @@
 // 64 stages between them in one number.
 #![tactic(auto)]
 
-ghost use Rattle.std.specs.Prelude.{◌≡◌, ℕ, ◌^◌, ◌≤◌, ◌<◌, length};
+ghost use Rattle.std.specs.Prelude.{◌≡◌, ℕ, ◌^◌, ◌≤◌, ◌<◌};
 ghost use Rattle.octets.specs.Lists.{iterate};
 ghost use Rattle.generator.specs.Generator.{shifted, next_vector, aes_vector};
 ghost use Rattle.generator.specs.Held.{stages, Holds};
@@ -32,27 +32,22 @@ fn shift(r: u64, k: usize) -> u64
 }
 
 // L(S), the next session's vector.
-pub fn next_vector(vector: &[u8]) -> [u8; 8]
-    requires { length vector.now ≡ 8 }
+pub fn next_vector(vector: &[u8; 8]) -> [u8; 8]
     ensures { result ≡ next_vector vector.now }
 {
     let mut register = number_of(vector);
-    let mut i: usize = 0;
-    while i < 4 {
+    for _ in 0..4usize {
         register = shift(register, 15);
-        i += 1;
     }
     octets_of(shift(register, 4))
 }
 
 // The AES input vector: S, then L(S).
-pub fn aes_vector(vector: &[u8]) -> [u8; 16]
-    requires { length vector.now ≡ 8 }
+pub fn aes_vector(vector: &[u8; 8]) -> [u8; 16]
     ensures { result ≡ aes_vector vector.now }
 {
-    let next = next_vector(vector);
     let mut out = [0u8; 16];
-    octets::copy(vector, &mut out[..8]);
-    octets::copy(&next, &mut out[8..]);
+    out[..8].copy_from_slice(vector);
+    out[8..].copy_from_slice(&next_vector(vector));
     out
 }

@@ -5,17 +5,17 @@ use mathlib.Core.List.{List}
 use Prim.Native.Nat.{ℕ}
 use lib.Dec.{eqb}
 use lib.ListN.{length}
-use borrow.Author.Tests.{eqb-true}
+use borrow.Author.Tests.{eqb-true, eqb-false}
 use Rattle.octets.specs.Tests.{pick}
 use Rattle.octets.specs.Lists.{all_zero}
 use Rattle.octets.proofs.TestLaws.{and_left, and_right, and_false_r}
 use Rattle.octets.proofs.ListLaws.{zeros_are}
-use Rattle.sizes.specs.Ciphers.{vector_octets}
+use Rattle.sizes.specs.Ciphers.{vector_octets, scrambles}
 use Rattle.sizes.proofs.SizeLaws.{no_vector-zero}
 use Rattle.calls.specs.declared.call.Call.{Call}
 use Rattle.calls.specs.Call.{receiving_end, told_vector, closed_tests, open_tests, is_closed, is_open, good_call, Standing, closed, bad, sending, receiving, standing}
 use Rattle.calls.specs.Vector.{awaits}
-use Rattle.calls.proofs.CallLaws.{is_told_lem, stands_bad, by_stands, unless_receiver}
+use Rattle.calls.proofs.CallLaws.{is_told_lem, stands_bad, by_stands, unless_receiver, is_receiver}
 use Rattle.calls.proofs.GoodLaws.{closed_good}
 use Rattle.hearing.specs.declared.Hearing.{Hearing}
 use Rattle.hearing.specs.Hearing.{none_kept, hears, under_way, kept_right, good_hearing, bad_call, call_of, alone, keeping, no_hearing}
@@ -27,15 +27,28 @@ either true true = refl
 either true false = refl
 either false b = refl
 
-module _ (c : Call) (good : good_call c ≡ true) where
-  pub hears-not : (c.end ≡ receiving_end → ⊥) → hears (standing c) ≡ false
-  hears-not = unless_receiver c good hears refl (λ t p v. refl)
+module _ (c : Call) where
+  pub hears_by : good_call c ≡ true → hears (standing c) ≡ (eqb c.end receiving_end && not (scrambles c.terms.cipher))
+  hears_by good = go (eqb c.end receiving_end) refl
+    where
+      go : (t : Bool) → eqb c.end receiving_end ≡ t → hears (standing c) ≡ (t && not (scrambles c.terms.cipher))
+      go true e = rw (is_receiver c good (eqb-true _ _ e))
+      go false e = unless_receiver c good hears refl (λ t p v. refl) (eqb-false _ _ e)
 
   -- past its session's first slot, or told that session's vector
-  pub under-is : hears (standing c) ≡ true → under_way (standing c) ≡ (not (eqb c.position 0) || eqb c.known told_vector)
-  under-is h =
+  under-is : good_call c ≡ true → hears (standing c) ≡ true → under_way (standing c) ≡ (not (eqb c.position 0) || eqb c.known told_vector)
+  under-is good h =
       by_stands c good (λ o e s. absurd (true≢false (sym h ∙ ap hears s))) (λ o e s. absurd (true≢false (sym h ∙ ap hears s)))
       (λ o e s. ap under_way s ∙ rw (sym (ap hears s) ∙ h, is_told_lem c.known c.vector) (either (eqb c.position 0) (eqb c.known told_vector)))
+
+  pub under_by : under_way (standing c) ≡ (good_call c && (hears (standing c) && (not (eqb c.position 0) || eqb c.known told_vector)))
+  under_by = go (good_call c) (hears (standing c)) refl refl
+    where
+      go : (g h : Bool) → good_call c ≡ g → hears (standing c) ≡ h
+          → under_way (standing c) ≡ (g && (h && (not (eqb c.position 0) || eqb c.known told_vector)))
+      go true true good hearing = under-is good hearing
+      go true false good deaf = rw deaf
+      go false h wrong e = rw (stands_bad c wrong)
 
 -- a call that waits for its own session's hears of vectors, and is not under way
 pub waits_hears : (s : Standing) → awaits s ≡ true → hears s ≡ true

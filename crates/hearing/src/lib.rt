@@ -4,75 +4,57 @@
 ghost use Rattle.std.specs.Prelude.{◌≡◌, true};
 ghost use Rattle.calls.specs.Call.{good_call, standing};
 ghost use Rattle.hearing.specs.Hearing.{hears, under_way, kept_right, bad_call, call_of, alone, keeping};
-ghost use Rattle.hearing.specs.Heard.{handed, handed_on, heard_of};
+ghost use Rattle.answers.specs.Outcomes.{result_of};
+ghost use Rattle.hearing.specs.Heard.{handed, heard_of};
 
 use answers::Answer;
-use calls::call::{Call, RECEIVING, Stepped, TOLD, good_call, no_call};
+use calls::call::{Call, RECEIVING, TOLD, good_call, no_call};
 use calls::vector::announce;
-use octets::{all_zero, copy};
+use octets::all_zero;
 use sizes::cipher::{Scramble, VECTOR_OCTETS};
 
 // What is kept.
+// Kept: a struct with any number there has its octets, by held's `hearing_in` and `octets_of`, so no Option stands for it.
 pub const NONE: u8 = 0;
 
 pub const ONE: u8 = 1;
 
 // None is kept as zeros, and one only in the middle of a session of DES or AES that is received.
-#[derive(Clone, Copy)]
+#[derive(Clone, Copy, PartialEq, Eq)]
 pub struct Hearing {
     pub call: Call,
     pub kept: u8,
     pub next: [u8; VECTOR_OCTETS],
 }
 
-// What an operation answers, and what it leaves.
-#[derive(Clone, Copy)]
-pub struct Carried {
-    pub answer: Answer,
-    pub hearing: Hearing,
-}
-
 // ---- the rules
 
 // Whether the call hears of vectors.
+#[tactic(auto, using(crate::proofs::HearingLaws::hears_by))]
 fn is_hearing(call: Call) -> bool
     requires { good_call call ≡ true }
     ensures { result ≡ hears (standing call) }
 {
-    if call.end != RECEIVING {
-        return false;
-    }
-    call.terms.cipher != Scramble::TYPE
+    call.end == RECEIVING && call.terms.cipher != Scramble::TYPE
 }
 
 // Whether what it hears now is the next session's.
+#[tactic(auto, using(crate::proofs::HearingLaws::under_by))]
 fn is_under_way(call: Call) -> bool
     ensures { result ≡ under_way (standing call) }
 {
-    if !good_call(call) {
-        return false;
-    }
-    if !is_hearing(call) {
-        return false;
-    }
-    if call.position != 0 {
-        return true;
-    }
-    call.known == TOLD
+    good_call(call) && is_hearing(call) && (call.position != 0 || call.known == TOLD)
 }
 
+#[tactic(auto, unfolding(crate::specs::Hearing::kept_right))]
 fn kept_right(hearing: Hearing) -> bool
     ensures { result ≡ kept_right hearing.kept hearing.next (standing hearing.call) }
 {
-    if hearing.kept == NONE {
-        let next = hearing.next;
-        return all_zero(&next);
+    match hearing.kept {
+        NONE => all_zero(&hearing.next),
+        ONE => is_under_way(hearing.call),
+        _ => false,
     }
-    if hearing.kept != ONE {
-        return false;
-    }
-    let call = hearing.call;
-    is_under_way(call)
 }
 
 // ---- the call that it is
@@ -81,11 +63,13 @@ fn kept_right(hearing: Hearing) -> bool
 fn bad_call() -> Call
     ensures { result ≡ bad_call }
 {
-    let mut call = no_call();
-    call.end = 255;
-    call
+    Call {
+        end: 255,
+        ..no_call()
+    }
 }
 
+#[tactic(auto, unfolding(crate::specs::Hearing::call_of))]
 pub fn call_of(hearing: Hearing) -> Call
     ensures { result ≡ call_of hearing }
 {
@@ -108,6 +92,7 @@ fn alone(call: Call) -> Hearing
 }
 
 // A vector that was heard, when the call has come to this.
+#[tactic(auto, unfolding(crate::specs::Heard::handed))]
 fn hand_on(call: Call, vector: [u8; VECTOR_OCTETS]) -> Hearing
     ensures { result ≡ handed 1 vector call }
 {
@@ -118,63 +103,34 @@ fn hand_on(call: Call, vector: [u8; VECTOR_OCTETS]) -> Hearing
             next: vector,
         };
     }
-    let told = announce(call, &vector);
-    let after = told.call;
-    alone(after)
+    // A call that awaits no vector now goes on as it is.
+    alone(announce(call, &vector).unwrap_or(call))
 }
 
-// What is kept, after an operation on the call.
-pub fn carry(before: Hearing, stepped: Stepped) -> Carried
-    ensures { (result.answer ≡ stepped.answer) × (result.hearing ≡ handed_on before stepped.answer stepped.call) }
+// What is kept, after an operation that left this call: one that was done, or a slot that was held. What is refused changes nothing.
+#[tactic(auto, unfolding(crate::specs::Heard::handed))]
+pub fn carry(before: Hearing, call: Call) -> Hearing
+    ensures { result ≡ handed before.kept before.next call }
 {
-    let answer = stepped.answer;
-    if answer.number() > 1 {
-        return Carried {
-            answer,
-            hearing: before,
-        };
-    }
-    let call = stepped.call;
     if before.kept != ONE {
-        return Carried {
-            answer,
-            hearing: alone(call),
-        };
+        return alone(call);
     }
-    let next = before.next;
-    Carried {
-        answer,
-        hearing: hand_on(call, next),
-    }
-}
-
-fn refused(answer: Answer, before: Hearing) -> Carried
-    ensures { (result.answer ≡ answer) × (result.hearing ≡ before) }
-{
-    Carried {
-        answer,
-        hearing: before,
-    }
+    hand_on(call, before.next)
 }
 
 // A vector is heard. The last one counts.
-pub fn heard(before: Hearing, vector: &[u8]) -> Carried
-    ensures { (result.answer, result.hearing) ≡ heard_of before vector.now }
+pub fn heard(before: Hearing, vector: &[u8]) -> Result<Hearing, Answer>
+    ensures { result ≡ result_of (heard_of before vector.now) }
 {
-    if vector.len() != VECTOR_OCTETS {
-        return refused(Answer::WrongLength, before);
-    }
+    let Ok(next) = <[u8; VECTOR_OCTETS]>::try_from(vector) else {
+        return Err(Answer::WrongLength);
+    };
     let call = call_of(before);
     if !good_call(call) {
-        return refused(Answer::Bad, before);
+        return Err(Answer::Bad);
     }
     if !is_hearing(call) {
-        return refused(Answer::NotNow, before);
+        return Err(Answer::NotNow);
     }
-    let mut next = [0; VECTOR_OCTETS];
-    copy(vector, &mut next);
-    Carried {
-        answer: Answer::Done,
-        hearing: hand_on(call, next),
-    }
+    Ok(hand_on(call, next))
 }

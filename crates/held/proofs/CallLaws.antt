@@ -8,7 +8,6 @@ use lib.Seq.{take_all, drop-cons, length-take-le}
 use borrow.Rule.Slice.PartMut.{put_mid}
 use Rattle.octets.specs.Bits.{Octets}
 use Rattle.octets.proofs.BitLaws.{octets_append}
-use Rattle.octets.proofs.Front.{put_both}
 use Rattle.sizes.specs.Ciphers.{key_room, vector_octets}
 use Rattle.calls.specs.declared.counts.Counts.{Counts}
 use Rattle.calls.specs.declared.call.Terms.{Terms}
@@ -19,7 +18,7 @@ use Rattle.hearing.specs.Hearing.{no_hearing}
 use Rattle.held.specs.Number.{four_of}
 use Rattle.held.specs.Call.{call_octets, counts_at, key_at, next_at, vector_at, counts_laid, octets_of, terms_in, counts_in, hearing_in}
 use Rattle.held.proofs.NumberLaws.{four_sum, four_behind, four_written, four_small, four_octets}
-use Rattle.held.proofs.RowLaws.{put_fours, part_between, part_and-rest}
+use Rattle.held.proofs.RowLaws.{put_four, part_between, part_and-rest}
 
 -- its numbers fit four octets each
 pub record FourOctets (n : Counts) : Type 0 where
@@ -208,12 +207,6 @@ pub reads : (o : List ℕ) {v w : List ℕ} {t : Terms} {n : Counts} → v ≡ t
 unfolding hearing_in
 reads o p q r s = same_hearing (hearing_in o) p q r s
 
-pub writes_counts : (o : List ℕ) (n : Counts) {a b c d : List ℕ} → length o ≡ 16
-    → a ≡ four_of n.opened → b ≡ four_of n.held → c ≡ four_of n.replaced → d ≡ four_of n.lost
-    → put_mid 12 4 (put_mid 8 4 (put_mid 4 4 (put_mid 0 4 o a) b) c) d ≡ counts_laid n
-writes_counts o n l p q r s =
-    put_fours o (four_of n.opened) (four_of n.held) (four_of n.replaced) (four_of n.lost) refl refl refl refl l _ _ _ _ p q r s
-
 -- the seven numbers
 abbrev stored : Hearing → List ℕ → List ℕ
 stored h o =
@@ -224,14 +217,12 @@ module _ (o : List ℕ) (long : length o ≡ call_octets) (h : Hearing) where
   is-stored : stored h o ≡ before h (drop vector_at o)
   is-stored = ap (stored h) (sym (numbers o long))
 
-  abbrev lists : List ℕ
-  lists = h.call.vector ++ (h.next ++ h.call.terms.key)
-
-  pub writes : {m c : List ℕ} → length m ≡ 48 → m ≡ lists → c ≡ counts_laid h.call.counts
-      → put_mid 55 16 (put_mid 7 48 (stored h o) m) c ≡ octets_of h
+  pub writes : length h.call.vector ≡ vector_octets → length h.next ≡ vector_octets → length h.call.terms.key ≡ key_room
+      → {x y z c : List ℕ} → x ≡ h.call.vector → y ≡ h.next → z ≡ h.call.terms.key → c ≡ counts_laid h.call.counts
+      → put_mid 55 16 (put_mid 23 32 (put_mid 15 8 (put_mid 7 8 (stored h o) x) y) z) c ≡ octets_of h
   unfolding octets_of
-  writes {m} {c} size is-lists is-counts =
+  writes lv ln lk {x} {y} {z} {c} p q r s =
       let n = counts_laid h.call.counts in
-      let e : put_mid 48 16 (put_mid 0 48 (drop 7 o) m) c ≡ lists ++ n =
-      put_both (drop 7 o) lists n 48 16 (ap length (sym is-lists) ∙ size) refl (simp length-drop (omega arith)) m is-lists c is-counts in
-      ap (λ (l : List ℕ). put_mid 55 16 (put_mid 7 48 l m) c) is-stored ∙ ap (before h) e ∙ ap (before h) (simp append_assoc)
+      let e : put_mid 48 16 (put_mid 16 32 (put_mid 8 8 (put_mid 0 8 (drop 7 o) x) y) z) c ≡ h.call.vector ++ (h.next ++ (h.call.terms.key ++ n)) =
+      put_four (drop 7 o) h.call.vector h.next h.call.terms.key n 8 8 32 16 lv ln lk refl (simp length-drop (omega arith)) x y z c p q r s in
+      ap (λ (l : List ℕ). put_mid 55 16 (put_mid 23 32 (put_mid 15 8 (put_mid 7 8 l x) y) z) c) is-stored ∙ ap (before h) e

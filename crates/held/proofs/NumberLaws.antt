@@ -1,10 +1,10 @@
 -- A number and its octets: what is written is read back, and octets that are read as a number are what is written of it.
-use mathlib.Core.Path.{◌≡◌, refl, sym, ap, ◌∙◌}
+use mathlib.Core.Path.{◌≡◌, sym, ap, ◌∙◌}
 use mathlib.Core.List.{List, [], ◌∷◌, ◌++◌}
 use Prim.Native.Nat.{ℕ, zero, suc, ◌+◌, ◌*◌, ◌/◌, ◌%◌, ◌≤◌, ◌<◌}
 use native.Mathlib.Nat.{div-div-eq-div-mul}
 use native.Mathlib.Omega.{arith}
-use lib.ListN.{length, get_or, take, drop, set}
+use lib.ListN.{length, get_or, take, drop}
 use lib.Seq.{get_or-append-add}
 use Rattle.octets.specs.Bits.{Octets}
 use Rattle.held.specs.Number.{two_of, four_of, two_at, four_at}
@@ -103,19 +103,3 @@ module _ (o : List ℕ) (i : ℕ) (octets : Octets o) where
       let d = drop-next o (i + 3) (i + 4) (omega arith) (omega arith) in
       let e : drop i o ≡ get_or o i 0 ∷ get_or o (i + 1) 0 ∷ get_or o (i + 2) 0 ∷ get_or o (i + 3) 0 ∷ drop (i + 4) o = cc in
       four_digits _ _ _ _ (octets i) (octets (i + 1)) (octets (i + 2)) (octets (i + 3)) ∙ ap (take 4) (sym e)
-
--- ---- as the code writes
-
-pub writes_two : (o : List ℕ) (a b : ℕ) → length o ≡ 2 → set (set o 0 a) 1 b ≡ a ∷ b ∷ []
-writes_two [] a b l = absurd (omega arith)
-writes_two (_ ∷ []) a b l = absurd (omega arith)
-writes_two (_ ∷ _ ∷ []) a b l = refl
-writes_two (_ ∷ _ ∷ _ ∷ _) a b l = absurd (omega arith)
-
-pub writes_four : (o : List ℕ) (a b c d : ℕ) → length o ≡ 4 → set (set (set (set o 0 a) 1 b) 2 c) 3 d ≡ a ∷ b ∷ c ∷ d ∷ []
-writes_four [] a b c d l = absurd (omega arith)
-writes_four (_ ∷ []) a b c d l = absurd (omega arith)
-writes_four (_ ∷ _ ∷ []) a b c d l = absurd (omega arith)
-writes_four (_ ∷ _ ∷ _ ∷ []) a b c d l = absurd (omega arith)
-writes_four (_ ∷ _ ∷ _ ∷ _ ∷ []) a b c d l = refl
-writes_four (_ ∷ _ ∷ _ ∷ _ ∷ _ ∷ _) a b c d l = absurd (omega arith)

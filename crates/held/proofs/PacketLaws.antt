@@ -8,14 +8,13 @@ use lib.Seq.{take_all, drop_at, drop-cons, length-take-le}
 use borrow.Rule.Slice.PartMut.{put_mid}
 use Rattle.octets.specs.Bits.{Octets}
 use Rattle.octets.proofs.BitLaws.{octets_append}
-use Rattle.octets.proofs.Front.{put_both}
 use Rattle.sizes.specs.Ciphers.{key_room, vector_octets}
 use Rattle.data.specs.declared.packet.Packet.{Packet}
 use Rattle.data.specs.Packet.{no_packet}
 use Rattle.held.specs.Number.{two_of, two_at}
 use Rattle.held.specs.Packet.{packet_octets, key_at, vector_at, octets_of, packet_in}
 use Rattle.held.proofs.NumberLaws.{two-sum, two-written, two_small, two-octets}
-use Rattle.held.proofs.RowLaws.{part_between, part_and-rest}
+use Rattle.held.proofs.RowLaws.{put_three, part_between, part_and-rest}
 
 -- as long as its octets have room for, which every struct of the code is
 pub record PacketSized (p : Packet) : Type 0 where
@@ -114,11 +113,10 @@ module _ (o : List ℕ) (long : length o ≡ packet_octets) (p : Packet) where
   is-stored : stored p o ≡ p.kind ∷ p.cipher ∷ drop 2 o
   is-stored = ap (stored p) (sym (numbers o long))
 
-  pub writes : {n m : List ℕ} → length m ≡ 40 → n ≡ two_of p.count → m ≡ p.vector ++ p.key
-      → put_mid 4 40 (put_mid 2 2 (stored p o) n) m ≡ octets_of p
+  pub writes : length p.vector ≡ vector_octets → length p.key ≡ key_room → {n v k : List ℕ} → n ≡ two_of p.count → v ≡ p.vector → k ≡ p.key
+      → put_mid 12 32 (put_mid 4 8 (put_mid 2 2 (stored p o) n) v) k ≡ octets_of p
   unfolding octets_of
-  writes {n} {m} size is-count is-lists =
-      let e : put_mid 2 40 (put_mid 0 2 (drop 2 o) n) m ≡ two_of p.count ++ (p.vector ++ p.key) =
-      put_both (drop 2 o) (two_of p.count) (p.vector ++ p.key) 2 40 refl (ap length (sym is-lists) ∙ size) (simp length-drop (omega arith))
-      n is-count m is-lists in
-      ap (λ (l : List ℕ). put_mid 4 40 (put_mid 2 2 l n) m) is-stored ∙ ap (λ (l : List ℕ). p.kind ∷ p.cipher ∷ l) e
+  writes lv lk {n} {v} {k} q r s =
+      let e : put_mid 10 32 (put_mid 2 8 (put_mid 0 2 (drop 2 o) n) v) k ≡ two_of p.count ++ (p.vector ++ p.key) =
+      put_three (drop 2 o) (two_of p.count) p.vector p.key 2 8 32 refl lv lk (simp length-drop (omega arith)) n v k q r s in
+      ap (λ (l : List ℕ). put_mid 12 32 (put_mid 4 8 (put_mid 2 2 l n) v) k) is-stored ∙ ap (λ (l : List ℕ). p.kind ∷ p.cipher ∷ l) e

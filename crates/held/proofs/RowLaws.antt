@@ -28,16 +28,16 @@ module _ (d a b c : List ℕ) (i j k : ℕ) (la : length a ≡ i) (lb : length b
       ∙ ap (λ (l : List ℕ). x ++ l) (put_both (drop i d) b c j k lb lc (simp length-drop (omega arith)) y q z r)
       ∙ ap (λ (l : List ℕ). l ++ (b ++ c)) p
 
--- four parts of four octets
-module _ (d a b c e : List ℕ) (la : length a ≡ 4) (lb : length b ≡ 4) (lc : length c ≡ 4) (le : length e ≡ 4) (long : length d ≡ 16) where
-  pub put_fours : (w x y z : List ℕ) → w ≡ a → x ≡ b → y ≡ c → z ≡ e
-      → put_mid 12 4 (put_mid 8 4 (put_mid 4 4 (put_mid 0 4 d w) x) y) z ≡ a ++ (b ++ (c ++ e))
-  put_fours w x y z p q r s =
-      let lw : length w ≡ 4 = ap length p ∙ la in
-      ap (λ (l : List ℕ). put_mid 12 4 (put_mid 8 4 l y) z) (put_next w (drop 4 d) x 4 4 lw)
-      ∙ ap (λ (l : List ℕ). put_mid 12 4 l z) (put-behind w (put_mid 0 4 (drop 4 d) x) y 4 4 4 lw)
-      ∙ put-behind w (put_mid 4 4 (put_mid 0 4 (drop 4 d) x) y) z 4 8 4 lw
-      ∙ ap (λ (l : List ℕ). w ++ l) (put_three (drop 4 d) b c e 4 4 4 lb lc le (simp length-drop (omega arith)) x y z q r s)
+-- four parts, over all of a list
+module _ (d a b c e : List ℕ) (i j k m : ℕ) (la : length a ≡ i) (lb : length b ≡ j) (lc : length c ≡ k) (le : length e ≡ m) (long : length d ≡ i + (j + (k + m))) where
+  pub put_four : (w x y z : List ℕ) → w ≡ a → x ≡ b → y ≡ c → z ≡ e
+      → put_mid (i + (j + k)) m (put_mid (i + j) k (put_mid i j (put_mid 0 i d w) x) y) z ≡ a ++ (b ++ (c ++ e))
+  put_four w x y z p q r s =
+      let lw : length w ≡ i = ap length p ∙ la in
+      ap (λ (l : List ℕ). put_mid (i + (j + k)) m (put_mid (i + j) k l y) z) (put_next w (drop i d) x i j lw)
+      ∙ ap (λ (l : List ℕ). put_mid (i + (j + k)) m l z) (put-behind w (put_mid 0 j (drop i d) x) y i j k lw)
+      ∙ put-behind w (put_mid j k (put_mid 0 j (drop i d) x) y) z i (j + k) m lw
+      ∙ ap (λ (l : List ℕ). w ++ l) (put_three (drop i d) b c e j k m lb lc le (simp length-drop (omega arith)) x y z q r s)
       ∙ ap (λ (l : List ℕ). l ++ (b ++ (c ++ e))) p
 
 -- ---- read

@@ -7,7 +7,6 @@ use crate::number::{four_at, write_four};
 use calls::call::{Call, Terms};
 use calls::counts::Counts;
 use hearing::Hearing;
-use octets::copy;
 use sizes::cipher::{KEY_ROOM, VECTOR_OCTETS};
 
 const END: usize = 0;
@@ -36,12 +35,11 @@ pub const CALL_OCTETS: usize = COUNTS + 16;
 
 // ---- read
 
-fn terms_in(octets: &[u8]) -> Terms
-    requires { length octets.now ≡ call_octets }
+fn terms_in(octets: &[u8; CALL_OCTETS]) -> Terms
     ensures { result ≡ terms_in octets.now }
 {
     let mut key = [0; KEY_ROOM];
-    copy(&octets[KEY..COUNTS], &mut key);
+    key.copy_from_slice(&octets[KEY..COUNTS]);
     Terms {
         cipher: octets[CIPHER],
         key,
@@ -50,8 +48,7 @@ fn terms_in(octets: &[u8]) -> Terms
     }
 }
 
-fn counts_in(octets: &[u8]) -> Counts
-    requires { length octets.now ≡ call_octets }
+fn counts_in(octets: &[u8; CALL_OCTETS]) -> Counts
     ensures { result ≡ counts_in octets.now }
 {
     Counts {
@@ -63,14 +60,13 @@ fn counts_in(octets: &[u8]) -> Counts
 }
 
 // The call that octets hold.
-pub fn read(octets: &[u8]) -> Hearing
-    requires { length octets.now ≡ call_octets }
+pub fn read(octets: &[u8; CALL_OCTETS]) -> Hearing
     ensures { result ≡ hearing_in octets.now }
 {
     let mut vector = [0; VECTOR_OCTETS];
-    copy(&octets[VECTOR..NEXT], &mut vector);
+    vector.copy_from_slice(&octets[VECTOR..NEXT]);
     let mut next = [0; VECTOR_OCTETS];
-    copy(&octets[NEXT..KEY], &mut next);
+    next.copy_from_slice(&octets[NEXT..KEY]);
     Hearing {
         call: Call {
             end: octets[END],
@@ -97,34 +93,12 @@ fn write_counts(part: &mut [u8], counts: Counts)
     write_four(&mut part[12..16], counts.lost);
 }
 
-// The lists by value: their lengths are then known to the proof, which those of a struct's fields are not.
-fn write_lists(
-    part: &mut [u8],
-    vector: [u8; VECTOR_OCTETS],
-    next: [u8; VECTOR_OCTETS],
-    key: [u8; KEY_ROOM],
-)
-    requires { length part.old ≡ vector_octets + (vector_octets + key_room) }
-    ensures { part.new ≡ vector ++ (next ++ key) }
-{
-    copy(&vector, &mut part[0..VECTOR_OCTETS]);
-    copy(&next, &mut part[VECTOR_OCTETS..2 * VECTOR_OCTETS]);
-    copy(
-        &key,
-        &mut part[2 * VECTOR_OCTETS..2 * VECTOR_OCTETS + KEY_ROOM],
-    );
-}
-
 // A call into octets.
 pub fn write(octets: &mut [u8], hearing: Hearing)
     requires { length octets.old ≡ call_octets }
     ensures { octets.new ≡ octets_of hearing }
 {
     let call = hearing.call;
-    let vector = call.vector;
-    let next = hearing.next;
-    let key = call.terms.key;
-    let counts = call.counts;
     octets[END] = call.end;
     octets[CIPHER] = call.terms.cipher;
     octets[RATE] = call.terms.rate;
@@ -132,6 +106,8 @@ pub fn write(octets: &mut [u8], hearing: Hearing)
     octets[POSITION] = call.position;
     octets[KNOWN] = call.known;
     octets[KEPT] = hearing.kept;
-    write_lists(&mut octets[VECTOR..COUNTS], vector, next, key);
-    write_counts(&mut octets[COUNTS..CALL_OCTETS], counts);
+    octets[VECTOR..NEXT].copy_from_slice(&call.vector);
+    octets[NEXT..KEY].copy_from_slice(&hearing.next);
+    octets[KEY..COUNTS].copy_from_slice(&call.terms.key);
+    write_counts(&mut octets[COUNTS..CALL_OCTETS], call.counts);
 }

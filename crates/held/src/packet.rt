@@ -5,7 +5,6 @@ ghost use Rattle.held.specs.Packet.{packet_octets, octets_of, packet_in};
 
 use crate::number::{two_at, write_two};
 use data::packet::Packet;
-use octets::copy;
 use sizes::cipher::{KEY_ROOM, VECTOR_OCTETS};
 
 const KIND: usize = 0;
@@ -21,14 +20,13 @@ const KEY: usize = VECTOR + VECTOR_OCTETS;
 pub const PACKET_OCTETS: usize = KEY + KEY_ROOM;
 
 // The packet that octets hold.
-pub fn read(octets: &[u8]) -> Packet
-    requires { length octets.now ≡ packet_octets }
+pub fn read(octets: &[u8; PACKET_OCTETS]) -> Packet
     ensures { result ≡ packet_in octets.now }
 {
     let mut vector = [0; VECTOR_OCTETS];
-    copy(&octets[VECTOR..KEY], &mut vector);
+    vector.copy_from_slice(&octets[VECTOR..KEY]);
     let mut key = [0; KEY_ROOM];
-    copy(&octets[KEY..PACKET_OCTETS], &mut key);
+    key.copy_from_slice(&octets[KEY..PACKET_OCTETS]);
     Packet {
         kind: octets[KIND],
         cipher: octets[CIPHER],
@@ -38,24 +36,14 @@ pub fn read(octets: &[u8]) -> Packet
     }
 }
 
-// The lists by value: their lengths are then known to the proof, which those of a struct's fields are not.
-fn write_lists(part: &mut [u8], vector: [u8; VECTOR_OCTETS], key: [u8; KEY_ROOM])
-    requires { length part.old ≡ vector_octets + key_room }
-    ensures { part.new ≡ vector ++ key }
-{
-    copy(&vector, &mut part[0..VECTOR_OCTETS]);
-    copy(&key, &mut part[VECTOR_OCTETS..VECTOR_OCTETS + KEY_ROOM]);
-}
-
 // A packet into octets.
 pub fn write(octets: &mut [u8], packet: Packet)
     requires { length octets.old ≡ packet_octets }
     ensures { octets.new ≡ octets_of packet }
 {
-    let vector = packet.vector;
-    let key = packet.key;
     octets[KIND] = packet.kind;
     octets[CIPHER] = packet.cipher;
     write_two(&mut octets[COUNT..VECTOR], packet.count);
-    write_lists(&mut octets[VECTOR..PACKET_OCTETS], vector, key);
+    octets[VECTOR..KEY].copy_from_slice(&packet.vector);
+    octets[KEY..PACKET_OCTETS].copy_from_slice(&packet.key);
 }

@@ -13,7 +13,7 @@ ghost use Rattle.joineddes.specs.Joined.{bits_in, joined_tables, joined_f, entry
 
 use des::tables::{LEFT_SHIFTS, PC2};
 use des::{HALF, first_state, permute, twice};
-use octets::{copy, number_of, octets_of, wide};
+use octets::{number_of, octets_of};
 use tables::JOINED;
 
 // The halves of a block past the initial permutation. They are carried from a block to the one that is made of it.
@@ -23,11 +23,13 @@ pub struct Carried {
     pub right: u32,
 }
 
-// The joined tables. They are made once for a keystream: a constant is made anew wherever it is read.
-pub fn joined_tables() -> [u32; 512]
-    ensures { result ≡ joined_tables }
-{
-    JOINED
+// A key for the blocks that come: the joined tables, which are made once for a keystream, since a constant is made anew wherever it is read, and the keys of the
+// sixteen rounds, two numbers to each.
+#[derive(Clone, Copy)]
+pub struct PreparedKey {
+    pub tables: [u32; 512],
+    pub keys: [u32; 32],
+    ghost joined: { tables ≡ joined_tables },
 }
 
 // ---- the initial permutation and its inverse
@@ -53,6 +55,7 @@ fn initial(x: u64) -> u64
 }
 
 // The same exchanges, the last one first.
+// Kept: the new form is no plainer: for one function the five exchanges would be a list that is gone over from either end.
 fn inverse(x: u64) -> u64
     ensures { bits_in 64 result ≡ permuted ip⁻¹ (bits_in 64 x) }
 {
@@ -92,107 +95,102 @@ fn entry_place(even: u32, odd: u32, i: usize) -> usize
     64 * i + six(odd, i / 2)
 }
 
-// f(R, K). E is eight windows of R, of six bits and four apart: R rolled by 31 places has each second one in the top of an octet, and rolled by 3 the others.
-fn cipher_function(tables: &[u32], right: u32, even: u32, odd: u32) -> u32
-    requires { tables.now ≡ joined_tables }
-    ensures { bits_in 32 result ≡ joined_f (bits_in 32 right) (box_bits even odd) }
-{
-    let first = roll(right, 31) ^ even;
-    let second = roll(right, 3) ^ odd;
-    let mut sum: u32 = 0;
-    let mut i = 0;
-    while i < 8 {
-        sum = sum ^ tables[entry_place(first, second, i)];
-        i += 1;
+impl Carried {
+    // The halves of a block.
+    pub fn of(block: &[u8; 8]) -> Carried
+        ensures { halves_in result ≡ first_halves block.now }
+    {
+        let x = initial(number_of(block));
+        Carried {
+            left: (x >> 32) as u32,
+            right: (x % 4294967296) as u32,
+        }
     }
-    sum
-}
 
-// The halves of the block that is made of a block with these: after sixteen rounds, in the other order.
-pub fn carry_on(tables: &[u32], keys: &[u32], halves: Carried) -> Carried
-    requires { (tables.now ≡ joined_tables) × (length keys.now ≡ 32) }
-    ensures { halves_in result ≡ carried_on (keys_in keys.now) (halves_in halves) }
-{
-    let mut left = halves.left;
-    let mut right = halves.right;
-    let mut n = 0;
-    while n < 16 {
-        let next = left ^ cipher_function(tables, right, keys[2 * n], keys[2 * n + 1]);
-        left = right;
-        right = next;
-        n += 1;
-    }
-    Carried {
-        left: right,
-        right: left,
+    // The block of halves, as a number.
+    pub fn block(self) -> u64
+        ensures { (k : ℕ) → k < 64 → result / 2 ^ (63 - k) % 2 ≡ bit (block_of (halves_in self)) k }
+    {
+        inverse((u64::from(self.left) << 32) + u64::from(self.right))
     }
 }
 
-// The halves of a block.
-pub fn first_halves(block: &[u8]) -> Carried
-    requires { length block.now ≡ 8 }
-    ensures { halves_in result ≡ first_halves block.now }
-{
-    let x = initial(number_of(block));
-    Carried {
-        left: (x >> 32) as u32,
-        right: (x % 4294967296) as u32,
+impl PreparedKey {
+    // Prepares a key.
+    pub fn new(key: &[u8; 8]) -> PreparedKey
+        ensures { Scheduled key.now result.keys }
+    {
+        PreparedKey {
+            tables: JOINED,
+            keys: round_keys(key),
+        }
     }
-}
 
-// The block of halves, as a number.
-pub fn block_of(halves: Carried) -> u64
-    ensures { (k : ℕ) → k < 64 → result / 2 ^ (63 - k) % 2 ≡ bit (block_of (halves_in halves)) k }
-{
-    inverse(((halves.left as u64) << 32) + (halves.right as u64))
-}
+    // Enciphers a block in place.
+    pub fn encipher(&self, block: &mut [u8; 8])
+        ensures { (key : List ℕ) → Scheduled key self.now.keys → block.new ≡ joined_des key block.old }
+    {
+        let halves = self.carry_on(Carried::of(block));
+        *block = octets_of(halves.block());
+    }
 
-// Enciphers a block in place, under the key that was prepared.
-pub fn encipher(tables: &[u32], keys: &[u32], block: &mut [u8])
-    requires { (tables.now ≡ joined_tables) × (length keys.now ≡ 32) × (length block.old ≡ 8) }
-    ensures { (key : List ℕ) → Scheduled key keys.now → block.new ≡ joined_des key block.old }
-{
-    let halves = carry_on(tables, keys, first_halves(block));
-    let out = octets_of(block_of(halves));
-    copy(&out, block);
+    // The halves of the block that is made of a block with these: after sixteen rounds, in the other order.
+    pub fn carry_on(&self, halves: Carried) -> Carried
+        ensures { halves_in result ≡ carried_on (keys_in self.now.keys) (halves_in halves) }
+    {
+        let Carried {
+            mut left,
+            mut right,
+        } = halves;
+        for n in 0..16 {
+            let next = left ^ self.cipher_function(right, self.keys[2 * n], self.keys[2 * n + 1]);
+            left = right;
+            right = next;
+        }
+        Carried {
+            left: right,
+            right: left,
+        }
+    }
+
+    // f(R, K). E is eight windows of R, of six bits and four apart: R rolled by 31 places has each second one in the top of an octet, and rolled by 3 the others.
+    fn cipher_function(&self, right: u32, even: u32, odd: u32) -> u32
+        ensures { bits_in 32 result ≡ joined_f (bits_in 32 right) (box_bits even odd) }
+    {
+        let first = roll(right, 31) ^ even;
+        let second = roll(right, 3) ^ odd;
+        let mut sum = 0;
+        for i in 0..8 {
+            sum ^= self.tables[entry_place(first, second, i)];
+        }
+        sum
+    }
 }
 
 // ---- the key schedule
 
-// Six bits as one number.
-fn number_of_six(a: u8, b: u8, c: u8, d: u8, e: u8, f: u8) -> u32
-    requires { (a < 2) × (b < 2) × (c < 2) × (d < 2) × (e < 2) × (f < 2) }
-    ensures { (result ≡ 32 * a + 16 * b + 8 * c + 4 * d + 2 * e + f) × (result < 64) }
-{
-    (32 * a + 16 * b + 8 * c + 4 * d + 2 * e + f) as u32
-}
-
 // The six bits from a place on, in the top of an octet.
-fn top_six(bits: &[u8], o: usize) -> u32
-    requires { (o + 6 ≤ length bits.now) × Bits (λ k. get_or bits.now k 0) }
+fn top_six(bits: &[u8; 48], o: usize) -> u32
+    requires { (o + 6 ≤ 48) × Bits (λ k. get_or bits.now k 0) }
     ensures { (result < 256) × ((q : ℕ) → q < 6 → result / 2 ^ (7 - q) % 2 ≡ get_or bits.now (o + q) 0) }
 {
-    let number = number_of_six(
-        bits[o],
-        bits[o + 1],
-        bits[o + 2],
-        bits[o + 3],
-        bits[o + 4],
-        bits[o + 5],
-    );
-    4 * number
+    let number = 32 * bits[o]
+        + 16 * bits[o + 1]
+        + 8 * bits[o + 2]
+        + 4 * bits[o + 3]
+        + 2 * bits[o + 4]
+        + bits[o + 5];
+    4 * u32::from(number)
 }
 
 // The bits of each second box, from box 0 on or from box 1 on, of a round's key.
-fn key_number(bits: &[u8], first: usize) -> u32
-    requires { (length bits.now ≡ 48) × Bits (λ k. get_or bits.now k 0) × (first < 2) }
+fn key_number(bits: &[u8; 48], first: usize) -> u32
+    requires { Bits (λ k. get_or bits.now k 0) × (first < 2) }
     ensures { (i q : ℕ) → i < 4 → q < 6 → result / 2 ^ (31 - (8 * i + q)) % 2 ≡ get_or bits.now (6 * (2 * i + first) + q) 0 }
 {
-    let mut number: u32 = 0;
-    let mut i = 0;
-    while i < 4 {
+    let mut number = 0;
+    for i in 0..4 {
         number = (number << 8) + top_six(bits, 6 * (2 * i + first));
-        i += 1;
     }
     number
 }
@@ -203,8 +201,7 @@ const TWICE: usize = 2 * HALF;
 const BOTH: usize = 2 * TWICE;
 
 // C and D of a key before the first shift, each twice over, so that each of their shifts stands in them.
-fn halves_twice(key: &[u8]) -> [u8; BOTH]
-    requires { length key.now ≡ 8 }
+fn halves_twice(key: &[u8; 8]) -> [u8; BOTH]
     ensures { result ≡ twice_over (tab (bit key.now) 64) }
 {
     let cd = first_state(key);
@@ -214,10 +211,11 @@ fn halves_twice(key: &[u8]) -> [u8; BOTH]
     halves
 }
 
-// The key of a round, by C and D twice over, permuted choice 2 and how far the round has them shifted. The plain engine reads it so too, out of a prepared key:
-// with one reader for both, the plain engine's blocks take 1.6 times as long, since the compiler then lays it out of line.
-fn round_bits(halves: &[u8], places: &[u8], shifts: usize) -> [u8; 48]
-    requires { (length halves.now ≡ 112) × (places.now ≡ pc_2) × (shifts ≤ 28) }
+// The key of a round, by C and D twice over, permuted choice 2 and how far the round has them shifted.
+// Kept: the plain engine reads it so too, out of a prepared key. One reader for both was tried, and it misses the bar of speed: the plain engine's blocks take
+// 1.6 times as long, since the compiler then lays it out of line.
+fn round_bits(halves: &[u8; BOTH], places: &[u8; 48], shifts: usize) -> [u8; 48]
+    requires { (places.now ≡ pc_2) × (shifts ≤ 28) }
     ensures { (key : List ℕ) (n : ℕ) → n < 16 → halves.now ≡ twice_over key → shifts ≡ shifts_to (suc n) → result ≡ round_key key n }
 {
     let d = shifts + HALF;
@@ -227,23 +225,19 @@ fn round_bits(halves: &[u8], places: &[u8], shifts: usize) -> [u8; 48]
     bits
 }
 
-// Prepares a key: the keys of its sixteen rounds, two numbers to each.
-pub fn prepare(key: &[u8]) -> [u32; 32]
-    requires { length key.now ≡ 8 }
+// The keys of a key's sixteen rounds, two numbers to each.
+fn round_keys(key: &[u8; 8]) -> [u32; 32]
     ensures { Scheduled key.now result }
 {
     let halves = halves_twice(key);
     let places = PC2;
-    let left_shifts = LEFT_SHIFTS;
-    let mut keys = [0u32; 32];
+    let mut keys = [0; 32];
     let mut shifts = 0;
-    let mut n = 0;
-    while n < 16 {
-        shifts += wide(left_shifts[n]);
+    for (n, shift) in LEFT_SHIFTS.iter().enumerate() {
+        shifts += usize::from(*shift);
         let bits = round_bits(&halves, &places, shifts);
         keys[2 * n] = key_number(&bits, 0);
         keys[2 * n + 1] = key_number(&bits, 1);
-        n += 1;
     }
     keys
 }

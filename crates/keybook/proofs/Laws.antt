@@ -13,7 +13,7 @@ use Rattle.octets.proofs.TestLaws.{first-is, first_holds, first-all, first-befor
 use Rattle.answers.specs.declared.Answer.{Answer}
 use Rattle.answers.specs.declared.Answer.TheVariants.{Done, NoEntry}
 use Rattle.answers.specs.Numbers.{is_done}
-use Rattle.answers.specs.Outcomes.{Refusals, outcome}
+use Rattle.answers.specs.Outcomes.{Refusals, outcome, result_of}
 use Rattle.answers.proofs.OutcomeLaws.{NoneHolds, none_left, done_none, none_settles, by_refusals, refusal_keeps, one-outcome}
 use Rattle.sizes.specs.Ciphers.{key_octets, key_room}
 use Rattle.ciphers.specs.Keys.{key_allowed, key_right}
@@ -24,7 +24,7 @@ use Rattle.keyentry.proofs.NameLaws.{name_is_long, name_is-right}
 use Rattle.keyentry.proofs.WriteLaws.{in_range_used, key-length, ready-whole, blank-length, blank-cipher}
 use Rattle.keybook.specs.Book.{entries, entry_of, with_entry, good_book, find_entry, free_entry, book_refusals}
 use Rattle.keybook.specs.Operations.{has_entry, entry_for, with_for, begin_refusals, begin_after, begin_of, add_refusals, add_of, finish_refusals, finish_of, entry_refusals, erase_of, load_of, no_key, ready_refusals, ready_key_of}
-use Rattle.keybook.specs.declared.Ready.{Ready}
+use Rattle.std.specs.Prelude.{Result}
 use Rattle.keybook.proofs.GoodLaws.{good_sized, found_for, entry_same}
 use Rattle.keybook.proofs.FindLaws.{gone}
 use Rattle.keybook.proofs.OperationLaws.{in_range_by}
@@ -210,7 +210,5 @@ module _ (b : List ℕ) (c i : ℕ) (a a' : Answer) (x y : List ℕ) where
   pub one_load : (name key : List ℕ) → (a, x) ≡ load_of b c i name key → (a', y) ≡ load_of b c i name key → (a ≡ a') × (x ≡ y)
   one_load name key = one-outcome a a' x y
 
-pub one-ready-key : (b : List ℕ) (c i : ℕ) (r s : Ready) → (r.answer, r.key) ≡ ready_key_of b c i → (s.answer, s.key) ≡ ready_key_of b c i → r ≡ s
-one-ready-key b c i r s p q =
-    let e = one-outcome r.answer s.answer r.key s.key p q in
-    ap₂ (λ (x : Answer) (k : List ℕ). record { answer = x; key = k }) e.0 e.1
+pub one-ready-key : (b : List ℕ) (c i : ℕ) (r s : Result (List ℕ) Answer) → r ≡ result_of (ready_key_of b c i) → s ≡ result_of (ready_key_of b c i) → r ≡ s
+one-ready-key b c i r s p q = p ∙ sym q

@@ -7,9 +7,12 @@ use borrow.Author.Tests.{eqb-true}
 use Rattle.answers.specs.declared.Answer.{Answer}
 use Rattle.answers.specs.declared.Answer.TheVariants.{Done}
 use Rattle.answers.specs.Numbers.{number_of, is_done}
+use Rattle.std.specs.Prelude.{Result, Ok, Err, is_err}
+use Rattle.answers.specs.Outcomes.{done_of}
 use Rattle.answers.proofs.NumberLaws.{one_number}
+use Rattle.answers.proofs.ResultLaws.{is_done_with, is_refused_with, refused_with, done_with}
 use Rattle.keyentry.specs.Entry.{is_ready, name_in}
-use Rattle.keybook.specs.Operations.{entry_for, begin_of, add_of, finish_of, erase_of, load_of}
+use Rattle.keybook.specs.Operations.{entry_for, begin_of, add_of, finish_of, erase_of, if_done, or_erased, load_of}
 use Rattle.keybook.proofs.Laws.{Refuses, refused_begin_keeps, refused_add_keeps, refused_finish_keeps}
 use Rattle.keybook.specs.Book.{good_book}
 use Rattle.keybook.proofs.UndoLaws.{Begun, begun-good, begun_begin, begun_add, begun_finish, begun-erased, begun_for, begun_name, add_keeps_name, finish_keeps_name, finish_ready}
@@ -32,6 +35,46 @@ module _ (b : List ℕ) (c i : ℕ) (name key : List ℕ) {begun : List ℕ} {a 
       pub finish_done : is_done f ≡ true → (f, finished) ≡ load_of b c i name key
       unfolding load_of
       finish_done n = rw (← begins, y, ← adds, z, ← finishes, n)
+
+-- ---- as the code does it
+
+-- one operation after another
+pub not_next : (o : Answer × List ℕ) (next : List ℕ → Answer × List ℕ) {a : Answer} {x : List ℕ} → o ≡ (a, x) → is_done a ≡ false → (a, x) ≡ if_done o next
+not_next o next e n = rw (e, n)
+
+pub and_next : (o : Answer × List ℕ) (next : List ℕ → Answer × List ℕ) {x : List ℕ} → o ≡ (Done, x) → next x ≡ if_done o next
+and_next o next e = rw e
+
+module _ (b : List ℕ) (c i : ℕ) (name key : List ℕ) where
+  pub load_refused : {a : Answer} {x : List ℕ} → begin_of b c i name ≡ (a, x) → is_done a ≡ false → (a, x) ≡ load_of b c i name key
+  unfolding load_of
+  load_refused e n = not_next (begin_of b c i name) (λ x. or_erased c i (if_done (add_of x c i key) (λ y. finish_of y c i))) e n
+
+  module _ {x : List ℕ} (begins : begin_of b c i name ≡ (Done, x)) where
+    abbrev filling : Answer × List ℕ
+    filling = if_done (add_of x c i key) (λ y. finish_of y c i)
+
+    loads : or_erased c i filling ≡ load_of b c i name key
+    unfolding load_of
+    loads = and_next (begin_of b c i name) (λ x. or_erased c i (if_done (add_of x c i key) (λ y. finish_of y c i))) begins
+
+    pub load_gives_up : (r : Result (Unit {0}) Answer) {y z : List ℕ} → (r, y) ≡ done_of (if_done (add_of x c i key) (λ y. finish_of y c i)) → is_err r ≡ true
+        → z ≡ (erase_of y c i).1 → (r, z) ≡ done_of (load_of b c i name key)
+    load_gives_up (Ok u) q t e = absurd (true≢false (sym t))
+    load_gives_up (Err a) {y} {z} q t e =
+        let w = is_refused_with filling q refl in
+        refused_with w.1 (ap (λ (l : List ℕ). (a, l)) e ∙ erased w.0 w.1 ∙ loads)
+      where
+        erased : filling ≡ (a, y) → is_done a ≡ false → (a, (erase_of y c i).1) ≡ or_erased c i filling
+        erased f n = rw (f, n)
+
+    pub load_ends : (r : Result (Unit {0}) Answer) {y : List ℕ} → (r, y) ≡ done_of (if_done (add_of x c i key) (λ y. finish_of y c i)) → is_err r ≡ false
+        → (r, y) ≡ done_of (load_of b c i name key)
+    load_ends (Ok u) {y} q t = done_with (kept (is_done_with filling q refl) ∙ loads)
+      where
+        kept : filling ≡ (Done, y) → (Done, y) ≡ or_erased c i filling
+        kept f = rw f
+    load_ends (Err a) q t = absurd (true≢false t)
 
 -- ---- what it comes to
 

@@ -1,8 +1,8 @@
 -- The cases of the operations, each as a way through the code meets it.
 use Prim.Native.Nat.{ℕ, ◌≤◌, ◌<◌}
 use native.Mathlib.Omega.{arith}
-use mathlib.Core.Path.{◌≡◌, refl, sym, ap, ap₂, subst, ◌∙◌}
-use mathlib.Core.Bool.{Bool, true, false, not}
+use mathlib.Core.Path.{◌≡◌, refl, sym, ap, subst, ◌∙◌}
+use mathlib.Core.Bool.{Bool, true, false, not, true≢false}
 use mathlib.Core.List.{List, [], ◌∷◌, ◌++◌}
 use lib.ListN.{length, take-append-drop}
 use lib.Seq.{drop-drop}
@@ -13,18 +13,19 @@ use Rattle.octets.specs.Tests.{pick}
 use Rattle.answers.specs.declared.Answer.{Answer}
 use Rattle.answers.specs.declared.Answer.TheVariants.{Done, WrongLength, OutOfRange, NoEntry, NotReady, Already, Full, BadName}
 use Rattle.answers.specs.Numbers.{is_done}
-use Rattle.answers.specs.Outcomes.{Refusals, settled, outcome}
-use Rattle.answers.proofs.OutcomeLaws.{NoneHolds, never_done, done_none, none_settles, none_first, first_refuses, around}
+use Rattle.answers.specs.Outcomes.{Refusals, settled, outcome, done_of}
+use Rattle.answers.proofs.OutcomeLaws.{NoneHolds, never_done, done_none, none_settles, none_first, first_refuses, around, refusal_keeps}
 use Rattle.keyentry.specs.Name.{name_octets, name_right}
 use Rattle.keyentry.specs.Entry.{count_in, ready_in, key_in, in_range, blank, new_entry, extend_refusals, extended, complete_refusals, completed}
 use Rattle.sizes.specs.Ciphers.{key_room}
 use Rattle.keybook.specs.Book.{entries, book_octets, entry_of, with_entry, good_book, find_entry, free_entry, bad_book, book_refusals}
-use Rattle.keybook.specs.Lookup.{found, found_by, lookup, seeking}
+use Rattle.keybook.specs.Lookup.{place, found, found_by, spotted, lookup, seeking}
 use Rattle.keybook.specs.Operations.{has_entry, place_refusals, begin_refusals, begin_after, begin_of, add_refusals, add_of, finish_refusals, finish_of, entry_refusals, erase_of, no_key, not_ready, ready_refusals, ready_key_of}
-use Rattle.keybook.specs.declared.book.Found.TheVariants.{At, Missing, Refused}
+use Rattle.std.specs.Prelude.{Option, Some, None, is_some, Result, Ok, Err}
+use Rattle.std.specs.Option.{ok_or}
 use Rattle.keyentry.proofs.RightLaws.{count_fits}
 use Rattle.keybook.proofs.GoodLaws.{good_entry}
-use Rattle.keybook.proofs.BookLaws.{lent, entry_lent, put, put_entry}
+use Rattle.answers.proofs.ResultLaws.{is_done_with, is_refused_with}
 
 -- ---- what was found
 
@@ -32,27 +33,27 @@ clash : {A : Type 0} → ◌≡◌ {A = ℕ} 0 1 → A
 clash z = absurd (omega arith)
 
 module _ (o : Answer × ℕ) where
-  found-refused : (a : Answer) → found o ≡ Refused a → (o.0 ≡ a) × (is_done o.0 ≡ false)
+  found-refused : (a : Answer) → found o ≡ Err a → (o.0 ≡ a) × (is_done o.0 ≡ false)
   found-refused a = go (is_done o.0) (ltb o.1 entries) refl
     where
-      go : (t u : Bool) → is_done o.0 ≡ t → pick t (pick u (At o.1) Missing) (Refused o.0) ≡ Refused a → (o.0 ≡ a) × (is_done o.0 ≡ false)
+      go : (t u : Bool) → is_done o.0 ≡ t → pick t (Ok (pick u (Some o.1) None)) (Err o.0) ≡ Err a → (o.0 ≡ a) × (is_done o.0 ≡ false)
       go true true d q = clash (cc)
       go true false d q = clash (cc)
       go false u d q = ((cc), d)
 
-  found_at : (k : ℕ) → found o ≡ At k → (is_done o.0 ≡ true) × (k ≡ o.1) × (k < entries)
+  found_at : (k : ℕ) → found o ≡ Ok (Some k) → (is_done o.0 ≡ true) × (k ≡ o.1) × (k < entries)
   found_at k = go (is_done o.0) (ltb o.1 entries) refl refl
     where
-      go : (t u : Bool) → is_done o.0 ≡ t → ltb o.1 entries ≡ u → pick t (pick u (At o.1) Missing) (Refused o.0) ≡ At k
+      go : (t u : Bool) → is_done o.0 ≡ t → ltb o.1 entries ≡ u → pick t (Ok (pick u (Some o.1) None)) (Err o.0) ≡ Ok (Some k)
           → (is_done o.0 ≡ true) × (k ≡ o.1) × (k < entries)
       go true true d l q = let e : k ≡ o.1 = cc in (d, e, rw e (ltb-true _ _ l))
       go true false d l q = clash (cc)
       go false u d l q = clash (cc)
 
-  found-missing : found o ≡ Missing → (is_done o.0 ≡ true) × (entries ≤ o.1)
+  found-missing : found o ≡ Ok None → (is_done o.0 ≡ true) × (entries ≤ o.1)
   found-missing = go (is_done o.0) (ltb o.1 entries) refl refl
     where
-      go : (t u : Bool) → is_done o.0 ≡ t → ltb o.1 entries ≡ u → pick t (pick u (At o.1) Missing) (Refused o.0) ≡ Missing
+      go : (t u : Bool) → is_done o.0 ≡ t → ltb o.1 entries ≡ u → pick t (Ok (pick u (Some o.1) None)) (Err o.0) ≡ Ok None
           → (is_done o.0 ≡ true) × (entries ≤ o.1)
       go true true d l q = clash (cc)
       go true false d l q = (d, ltb-false _ _ l)
@@ -75,7 +76,7 @@ module _ (rs : Refusals) (d : never_done rs ≡ true) (b : List ℕ) (c i : ℕ)
   passed = done_none rs entries (find_entry b c i) d
 
   -- nothing refuses it, and the entry is not there
-  module _ (q : found_by rs b c i ≡ Missing) where
+  module _ (q : found_by rs b c i ≡ Ok None) where
     missing-none : NoneHolds rs
     missing-none = passed (found-missing asked q).0
 
@@ -85,7 +86,7 @@ module _ (rs : Refusals) (d : never_done rs ≡ true) (b : List ℕ) (c i : ℕ)
         (subst (λ (o : Answer × ℕ). entries ≤ o.1) (none_settles rs entries (Done, find_entry b c i) missing-none) (found-missing asked q).1)
 
   -- or it is
-  module _ (k : ℕ) (q : found_by rs b c i ≡ At k) where
+  module _ (k : ℕ) (q : found_by rs b c i ≡ Ok (Some k)) where
     at_none : NoneHolds rs
     at_none = passed (found_at asked k q).0
 
@@ -115,7 +116,22 @@ module _ (b : List ℕ) (c i : ℕ) where
   unfolding book_refusals
   good_by n = not-false _ n.1.1.0
 
-  module _ (k : ℕ) (q : lookup b c i ≡ At k) where
+  look_not-done : (a : Answer) → lookup b c i ≡ Err a → is_done a ≡ false
+  unfolding lookup
+  look_not-done a q = let f = found-refused (outcome entries (book_refusals b c i) (find_entry b c i)) a q in sym (ap is_done f.0) ∙ f.1
+
+  spotted_at : (k : ℕ) → spotted (lookup b c i) ≡ Ok k → lookup b c i ≡ Ok (Some k)
+  spotted_at k = go (lookup b c i) refl
+    where
+      go : (r : Result (Option ℕ) Answer) → lookup b c i ≡ r → spotted r ≡ Ok k → r ≡ Ok (Some k)
+      go (Ok (Some j)) q e = cc
+      go (Ok None) q e = clash (cc)
+      go (Err a) q e = clash (cc)
+
+  module _ (k : ℕ) (e : spotted (lookup b c i) ≡ Ok k) where
+    q : lookup b c i ≡ Ok (Some k)
+    q = spotted_at k e
+
     pub located : Located b c i k
     unfolding lookup
     located =
@@ -130,21 +146,34 @@ module _ (b : List ℕ) (c i : ℕ) where
         }
 
     -- so the entry has room for what may be loaded
-    pub lent_count : count_in (lent b k) ≤ key_room
-    lent_count = rw (entry_lent b k) (count_fits (entry_of b k) (good_entry b located.good k located.below))
+    pub located_count : count_in (entry_of b k) ≤ key_room
+    located_count = count_fits (entry_of b k) (good_entry b located.good k located.below)
 
 -- ---- the ways through an operation on the entry that was found
 
 module _ {S : Type 0} (b : List ℕ) (c i : ℕ) (before : S) where
-  when-refused : (rs rest : Refusals) (last : Answer × S) (a : Answer) → found_by rs b c i ≡ Refused a → (a, before) ≡ settled before (rs ++ rest) last
+  when-refused : (rs rest : Refusals) (last : Answer × S) (a : Answer) → found_by rs b c i ≡ Err a → (a, before) ≡ settled before (rs ++ rest) last
   when-refused rs rest last a q =
       let f = found-refused (outcome entries rs (find_entry b c i)) a q in
       sym (first_refuses rs rest entries (find_entry b c i) before last f.1 ∙ ap (λ (x : Answer). (x, before)) f.0)
 
   pub record Ways (at : ℕ → Answer × S) (o : Answer × S) : Type 0 where
-    pub refused : (a : Answer) → lookup b c i ≡ Refused a → (a, before) ≡ o
-    pub missing : lookup b c i ≡ Missing → (NoEntry, before) ≡ o
-    pub found : (k : ℕ) → lookup b c i ≡ At k → at k ≡ o
+    pub refused : (a : Answer) → lookup b c i ≡ Err a → (a, before) ≡ o
+    pub missing : lookup b c i ≡ Ok None → (NoEntry, before) ≡ o
+    pub found : (k : ℕ) → lookup b c i ≡ Ok (Some k) → at k ≡ o
+
+  -- what an operation learns of the search
+  module _ {at : ℕ → Answer × S} {o : Answer × S} (w : Ways at o) where
+    pub way-refused : (a : Answer) → spotted (lookup b c i) ≡ Err a → (is_done a ≡ false) × ((a, before) ≡ o)
+    way-refused a = go (lookup b c i) refl
+      where
+        go : (r : Result (Option ℕ) Answer) → lookup b c i ≡ r → spotted r ≡ Err a → (is_done a ≡ false) × ((a, before) ≡ o)
+        go (Ok (Some k)) q e = clash (cc)
+        go (Ok None) q e = let z : NoEntry ≡ a = cc in (ap is_done (sym z), ap (λ (x : Answer). (x, before)) (sym z) ∙ w.missing q)
+        go (Err r) q e = let z : r ≡ a = cc in (ap is_done (sym z) ∙ look_not-done b c i r q, ap (λ (x : Answer). (x, before)) (sym z) ∙ w.refused r q)
+
+    pub way-found : (k : ℕ) → spotted (lookup b c i) ≡ Ok k → at k ≡ o
+    way-found k e = w.found k (spotted_at b c i k e)
 
   module _ (more : ℕ → Refusals) (last : ℕ → Answer × S) where
     abbrev rest : Refusals
@@ -164,6 +193,31 @@ module _ {S : Type 0} (b : List ℕ) (c i : ℕ) (before : S) where
         }
 
 -- ---- begin
+
+-- the place of a free entry, or 12
+module _ (f : ℕ) where
+  pub place_full : {a : Answer} → ok_or (place f) Full ≡ Err a → (a ≡ Full) × (entries ≤ f)
+  place_full {a} = go (ltb f entries) refl
+    where
+      go : (t : Bool) → ltb f entries ≡ t → ok_or (pick t (Some f) None) Full ≡ Err a → (a ≡ Full) × (entries ≤ f)
+      go true l q = clash (cc)
+      go false l q = let z : a ≡ Full = cc in (z, ltb-false _ _ l)
+
+  pub place_free : {k : ℕ} → ok_or (place f) Full ≡ Ok k → (k ≡ f) × (k < entries)
+  place_free {k} = go (ltb f entries) refl
+    where
+      go : (t : Bool) → ltb f entries ≡ t → ok_or (pick t (Some f) None) Full ≡ Ok k → (k ≡ f) × (k < entries)
+      go true l q = let z : k ≡ f = cc in (z, rw z (ltb-true _ _ l))
+      go false l q = clash (cc)
+
+module _ (b : List ℕ) (c i : ℕ) where
+  pub seek_not-done : (a : Answer) → seeking b c i ≡ Err a → is_done a ≡ false
+  unfolding seeking
+  seek_not-done a q = let f = found-refused (outcome entries (bad_book b) (find_entry b c i)) a q in sym (ap is_done f.0) ∙ f.1
+
+  pub none_there : (o : Option ℕ) → seeking b c i ≡ Ok o → is_some o ≡ false → seeking b c i ≡ Ok None
+  none_there (Some k) q s = absurd (true≢false s)
+  none_there None q s = q
 
 module _ (b : List ℕ) (c i : ℕ) (n : List ℕ) where
   pub begin_name_length : (length n ≡ name_octets → ⊥) → (WrongLength, b) ≡ begin_of b c i n
@@ -193,17 +247,21 @@ module _ (b : List ℕ) (c i : ℕ) (n : List ℕ) where
           unfolding begin_of begin_refusals
           named-begins = rw (eq-eqb _ _ w, eq-eqb _ _ h, r, t)
 
-          pub begin_refused : (a : Answer) → seeking b c i ≡ Refused a → (a, b) ≡ begin_of b c i n
+          pub begin_refused : (a : Answer) → seeking b c i ≡ Err a → (a, b) ≡ begin_of b c i n
           unfolding seeking
           begin_refused a q = when-refused b c i b (bad_book b) begins (Done, begin_after b c i n) a q ∙ sym named-begins
 
-          pub begin_already : (k : ℕ) → seeking b c i ≡ At k → (Already, b) ≡ begin_of b c i n
+          pub begin_already : (k : ℕ) → seeking b c i ≡ Ok (Some k) → (Already, b) ≡ begin_of b c i n
           unfolding seeking
           begin_already k q =
               sym (named-begins ∙ none_first (bad_book b) begins b (Done, begin_after b c i n) (at_none (bad_book b) refl b c i k q)
               ∙ rw (at_has (bad_book b) refl b c i k q))
 
-          module _ (q : seeking b c i ≡ Missing) {k : ℕ} (e : k ≡ free_entry b) where
+          pub begin_some : (o : Option ℕ) → seeking b c i ≡ Ok o → is_some o ≡ true → (Already, b) ≡ begin_of b c i n
+          begin_some (Some k) q s = begin_already k q
+          begin_some None q s = absurd (true≢false (sym s))
+
+          module _ (q : seeking b c i ≡ Ok None) {k : ℕ} (e : k ≡ free_entry b) where
             missing-begins : begin_of b c i n ≡ settled b begins (Done, begin_after b c i n)
             unfolding seeking
             missing-begins = named-begins ∙ none_first (bad_book b) begins b (Done, begin_after b c i n) (missing-none (bad_book b) refl b c i q)
@@ -247,19 +305,31 @@ pub with_same : (b : List ℕ) (k : ℕ) → with_entry b k (entry_of b k) ≡ b
 unfolding with_entry entry_of replaced
 with_same b k = rw (← drop-drop, take-append-drop, take-append-drop)
 
-pub on_entry : {r : Answer} {e : List ℕ} (b : List ℕ) (k : ℕ) (rs : List ℕ → Refusals) (after : List ℕ → List ℕ)
-    → (r, e) ≡ outcome (lent b k) (rs (lent b k)) (after (lent b k)) → (r, put b k e) ≡ outcome b (rs (entry_of b k)) (with_entry b k (after (entry_of b k)))
-on_entry {r} {e} b k rs after q =
-    ap (λ (l : List ℕ). (r, l)) (put_entry b k refl)
-    ∙ ap (λ (o : Answer × List ℕ). (o.0, with_entry b k o.1)) (q ∙ ap (λ (l : List ℕ). outcome l (rs l) (after l)) (entry_lent b k))
-    ∙ around (with_entry b k) (entry_of b k) (rs (entry_of b k)) (Done, after (entry_of b k))
-    ∙ ap (λ (l : List ℕ). outcome l (rs (entry_of b k)) (with_entry b k (after (entry_of b k)))) (with_same b k)
+module _ (b : List ℕ) (k : ℕ) (rs : List ℕ → Refusals) (after : List ℕ → List ℕ) where
+  on_entry : {r : Answer} {e : List ℕ} → (r, e) ≡ outcome (entry_of b k) (rs (entry_of b k)) (after (entry_of b k))
+      → (r, with_entry b k e) ≡ outcome b (rs (entry_of b k)) (with_entry b k (after (entry_of b k)))
+  on_entry {r} {e} q =
+      ap (λ (o : Answer × List ℕ). (o.0, with_entry b k o.1)) q
+      ∙ around (with_entry b k) (entry_of b k) (rs (entry_of b k)) (Done, after (entry_of b k))
+      ∙ ap (λ (l : List ℕ). outcome l (rs (entry_of b k)) (with_entry b k (after (entry_of b k)))) (with_same b k)
+
+  -- as the code does it: the entry e is taken out of the book and comes to f
+  module _ {e f : List ℕ} {r : Result (Unit {0}) Answer} (is : e ≡ entry_of b k) (q : (r, f) ≡ done_of (outcome e (rs e) (after e))) where
+    own : (r, f) ≡ done_of (outcome (entry_of b k) (rs (entry_of b k)) (after (entry_of b k)))
+    own = q ∙ ap (λ (l : List ℕ). done_of (outcome l (rs l) (after l))) is
+
+    pub entry_done : {u : Unit {0}} → r ≡ Ok u → (Done, with_entry b k f) ≡ outcome b (rs (entry_of b k)) (with_entry b k (after (entry_of b k)))
+    entry_done p = on_entry (sym (is_done_with (outcome (entry_of b k) (rs (entry_of b k)) (after (entry_of b k))) own p))
+
+    pub entry_refused : {a : Answer} → r ≡ Err a → (is_done a ≡ false) × ((a, b) ≡ outcome b (rs (entry_of b k)) (with_entry b k (after (entry_of b k))))
+    entry_refused {a} p =
+        let o = outcome (entry_of b k) (rs (entry_of b k)) (after (entry_of b k)) in
+        let w = is_refused_with o own p in
+        let n = λ (z : o.0 ≡ Done). true≢false (sym (ap is_done (sym (ap (λ (x : Answer × List ℕ). x.0) w.0) ∙ z)) ∙ w.1) in
+        let same = sym (ap (λ (x : Answer × List ℕ). x.1) w.0) ∙ refusal_keeps (entry_of b k) (rs (entry_of b k)) (Done, after (entry_of b k)) n in
+        (w.1, ap (λ (l : List ℕ). (a, l)) (sym (ap (with_entry b k) same ∙ with_same b k)) ∙ on_entry (sym w.0))
 
 -- ---- the key of a ready entry
-
--- an answer with a key, by its parts
-pub both : {a b : Answer} {k l : List ℕ} → a ≡ b → k ≡ l → ◌≡◌ {A = Answer × List ℕ} (a, k) (b, l)
-both p q = ap₂ (λ (x : Answer) (y : List ℕ). (x, y)) p q
 
 module _ (e : List ℕ) where
   abbrev pub readying : Answer × List ℕ

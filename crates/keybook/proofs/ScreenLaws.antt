@@ -1,18 +1,18 @@
 -- The ways through what a screen shows, and its laws.
 use Prim.Native.Nat.{ℕ, ◌≤◌, ◌<◌}
-use mathlib.Core.Path.{◌≡◌, ap₂, ◌∙◌}
+use mathlib.Core.Path.{◌≡◌, sym, ◌∙◌}
 use mathlib.Core.Bool.{true, false}
 use mathlib.Core.List.{List, []}
 use lib.ListN.{length}
 use borrow.Author.Tests.{lt-ltb, le-ltb, eq-eqb, ne_eqb}
+use Rattle.std.specs.Prelude.{Result}
 use Rattle.answers.specs.declared.Answer.{Answer}
+use Rattle.answers.specs.Outcomes.{result_of}
 use Rattle.answers.specs.declared.Answer.TheVariants.{Done, WrongLength, OutOfRange, Bad}
-use Rattle.answers.proofs.OutcomeLaws.{refusal_keeps, one-outcome}
+use Rattle.answers.proofs.OutcomeLaws.{refusal_keeps}
 use Rattle.keyentry.specs.Name.{no_name}
 use Rattle.keyentry.specs.Entry.{name_in}
 use Rattle.keybook.specs.declared.screen.Shown.{Shown}
-use Rattle.keybook.specs.declared.screen.Named.{Named}
-use Rattle.keybook.specs.declared.screen.Listed.{Listed}
 use Rattle.keybook.specs.Book.{entries, book_octets, entry_of, good_book}
 use Rattle.keybook.specs.Operations.{entry_for, entry_refusals}
 use Rattle.keybook.specs.Screen.{name_of, shown, nothing_shown, inventory_refusals, inventory_of}
@@ -31,16 +31,10 @@ module _ (b : List ℕ) (c i : ℕ) where
   refused_no_name = refusal_keeps no_name (entry_refusals b c i) (Done, name_in (entry_for b c i))
 
   -- any two outcomes that meet its statement are equal
-  pub one_name : (r s : Named) → (r.answer, r.name) ≡ name_of b c i → (s.answer, s.name) ≡ name_of b c i → r ≡ s
-  one_name r s p q =
-      let e = one-outcome r.answer s.answer r.name s.name p q in
-      ap₂ (λ (x : Answer) (n : List ℕ). record { answer = x; name = n }) e.0 e.1
+  pub one_name : (r s : Result (List ℕ) Answer) → r ≡ result_of (name_of b c i) → s ≡ result_of (name_of b c i) → r ≡ s
+  one_name r s p q = p ∙ sym q
 
 -- ---- the inventory
-
--- a refusal's answer and what is shown with it, by its parts
-pub unlisted : {a r : Answer} {s : Shown} {o : Answer × Shown} → (a ≡ r) × (s ≡ nothing_shown) → (r, nothing_shown) ≡ o → (a, s) ≡ o
-unlisted p q = ap₂ (λ (x : Answer) (y : Shown). (x, y)) p.0 p.1 ∙ q
 
 module _ (b : List ℕ) (k : ℕ) where
   pub list_length : (length b ≡ book_octets → ⊥) → (WrongLength, nothing_shown) ≡ inventory_of b k
@@ -66,7 +60,5 @@ module _ (b : List ℕ) (k : ℕ) where
   unfolding inventory_of
   refused_shows_nothing = refusal_keeps nothing_shown (inventory_refusals b k) (Done, shown (entry_of b k))
 
-  pub one_inventory : (r s : Listed) → (r.answer, r.entry) ≡ inventory_of b k → (s.answer, s.entry) ≡ inventory_of b k → r ≡ s
-  one_inventory r s p q =
-      let e = one-outcome r.answer s.answer r.entry s.entry p q in
-      ap₂ (λ (x : Answer) (y : Shown). record { answer = x; entry = y }) e.0 e.1
+  pub one_inventory : (r s : Result Shown Answer) → r ≡ result_of (inventory_of b k) → s ≡ result_of (inventory_of b k) → r ≡ s
+  one_inventory r s p q = p ∙ sym q

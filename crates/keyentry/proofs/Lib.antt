@@ -1,4 +1,5 @@
 pub mod EntryLaws
 pub mod RightLaws
+pub mod PlaceLaws
 pub mod NameLaws
 pub mod WriteLaws

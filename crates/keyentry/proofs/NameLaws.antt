@@ -9,11 +9,15 @@ use lib.ListN.{length, get_or, take, drop, replicate, length-append, length-repl
 use lib.Seq.{take_all, length-take-le, get_or-take, get_or-drop}
 use lib.Dec.{leb}
 use borrow.Author.Tests.{le-leb, leb-true, not-true, not-false}
+use Rattle.std.specs.Prelude.{Option, Some, None, cond, ltb}
+use Rattle.std.specs.Option.{unwrap_or}
+use Rattle.std.specs.List.{position_or_len}
 use Rattle.octets.specs.Lists.{all_zero}
 use Rattle.octets.specs.Tests.{all_below, first_below}
 use Rattle.octets.proofs.ListLaws.{zeros_are, padded-at}
 use Rattle.octets.proofs.TestLaws.{and_left, and_right, first_le, first_holds, first-before}
 use Rattle.keyentry.proofs.RightLaws.{zeros}
+use Rattle.keyentry.proofs.PlaceLaws.{placed}
 use Rattle.keyentry.specs.Name.{name_octets, no_name, IsName, is_printable, text_octets, name_right}
 
 pub text_at-most : (n : List ℕ) → text_octets n ≤ name_octets
@@ -21,8 +25,16 @@ unfolding text_octets
 text_at-most n = first_le (λ k. not (is_printable (get_or n k 0))) name_octets
 
 -- what the borrow checker says of a name lent from the end of its text on
-pub padding_lent : (n : List ℕ) {m : ℕ} → m ≡ text_octets n → take (length n - m) (drop m n) ≡ drop (text_octets n) n
-padding_lent n {m} q = take_all (length n - m) (drop m n) (simp length-drop (omega arith)) ∙ rw q
+pub padding_lent : (n : List ℕ) {m : ℕ} → length n ≡ name_octets → m ≡ text_octets n → take (name_octets - m) (drop m n) ≡ drop (text_octets n) n
+padding_lent n {m} w q = take_all (name_octets - m) (drop m n) (simp length-drop (omega arith)) ∙ rw q
+
+-- `position` finds the end of the text
+pub text_of_position : (n : List ℕ) (r : Option ℕ) → length n ≡ name_octets
+    → r ≡ cond (ltb (position_or_len (λ x. not (is_printable x)) n) (length n)) (Some (position_or_len (λ x. not (is_printable x)) n)) None → unwrap_or r (length n) ≡ text_octets n
+unfolding text_octets
+text_of_position n r w q =
+    placed (λ x. not (is_printable x)) 0 n r q
+    ∙ ap (λ (k : ℕ). first_below (λ j. not (is_printable (get_or n j 0))) k) w
 
 between : (x : ℕ) → is_printable x ≡ true → (0x20 ≤ x) × (x ≤ 0x7E)
 unfolding is_printable

@@ -1,5 +1,5 @@
 -- A line of text as a record (document 01, "The receiver program"). Its first letter decides; fields are parted by one tab.
-use Rattle.std.specs.Prelude.{List, [], ◌∷◌, ◌++◌, Bool, ◌&&◌, ◌≡◌, ℕ, ◌/◌, ◌≤◌, max, ltb, leb, eqb, length, get_or, take, drop}
+use Rattle.std.specs.Prelude.{List, [], ◌∷◌, ◌++◌, Bool, ◌&&◌, ◌≡◌, ℕ, ◌/◌, ◌≤◌, max, ltb, leb, eqb, length, get_or, take, drop, Option, Some, None}
 use Rattle.octets.specs.Tests.{pick}
 use Rattle.octets.specs.Bits.{Octets}
 use Rattle.text.specs.Parted.{tab_octet, parted}
@@ -120,29 +120,29 @@ Fine Lost = Unit {0}
 Fine End = Unit {0}
 Fine Malformed = ⊥
 
--- ---- a record as the code has it: its octets are the first of those that stand beside it
+-- ---- a record as the code has it: its octets are the first of those that stand beside it; None is malformed
 
 -- the room for a record's octets: the larger of a key's and a frame's
 abbrev pub record_room : ℕ
 record_room = max key_room record_frame
 
-abbrev pub record_in : Parsed → List ℕ → Record
-record_in (code.Load c i n) xs = Load c i (take n xs)
-record_in (code.Open c i) xs = Open c i (take vector_octets xs)
-record_in (code.Join c i) xs = Join c i
-record_in (code.Voice m) xs = Voice m (take record_frame xs)
-record_in code.Announce xs = Announce (take vector_octets xs)
-record_in code.Lost xs = Lost
-record_in code.End xs = End
-record_in code.Malformed xs = Malformed
+abbrev pub record_in : Option Parsed → List ℕ → Record
+record_in (Some (code.Load c i n)) xs = Load c i (take n xs)
+record_in (Some (code.Open c i)) xs = Open c i (take vector_octets xs)
+record_in (Some (code.Join c i)) xs = Join c i
+record_in (Some (code.Voice m)) xs = Voice m (take record_frame xs)
+record_in (Some code.Announce) xs = Announce (take vector_octets xs)
+record_in (Some code.Lost) xs = Lost
+record_in (Some code.End) xs = End
+record_in None xs = Malformed
 
 -- how many of them are a key's
-abbrev pub key_count : Parsed → ℕ
-key_count (code.Load c i n) = n
-key_count (code.Open c i) = 0
-key_count (code.Join c i) = 0
-key_count (code.Voice m) = 0
-key_count code.Announce = 0
-key_count code.Lost = 0
-key_count code.End = 0
-key_count code.Malformed = 0
+abbrev pub key_count : Option Parsed → ℕ
+key_count (Some (code.Load c i n)) = n
+key_count (Some (code.Open c i)) = 0
+key_count (Some (code.Join c i)) = 0
+key_count (Some (code.Voice m)) = 0
+key_count (Some code.Announce) = 0
+key_count (Some code.Lost) = 0
+key_count (Some code.End) = 0
+key_count None = 0

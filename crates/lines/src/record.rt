@@ -1,14 +1,13 @@
 // A line of text as a record. Its octets, a key, vector or frame, are read into lent ones.
-ghost use Rattle.std.specs.Prelude.{◌≡◌, List, ℕ, ◌≤◌, length};
-ghost use Rattle.octets.specs.Tests.{pick};
+ghost use Rattle.std.specs.Prelude.{◌≡◌, List, ℕ, ◌≤◌, is_none};
+ghost use Rattle.std.specs.Bool.{then_some};
 ghost use Rattle.text.specs.Walked.{left};
 ghost use Rattle.lines.specs.Record.{record_room, key_count, record_in, load_record, open_record, join_record, voice_record, announce_record, line_of};
 
 use crate::pair::{MOST_NUMBER, Pair, next_pair};
 use sizes::cipher::{KEY_ROOM, VECTOR_OCTETS};
 use sizes::frame::HALF_FRAME_OCTETS;
-use text::decimal::Number;
-use text::field::{Cursor, last_hex, next_field, next_number};
+use text::field::Fields;
 
 pub const LINE_OCTETS: usize = 96;
 
@@ -29,124 +28,84 @@ pub enum Parsed {
     Announce,
     Lost,
     End,
-    Malformed,
 }
 
 // A record where no field is left.
-fn alone(parsed: Parsed, cursor: Cursor) -> Parsed
-    ensures { result ≡ pick cursor.more Parsed.Malformed parsed }
+fn alone(parsed: Parsed, fields: Fields) -> Option<Parsed>
+    ensures { result ≡ then_some (is_none fields.entry.rest) parsed }
 {
-    let more = cursor.more;
-    if more {
-        return Parsed::Malformed;
-    }
-    parsed
+    let done = fields.is_done();
+    done.then_some(parsed)
 }
 
-fn load_record(line: &[u8], cursor: Cursor, octets: &mut [u8]) -> Parsed
-    requires { (cursor.at ≤ length line.now) × (length octets.old ≡ record_room) }
-    ensures fields { record_in result octets.new ≡ load_record (left line.now cursor) }
+fn load_record(mut fields: Fields, octets: &mut [u8; RECORD_ROOM]) -> Option<Parsed>
+    ensures fields { record_in result octets.new ≡ load_record (left fields.entry) }
     ensures fits { key_count result ≤ record_room }
 {
-    let pair = next_pair(line, cursor);
-    let Pair::Of { cipher, id, next } = pair else {
-        return Parsed::Malformed;
-    };
+    let Pair { cipher, id } = next_pair(&mut fields)?;
     // The key is the rest of the line, two digits an octet.
-    let start = next.at;
-    let count = (line.len() - start) / 2;
-    if count == 0 {
-        return Parsed::Malformed;
+    let count = fields.rest?.len() / 2;
+    if count == 0 || count > KEY_ROOM {
+        return None;
     }
-    if count > KEY_ROOM {
-        return Parsed::Malformed;
-    }
-    if last_hex(line, next, &mut octets[..count]) {
-        return Parsed::Load { cipher, id, count };
-    }
-    Parsed::Malformed
+    let read = fields.last_hex(&mut octets[..count]);
+    read.then_some(Parsed::Load { cipher, id, count })
 }
 
-fn open_record(line: &[u8], cursor: Cursor, octets: &mut [u8]) -> Parsed
-    requires { (cursor.at ≤ length line.now) × (length octets.old ≡ record_room) }
-    ensures fields { record_in result octets.new ≡ open_record (left line.now cursor) }
+fn open_record(mut fields: Fields, octets: &mut [u8; RECORD_ROOM]) -> Option<Parsed>
+    ensures fields { record_in result octets.new ≡ open_record (left fields.entry) }
     ensures fits { key_count result ≤ record_room }
 {
-    let pair = next_pair(line, cursor);
-    let Pair::Of { cipher, id, next } = pair else {
-        return Parsed::Malformed;
-    };
-    if last_hex(line, next, &mut octets[..VECTOR_OCTETS]) {
-        return Parsed::Open { cipher, id };
-    }
-    Parsed::Malformed
+    let Pair { cipher, id } = next_pair(&mut fields)?;
+    let read = fields.last_hex(&mut octets[..VECTOR_OCTETS]);
+    read.then_some(Parsed::Open { cipher, id })
 }
 
-fn join_record(line: &[u8], cursor: Cursor) -> Parsed
-    requires { cursor.at ≤ length line.now }
-    ensures fields { (xs : List ℕ) → record_in result xs ≡ join_record (left line.now cursor) }
+fn join_record(mut fields: Fields) -> Option<Parsed>
+    ensures fields { (xs : List ℕ) → record_in result xs ≡ join_record (left fields.entry) }
     ensures fits { key_count result ≤ record_room }
 {
-    let pair = next_pair(line, cursor);
-    let Pair::Of { cipher, id, next } = pair else {
-        return Parsed::Malformed;
-    };
-    alone(Parsed::Join { cipher, id }, next)
+    let Pair { cipher, id } = next_pair(&mut fields)?;
+    alone(Parsed::Join { cipher, id }, fields)
 }
 
-fn voice_record(line: &[u8], cursor: Cursor, octets: &mut [u8]) -> Parsed
-    requires { (cursor.at ≤ length line.now) × (length octets.old ≡ record_room) }
-    ensures fields { record_in result octets.new ≡ voice_record (left line.now cursor) }
+fn voice_record(mut fields: Fields, octets: &mut [u8; RECORD_ROOM]) -> Option<Parsed>
+    ensures fields { record_in result octets.new ≡ voice_record (left fields.entry) }
     ensures fits { key_count result ≤ record_room }
 {
-    let first = next_number(line, cursor, MOST_NUMBER);
-    let mask_field = first.number;
-    let next = first.next;
-    let Number::Of(mask) = mask_field else {
-        return Parsed::Malformed;
-    };
-    if last_hex(line, next, &mut octets[..HALF_FRAME_OCTETS]) {
-        return Parsed::Voice { mask: mask as u8 };
-    }
-    Parsed::Malformed
+    let mask = fields.number(MOST_NUMBER)?;
+    let read = fields.last_hex(&mut octets[..HALF_FRAME_OCTETS]);
+    read.then_some(Parsed::Voice { mask: mask as u8 })
 }
 
-fn announce_record(line: &[u8], cursor: Cursor, octets: &mut [u8]) -> Parsed
-    requires { (cursor.at ≤ length line.now) × (length octets.old ≡ record_room) }
-    ensures fields { record_in result octets.new ≡ announce_record (left line.now cursor) }
+fn announce_record(fields: Fields, octets: &mut [u8; RECORD_ROOM]) -> Option<Parsed>
+    ensures fields { record_in result octets.new ≡ announce_record (left fields.entry) }
     ensures fits { key_count result ≤ record_room }
 {
-    if last_hex(line, cursor, &mut octets[..VECTOR_OCTETS]) {
-        return Parsed::Announce;
-    }
-    Parsed::Malformed
+    let read = fields.last_hex(&mut octets[..VECTOR_OCTETS]);
+    read.then_some(Parsed::Announce)
 }
 
-// The record of a line; its octets are the first of the lent ones.
-pub fn read(line: &[u8], octets: &mut [u8]) -> Parsed
-    requires { length octets.old ≡ record_room }
+// The record of a line, where it is one; its octets are the first of the lent ones.
+pub fn read(line: &[u8], octets: &mut [u8; RECORD_ROOM]) -> Option<Parsed>
     ensures line { record_in result octets.new ≡ line_of line.now }
-    ensures room { length octets.new ≡ record_room }
     ensures fits { key_count result ≤ record_room }
 {
     if line.len() > LINE_OCTETS {
-        return Parsed::Malformed;
+        return None;
     }
-    let first = next_field(line, Cursor { at: 0, more: true });
-    let start = first.start;
-    let end = first.end;
-    let next = first.next;
-    if end - start != 1 {
-        return Parsed::Malformed;
-    }
-    match line[start] {
-        b'K' => load_record(line, next, octets),
-        b'O' => open_record(line, next, octets),
-        b'J' => join_record(line, next),
-        b'V' => voice_record(line, next, octets),
-        b'I' => announce_record(line, next, octets),
-        b'L' => alone(Parsed::Lost, next),
-        b'E' => alone(Parsed::End, next),
-        _ => Parsed::Malformed,
+    let mut fields = Fields::of(line);
+    let [letter] = fields.next()? else {
+        return None;
+    };
+    match *letter {
+        b'K' => load_record(fields, octets),
+        b'O' => open_record(fields, octets),
+        b'J' => join_record(fields),
+        b'V' => voice_record(fields, octets),
+        b'I' => announce_record(fields, octets),
+        b'L' => alone(Parsed::Lost, fields),
+        b'E' => alone(Parsed::End, fields),
+        _ => None,
     }
 }

@@ -1,17 +1,21 @@
 -- What each function's code did is what the interface's definition says of it.
 use mathlib.Core.Path.{◌≡◌, refl, sym, ap, ◌∙◌}
-use mathlib.Core.Bool.{true, false, not}
+use mathlib.Core.Bool.{Bool, true, false, not}
 use mathlib.Core.List.{List, [], ◌∷◌}
 use Prim.Native.Nat.{ℕ}
 use native.Mathlib.Omega.{arith}
+use mir.Val.{bool_byte}
 use lib.ListN.{length, take, drop, length-drop}
 use lib.Seq.{length-take-le}
 use borrow.Rule.Slice.PartMut.{put_mid}
-use borrow.Author.Tests.{eq-eqb, ne_eqb}
+use borrow.Author.Tests.{eq-eqb, ne_eqb, eqb-false}
 use Rattle.octets.specs.Tests.{pick}
 use Rattle.octets.proofs.Front.{first_long, put_both}
 use Rattle.answers.specs.declared.Answer.{Answer}
 use Rattle.answers.specs.Numbers.{number_of}
+use Rattle.answers.specs.Outcomes.{result_of}
+use Rattle.answers.proofs.ResultLaws.{is_returned, is_refused}
+use Rattle.std.specs.Prelude.{Ok, Err}
 use Rattle.keybook.specs.History as book
 use Rattle.keybook.specs.declared.screen.Shown.{Shown}
 use Rattle.keybook.specs.Screen.{name_of, inventory_of}
@@ -69,6 +73,11 @@ module _ (s : Shown) (d : List ℕ) (long : length d ≡ 20) (name : length s.na
   pub entry_laid : {q : List ℕ} → q ≡ s.name → put_mid 4 16 (put_mid 0 4 d p) q ≡ listed s
   entry_laid {q} e = put_both d (s.cipher ∷ s.id ∷ s.loaded ∷ pick s.ready 1 0 ∷ []) s.name 4 16 refl name long p head-is q e
 
+-- a flag as the number that std makes of it
+pub flag_is : (b : Bool) → bool_byte b ≡ pick b 1 0
+flag_is true = refl
+flag_is false = refl
+
 -- ---- a report
 
 module _ (counts lent : List ℕ) where
@@ -84,6 +93,15 @@ module _ (counts lent : List ℕ) where
     pub report_done : n ≡ 0 → {y : List ℕ} → y ≡ out → (0, y) ≡ on_report counts lent
     unfolding on_report
     report_done h e = is-handed _ lent _ is (eq-eqb (length lent) 6 f) p h e
+
+  -- by the Result that report answers
+  pub report_refused : length lent ≡ 6 → (a : Answer) → Err a ≡ result_of (report_of counts) → {n : ℕ} → n ≡ number_of a → (n, lent) ≡ on_report counts lent
+  report_refused f a e p =
+      let w = is_refused (report_of counts) e refl in
+      report_not (ap (λ (b : Answer). (b, (report_of counts).1)) (sym w.0)) f p (λ z. eqb-false (number_of a) 0 w.1 (sym p ∙ z))
+
+  pub report_returned : length lent ≡ 6 → (l : List ℕ) → Ok l ≡ result_of (report_of counts) → {y : List ℕ} → y ≡ l → (0, y) ≡ on_report counts lent
+  report_returned f l e q = report_done (sym (is_returned (report_of counts) e refl)) f refl refl q
 
 -- ---- what a screen shows of a call
 

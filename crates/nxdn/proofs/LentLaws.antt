@@ -1,25 +1,20 @@
 -- Operations on what lent octets hold, whatever it is: what the code did is what the definition says, and a refusal leaves every lent element.
 use mathlib.Core.Path.{◌≡◌, refl, sym, ap, ap₂, ◌∙◌}
-use mathlib.Core.Bool.{Bool, true, false, ◌&&◌}
-use mathlib.Core.List.{List, [], ◌∷◌}
+use mathlib.Core.Bool.{Bool, true, false, ◌&&◌, true≢false}
+use mathlib.Core.List.{List, []}
 use Prim.Native.Nat.{ℕ, ◌≤◌, ◌<◌}
 use native.Mathlib.Omega.{arith}
 use lib.Dec.{eqb}
-use lib.ListN.{length, set}
-use borrow.Author.Tests.{eq-eqb, ne_eqb, lt-ltb, le-ltb}
+use lib.ListN.{length}
+use borrow.Author.Tests.{eq-eqb, ne_eqb, eqb-true, lt-ltb, le-ltb}
+use Rattle.std.specs.Prelude.{Ok, Err}
 use Rattle.octets.specs.Tests.{pick}
 use Rattle.answers.specs.declared.Answer.{Answer}
+use Rattle.answers.specs.declared.Answer.TheVariants.{Done}
 use Rattle.answers.specs.Numbers.{number_of, is_done}
-use Rattle.held.proofs.NumberLaws.{writes_four}
-use Rattle.nxdn.specs.Lent.{lent_after, answered, out_after, handed_into, on_lent}
-
--- ---- so many stores make a list
-
-pub six_stored : (xs : List ℕ) (p q r s t u : ℕ) → length xs ≡ 6
-    → set (set (set (set (set (set xs 0 p) 1 q) 2 r) 3 s) 4 t) 5 u ≡ p ∷ q ∷ r ∷ s ∷ t ∷ u ∷ []
-six_stored [] p q r s t u h = absurd (omega arith)
-six_stored (a ∷ []) p q r s t u h = absurd (omega arith)
-six_stored (a ∷ b ∷ xs) p q r s t u h = ap (λ (ys : List ℕ). p ∷ q ∷ ys) (writes_four xs r s t u (omega arith))
+use Rattle.answers.specs.Outcomes.{Refusals, outcome, result_of}
+use Rattle.answers.proofs.OutcomeLaws.{Refusal, from_two, among_refuses, by_refusals}
+use Rattle.nxdn.specs.Lent.{lent_after, answered, left_by, out_after, handed_into, on_lent}
 
 -- ---- what is handed out
 
@@ -78,6 +73,23 @@ module _ {S : Type 0} (write : S → List ℕ) (x : List ℕ) (a : Answer) (s : 
 
     pub keep_written : n ≤ 1 → {l : List ℕ} → l ≡ write s → (n, l) ≡ answered write x a s
     keep_written h e = ap₂ (λ (m : ℕ) (l : List ℕ). (m, l)) p (e ∙ sym (after-written (rw p at h)))
+
+-- ---- a Result of it
+
+-- where each refusal is 2 or more, what isn't done refuses: only a voice slot is held
+pub undone_refuses : {S : Type 0} (before : S) (rs : Refusals) (after : S) → from_two rs ≡ true → is_done (outcome before rs after).0 ≡ false
+    → Refusal (outcome before rs after).0
+undone_refuses {S} before rs after t =
+    by_refusals (λ (o : Answer × S). is_done o.0 ≡ false → Refusal o.0) before rs (Done, after) (λ a m d. among_refuses a rs t m) (λ n d. absurd (true≢false d))
+
+-- there a Result leaves what its outcome does
+pub left-is : {S : Type 0} (write : S → List ℕ) (x : List ℕ) (o : Answer × S) → (is_done o.0 ≡ false → Refusal o.0)
+    → left_by write x (result_of o) ≡ answered write x o.0 o.1
+left-is write x o refuses = go (is_done o.0) refl
+  where
+    go : (t : Bool) → is_done o.0 ≡ t → left_by write x (pick t (Ok o.1) (Err o.0)) ≡ answered write x o.0 o.1
+    go true d = keep_written write x o.0 o.1 (sym (eqb-true (number_of o.0) 0 d)) (omega arith) refl
+    go false d = keep_refused write x o.0 o.1 refl (refuses d)
 
 module _ {S : Type 0} (size : ℕ) (read : List ℕ → S) (write : S → List ℕ) (fits : Bool) (f : S → Answer × (S × List ℕ)) (x lent : List ℕ) where
   abbrev taken : Answer × (S × List ℕ) → ℕ × (List ℕ × List ℕ)

@@ -1,5 +1,5 @@
 -- The interface for C and Rust, by what each function is lent: the octets of a book, a call or a packet, and the elements for what it hands out or turns.
-use Rattle.std.specs.Prelude.{Bool, true, ◌&&◌, List, ℕ, ◌*◌, eqb, length}
+use Rattle.std.specs.Prelude.{Bool, true, ◌&&◌, List, ℕ, ◌*◌, eqb, length, Result}
 use Rattle.octets.specs.Tests.{pick}
 use Rattle.answers.specs.declared.Answer.{Answer}
 use Rattle.answers.specs.declared.Answer.TheVariants.{Done, WrongLength}
@@ -9,13 +9,13 @@ use Rattle.calls.specs.declared.call.Call.{Call}
 use Rattle.calls.specs.Vector.{next_vector_of}
 use Rattle.hearing.specs.declared.Hearing.{Hearing}
 use Rattle.hearing.specs.Hearing.{call_of}
-use Rattle.hearing.specs.Heard.{carried, heard_of}
+use Rattle.hearing.specs.Heard.{handed, carried, heard_of}
 use Rattle.batch.specs.Batch.{step_octets, batch_of}
 use Rattle.report.specs.Report.{report_of}
 use Rattle.held.specs.Call as call
 use Rattle.held.specs.Packet as packet
 use Rattle.nxdn.specs.Operations.{with_none, ScreenOperation, Name, Inventory, screen_step, CallOperation, Open, Start, Join, Voice, Lost, End, Announce, NextVector, call_step, PacketOperation, packet_step}
-use Rattle.nxdn.specs.Lent.{handed_into, on_lent}
+use Rattle.nxdn.specs.Lent.{left_by, handed_into, on_lent}
 use Rattle.nxdn.specs.Shown.{shown_octets, show_of}
 
 -- ---- the book
@@ -60,6 +60,10 @@ fits (Heard w) lent = true
 
 unfoldable pub on_call : List ℕ → Asked → List ℕ → List ℕ → ℕ × (List ℕ × List ℕ)
 on_call b a x lent = on_lent call.call_octets call.hearing_in call.octets_of (fits a lent) (asked_step b a) x lent
+
+-- what a Result on the call that octets hold answers, and leaves in them, with what was kept carried over
+abbrev pub call_left : List ℕ → Result Call Answer → ℕ × List ℕ
+call_left x r = let h = call.hearing_in x in left_by (λ c. call.octets_of (handed h.kept h.next c)) x r
 
 -- steps of a recording, as many as the answers that are lent for them: each has its own answer. 2, before all else, where any of them is of another length
 unfoldable pub on_batch : List ℕ → List ℕ → List ℕ → ℕ × (List ℕ × (List ℕ × List ℕ))

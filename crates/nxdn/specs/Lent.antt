@@ -1,5 +1,5 @@
 -- An operation on what lent octets hold: what it answers, as a number, and every lent element afterwards.
-use Rattle.std.specs.Prelude.{Bool, ◌&&◌, List, ℕ, eqb, ltb, length}
+use Rattle.std.specs.Prelude.{Bool, ◌&&◌, List, ℕ, eqb, ltb, length, Result, Ok, Err}
 use Rattle.octets.specs.Tests.{pick}
 use Rattle.answers.specs.declared.Answer.{Answer}
 use Rattle.answers.specs.declared.Answer.TheVariants.{WrongLength}
@@ -11,6 +11,11 @@ lent_after write x a s = pick (ltb 1 (number_of a)) x (write s)
 
 abbrev pub answered : {S : Type 0} → (S → List ℕ) → List ℕ → Answer → S → ℕ × List ℕ
 answered write x a s = (number_of a, lent_after write x a s)
+
+-- the same of a Result
+abbrev pub left_by : {S : Type 0} → (S → List ℕ) → List ℕ → Result S Answer → ℕ × List ℕ
+left_by write x (Ok s) = (0, write s)
+left_by write x (Err a) = (number_of a, x)
 
 -- 0 writes what it hands out, or has turned; any other answer leaves what was lent for it as it was
 unfoldable pub out_after : List ℕ → Answer → List ℕ → List ℕ

@@ -1,15 +1,15 @@
 // A call, for C.
 ghost use Rattle.std.specs.Prelude.{◌≡◌, [], length};
 ghost use Rattle.nxdn.specs.Operations.{Open, Start, Join, Voice, Lost, End, Announce, handed_out};
-ghost use Rattle.nxdn.specs.Lent.{out_after};
 ghost use Rattle.nxdn.specs.Interface.{Of, Heard, on_call, on_batch, Next, on_look};
 
 use crate::WRONG_LENGTH;
-use crate::lent::keep_call;
+use crate::lent::{call_in, operate};
+use answers::Answer;
 use batch::STEP_OCTETS;
-use calls::call::{Ended, Stepped};
+use calls::counts::Counts;
 use hearing::{call_of, carry};
-use held::call::{CALL_OCTETS, read, write};
+use held::call::write;
 
 // ---- how it begins
 
@@ -24,34 +24,28 @@ pub fn nxdn_open(
 ) -> u8
     ensures { (result, (call.new, [])) ≡ on_call book.now (Of (Open cipher id rate strictness vector.now)) call.old [] }
 {
-    if call.len() != CALL_OCTETS {
-        return WRONG_LENGTH;
-    }
-    let before = read(call);
-    let stepped = calls::opening::open(call_of(before), cipher, id, rate, strictness, vector, book);
-    keep_call(call, carry(before, stepped))
+    operate(
+        call,
+        |before| calls::opening::open(before, cipher, id, rate, strictness, vector, book),
+    )
 }
 
 pub fn nxdn_start(call: &mut [u8], cipher: u8, id: u8, rate: u8, vector: &[u8], book: &[u8]) -> u8
     ensures { (result, (call.new, [])) ≡ on_call book.now (Of (Start cipher id rate vector.now)) call.old [] }
 {
-    if call.len() != CALL_OCTETS {
-        return WRONG_LENGTH;
-    }
-    let before = read(call);
-    let stepped = calls::opening::start(call_of(before), cipher, id, rate, vector, book);
-    keep_call(call, carry(before, stepped))
+    operate(
+        call,
+        |before| calls::opening::start(before, cipher, id, rate, vector, book),
+    )
 }
 
 pub fn nxdn_join(call: &mut [u8], cipher: u8, id: u8, rate: u8, strictness: u8, book: &[u8]) -> u8
     ensures { (result, (call.new, [])) ≡ on_call book.now (Of (Join cipher id rate strictness)) call.old [] }
 {
-    if call.len() != CALL_OCTETS {
-        return WRONG_LENGTH;
-    }
-    let before = read(call);
-    let stepped = calls::opening::join(call_of(before), cipher, id, rate, strictness, book);
-    keep_call(call, carry(before, stepped))
+    operate(
+        call,
+        |before| calls::opening::join(before, cipher, id, rate, strictness, book),
+    )
 }
 
 // ---- its slots
@@ -59,23 +53,23 @@ pub fn nxdn_join(call: &mut [u8], cipher: u8, id: u8, rate: u8, strictness: u8, 
 pub fn nxdn_voice(call: &mut [u8], mask: u8, frame: &mut [u8]) -> u8
     ensures { (result, (call.new, frame.new)) ≡ on_call [] (Of (Voice mask frame.old)) call.old frame.old }
 {
-    if call.len() != CALL_OCTETS {
+    // Kept: not by operate, since what a closure's call leaves in a frame that it captures is in none of its predicates.
+    let Some(before) = call_in(call) else {
         return WRONG_LENGTH;
+    };
+    match voice::slot::voice(call_of(before), mask, frame) {
+        Ok(slot) => {
+            write(call, carry(before, slot.call));
+            u8::from(slot.held)
+        }
+        Err(answer) => answer.number(),
     }
-    let before = read(call);
-    let stepped = voice::slot::voice(call_of(before), mask, frame);
-    keep_call(call, carry(before, stepped))
 }
 
 pub fn nxdn_lost(call: &mut [u8]) -> u8
     ensures { (result, (call.new, [])) ≡ on_call [] (Of Lost) call.old [] }
 {
-    if call.len() != CALL_OCTETS {
-        return WRONG_LENGTH;
-    }
-    let before = read(call);
-    let stepped = voice::slot::lost(call_of(before));
-    keep_call(call, carry(before, stepped))
+    operate(call, |before| voice::slot::lost(before))
 }
 
 // ---- its vectors
@@ -83,32 +77,31 @@ pub fn nxdn_lost(call: &mut [u8]) -> u8
 pub fn nxdn_announce(call: &mut [u8], vector: &[u8]) -> u8
     ensures { (result, (call.new, [])) ≡ on_call [] (Of (Announce vector.now)) call.old [] }
 {
-    if call.len() != CALL_OCTETS {
-        return WRONG_LENGTH;
-    }
-    let before = read(call);
-    let stepped = calls::vector::announce(call_of(before), vector);
-    keep_call(call, carry(before, stepped))
+    operate(call, |before| calls::vector::announce(before, vector))
 }
 
 pub fn nxdn_heard(call: &mut [u8], vector: &[u8]) -> u8
     ensures { (result, (call.new, [])) ≡ on_call [] (Heard vector.now) call.old [] }
 {
-    if call.len() != CALL_OCTETS {
+    let Some(before) = call_in(call) else {
         return WRONG_LENGTH;
+    };
+    match hearing::heard(before, vector) {
+        Ok(after) => {
+            write(call, after);
+            0
+        }
+        Err(answer) => answer.number(),
     }
-    let heard = hearing::heard(read(call), vector);
-    keep_call(call, heard)
 }
 
 pub fn nxdn_next_vector(call: &[u8], vector: &mut [u8]) -> u8
     ensures { (result, vector.new) ≡ on_look Next call.now vector.old }
 {
-    if call.len() != CALL_OCTETS {
+    let Some(before) = call_in(call) else {
         return WRONG_LENGTH;
-    }
-    let answer = calls::vector::next_vector(call_of(read(call)), vector);
-    answer.number()
+    };
+    Answer::from(calls::vector::next_vector(call_of(before), vector)).number()
 }
 
 // ---- a recording of these
@@ -117,16 +110,16 @@ pub fn nxdn_next_vector(call: &[u8], vector: &mut [u8]) -> u8
 pub fn nxdn_batch(call: &mut [u8], steps: &mut [u8], answers: &mut [u8]) -> u8
     ensures { (result, (call.new, (steps.new, answers.new))) ≡ on_batch call.old steps.old answers.old }
 {
-    if call.len() != CALL_OCTETS {
+    let Some(before) = call_in(call) else {
         return WRONG_LENGTH;
-    }
+    };
     if steps.len() / STEP_OCTETS != answers.len() {
         return WRONG_LENGTH;
     }
     if steps.len() % STEP_OCTETS != 0 {
         return WRONG_LENGTH;
     }
-    let after = batch::batch(read(call), steps, answers);
+    let after = batch::batch(before, steps, answers);
     write(call, after);
     0
 }
@@ -135,39 +128,28 @@ pub fn nxdn_batch(call: &mut [u8], steps: &mut [u8], answers: &mut [u8]) -> u8
 
 const COUNTS: usize = 4;
 
-// The counts, where end is done.
-fn hand_out(counts: &mut [u32], ended: Ended)
+fn lay_counts(counts: &mut [u32], counted: Counts)
     requires { length counts.old ≡ 4 }
-    ensures { counts.new ≡ out_after counts.old ended.answer (handed_out ended.counts) }
+    ensures { counts.new ≡ handed_out counted }
 {
-    let answer = ended.answer;
-    if answer.number() != 0 {
-        return;
-    }
-    let counted = ended.counts;
-    counts[0] = counted.opened;
-    counts[1] = counted.held;
-    counts[2] = counted.replaced;
-    counts[3] = counted.lost;
+    counts.copy_from_slice(&[counted.opened, counted.held, counted.replaced, counted.lost]);
 }
 
 pub fn nxdn_end(call: &mut [u8], counts: &mut [u32]) -> u8
     ensures { (result, (call.new, counts.new)) ≡ on_call [] (Of End) call.old counts.old }
 {
-    if call.len() != CALL_OCTETS {
+    let Some(before) = call_in(call) else {
         return WRONG_LENGTH;
-    }
+    };
     if counts.len() != COUNTS {
         return WRONG_LENGTH;
     }
-    let before = read(call);
-    let ended = calls::call::end(call_of(before));
-    hand_out(counts, ended);
-    let answer = ended.answer;
-    let after = ended.call;
-    let stepped = Stepped {
-        answer,
-        call: after,
-    };
-    keep_call(call, carry(before, stepped))
+    match calls::call::end(call_of(before)) {
+        Ok((after, counted)) => {
+            lay_counts(counts, counted);
+            write(call, carry(before, after));
+            0
+        }
+        Err(refusal) => refusal.number(),
+    }
 }

@@ -10,4 +10,5 @@ pub mod packet;
 pub mod reports;
 pub mod screen;
 
+// Kept: a number, as the C interface answers it.
 pub const WRONG_LENGTH: u8 = 2;

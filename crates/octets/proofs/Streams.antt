@@ -2,12 +2,12 @@
 use mathlib.Core.Path.{◌≡◌, sym, ap, ◌∙◌}
 use mathlib.Core.List.{List, ◌++◌}
 use Prim.Native.Nat.{ℕ, suc, ◌+◌, ◌-◌, ◌*◌, ◌/◌, ◌%◌, ◌^◌, ◌≤◌, ◌<◌, min}
-use native.Mathlib.Nat.{mul_assoc, pow-suc, mul-mod_left, mod-eq_of_lt}
+use native.Mathlib.Nat.{mul_assoc, pow-suc, mul-mod_left}
 use native.Mathlib.Decide.{dec_lt}
 use native.Mathlib.Omega.{arith}
-use lib.ListN.{length, take, drop, length-append, length-drop, get_or-append}
+use lib.ListN.{length, take, drop, length-drop, get_or-append}
 use lib.Seq.{length-take-le}
-use lib.Pow.{pow-add, shl-shr, shr-shr, split}
+use lib.Pow.{pow-add, shl-shr, shr-shr}
 use Rattle.octets.specs.Bits.{bit, octets_from, Octets}
 use borrow.Rule.Slice.PartMut.{put_mid}
 use Rattle.octets.specs.Turn.{within, turned}
@@ -17,9 +17,6 @@ use Rattle.octets.proofs.Turning.{within_in, within-out, length-turned, turned_a
 use Rattle.octets.proofs.Parts.{part_bit, turned_part}
 
 -- ---- the top of a number
-
-pub top_fits : (x m : ℕ) → x < 2 ^ 64 → x / 2 ^ m * 2 ^ m % 2 ^ 64 ≡ x / 2 ^ m * 2 ^ m
-top_fits x m h = mod-eq_of_lt (omega (arith, split x m))
 
 pub top_kept : (x n k : ℕ) → k < n → n ≤ 64 → x / 2 ^ (64 - n) * 2 ^ (64 - n) / 2 ^ (63 - k) % 2 ≡ x / 2 ^ (63 - k) % 2
 top_kept x n k h l =
@@ -55,9 +52,6 @@ moved x s k h =
 
 -- a stream xs of fewer octets than ys, which were copied over the first of them
 module _ (xs p ys : List ℕ) (copied : p ≡ xs) where
-  pub padded_long : length xs ≤ length ys → length (p ++ drop (length xs) ys) ≡ length ys
-  padded_long h = length-append p (drop (length xs) ys) ∙ omega (arith, ap length copied, length-drop (length xs) ys)
-
   pub padded-bit : (k : ℕ) → k < 8 * length xs → bit (p ++ drop (length xs) ys) k ≡ bit xs k
   padded-bit k h =
       rw copied (ap (λ (x : ℕ). x / 2 ^ (7 - k % 8) % 2) (get_or-append xs (drop (length xs) ys) 0 (k / 8) (omega arith)))
@@ -81,9 +75,6 @@ module _ (w from : ℕ) (xs part : List ℕ) (reach : from + w ≤ 8 * length xs
   goal = turned w key part
 
   -- every bit of it, by whole octets
-  pub whole-fits : length part ≤ w / 8 → from / 8 + length part ≤ length xs
-  whole-fits l = omega arith
-
   pub turned-whole : (p : List ℕ) (n : ℕ) → n ≡ length part → from % 8 ≡ 0 → length part ≤ w / 8 → p ≡ turned (8 * length part) (bit (take n (drop (from / 8) xs))) part → p ≡ goal
   turned-whole p n en h l e =
       e
@@ -96,7 +87,7 @@ module _ (w from : ℕ) (xs part : List ℕ) (reach : from + w ≤ 8 * length xs
       ∙ sym (within_in w key k (omega arith)))
 
   -- seven octets at a time, from octet `at` on: the number t has the bits that turn them, and zeros past the width
-  module _ (at bits b t : ℕ) (inside : 8 * at < w) (is-bits : bits ≡ min 56 (w - 8 * at))
+  module _ (at bits b t : ℕ) (inside : 8 * at < w) (is-bits : bits ≡ min (w - 8 * at) 56)
       (has : (k : ℕ) → k < 57 → 8 * (from / 8 + at) + from % 8 + k < 8 * length xs → b / 2 ^ (63 - k) % 2 ≡ bit xs (8 * (from / 8 + at) + from % 8 + k))
       (is-top : t ≡ b / 2 ^ (64 - bits) * 2 ^ (64 - bits)) where
     turns : (k : ℕ) → k < 56 → t / 2 ^ (63 - k) % 2 ≡ within w key (8 * at + k)

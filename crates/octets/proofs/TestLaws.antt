@@ -3,7 +3,7 @@ use Prim.Native.Nat.{ℕ, zero, suc, ◌+◌, ◌≤◌, ◌<◌, zero-le, suc-l
 use native.Mathlib.Nat.{eq-or-lt_of_le, le_of_suc-le-suc, not-suc-le-zero}
 use native.Mathlib.Numerals.{add-one}
 use native.Mathlib.Omega.{arith}
-use mathlib.Core.Path.{◌≡◌, refl, sym, ap, subst, ◌∙◌}
+use mathlib.Core.Path.{◌≡◌, refl, sym, ap, ap₂, subst, ◌∙◌}
 use mathlib.Core.Logic.{⊎_elim}
 use mathlib.Core.List.{List, [], ◌∷◌}
 use lib.ListN.{get_or}
@@ -98,6 +98,12 @@ module _ (f : ℕ → Bool) where
   unfolding all_below
   all_intro zero h = refl
   all_intro (suc n) h = rw (all_intro n (λ i l. h i (omega arith)), h n (omega arith))
+
+-- tests that agree below n
+pub all_alike : (f g : ℕ → Bool) (n : ℕ) → ((i : ℕ) → i < n → f i ≡ g i) → all_below f n ≡ all_below g n
+unfolding all_below
+all_alike f g zero h = refl
+all_alike f g (suc n) h = ap₂ ◌&&◌ (all_alike f g n (λ i l. h i (omega arith))) (h n (omega arith))
 
 -- two functions that agree at each number below n, by the test
 pub agree : (f g : ℕ → ℕ) (n : ℕ) → all_below (λ x. eqb (f x) (g x)) n ≡ true → (x : ℕ) → x < n → f x ≡ g x

@@ -1,19 +1,20 @@
 -- Octets given by a test, and zeros.
-use mathlib.Core.Path.{◌≡◌, refl, ◌∙◌}
-use mathlib.Core.Bool.{true}
-use mathlib.Core.List.{List}
-use Prim.Native.Nat.{ℕ, zero, suc, ◌+◌, ◌-◌, ◌/◌, ◌%◌, ◌^◌, ◌<◌}
+use mathlib.Core.Path.{◌≡◌, refl, ap}
+use mathlib.Core.Bool.{Bool, true}
+use mathlib.Core.List.{List, [], ◌∷◌, ◌++◌}
+use Prim.Native.Nat.{ℕ, zero, suc, ◌-◌, ◌/◌, ◌%◌, ◌^◌, ◌<◌}
 use native.Mathlib.Nat.{zero-div}
 use native.Mathlib.Decide.{dec_lt}
 use native.Mathlib.Omega.{arith}
 use lib.Bits.{bit_or}
 use lib.Dec.{ltb, eqb}
-use lib.ListN.{length, get_or, replicate, get_or-eq_default}
+use lib.ListN.{length, get_or, replicate, length-append, get_or-append, get_or-eq_default}
+use lib.Seq.{get_or_at}
 use borrow.Author.Tests.{eq-eqb, ltb-true}
 use Rattle.octets.specs.Tests.{all_below}
 use Rattle.octets.specs.Lists.{all_zero}
 use Rattle.octets.specs.Bits.{bit, Octets}
-use Rattle.octets.proofs.TestLaws.{all-at, all-step, all_intro}
+use Rattle.octets.proofs.TestLaws.{all-at, all-step, all_intro, all_alike}
 use Rattle.octets.proofs.BitLaws.{or_zero}
 
 -- octets, by a test of each
@@ -39,7 +40,17 @@ zeros-octets n i = rw (zeros-at n i) (omega arith)
 pub zeros-bit : (n k : ℕ) → bit (replicate n 0) k ≡ 0
 zeros-bit n k = rw (zeros-at n (k / 8), zero-div (2 ^ (7 - k % 8)))
 
--- the bits of the first i octets and those of the next, none of which is 1 where each octet is zero
-pub zero_more : (xs : List ℕ) (i bits : ℕ) → eqb bits 0 ≡ all_below (λ j. eqb (get_or xs j 0) 0) i
-    → eqb (bit_or bits (get_or xs i 0)) 0 ≡ all_below (λ j. eqb (get_or xs j 0) 0) (i + 1)
-zero_more xs i bits e = or_zero bits (get_or xs i 0) ∙ rw (e, all-step)
+-- the or of octets, with one more: no bit of it is 1 where each octet is zero
+pub zero_more : (xs : List ℕ) (x bits r : ℕ) → eqb bits 0 ≡ all_zero xs → r ≡ bit_or bits x → eqb r 0 ≡ all_zero (xs ++ (x ∷ []))
+unfolding all_zero
+zero_more xs x bits r e is =
+    rw (length-append xs (x ∷ []), is, or_zero bits x, all-step, get_or_at xs x [] 0 (length xs) refl, e, same)
+  where
+    f : ℕ → Bool
+    f i = eqb (get_or xs i 0) 0
+
+    g : ℕ → Bool
+    g i = eqb (get_or (xs ++ (x ∷ [])) i 0) 0
+
+    same : all_below g (length xs) ≡ all_below f (length xs)
+    same = all_alike g f (length xs) (λ i h. ap (λ (z : ℕ). eqb z 0) (get_or-append xs (x ∷ []) 0 i h))

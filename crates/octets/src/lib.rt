@@ -1,85 +1,30 @@
 // Octets and their bits, and a part of a lent buffer turned over by a stream of bits.
 #![tactic(auto)]
 
-ghost use Rattle.std.specs.Prelude.{◌≡◌, ℕ, ◌+◌, ◌-◌, ◌*◌, ◌/◌, ◌%◌, ◌^◌, ◌≤◌, ◌<◌, min, length};
+ghost use Rattle.std.specs.Prelude.{◌≡◌, ℕ, ◌+◌, ◌-◌, ◌*◌, ◌/◌, ◌%◌, ◌^◌, ◌≤◌, ◌<◌, length};
 ghost use Rattle.octets.specs.Lists.{all_zero};
 ghost use Rattle.octets.specs.Bits.{bit, octets_from};
 ghost use Rattle.octets.specs.Turn.{turned};
-
-// An octet as an index.
-pub fn wide(x: u8) -> usize
-    ensures { (result ≡ x) × (result < 256) }
-{
-    x as usize
-}
-
-// The lesser of two numbers.
-pub fn least(a: usize, b: usize) -> usize
-    ensures { (result ≤ a) × (result ≤ b) × (result ≡ min a b) }
-{
-    if a < b {
-        return a;
-    }
-    b
-}
 
 // Whether every octet is zero. All are looked at, so the compiler takes many at a time.
 pub fn all_zero(xs: &[u8]) -> bool
     ensures { result ≡ all_zero xs.now }
 {
-    let mut bits: u8 = 0;
-    let mut i = 0;
-    while i < xs.len() {
-        bits = bits | xs[i];
-        i += 1;
-    }
-    bits == 0
-}
-
-// Copies octets into a part of the same length.
-pub fn copy(src: &[u8], part: &mut [u8])
-    requires { length part.old ≡ length src.now }
-    ensures { part.new ≡ src.now }
-{
-    let mut i = 0;
-    while i < src.len() {
-        part[i] = src[i];
-        i += 1;
-    }
+    xs.iter().fold(0, |bits, x| bits | x) == 0
 }
 
 // The number of eight octets, the first of them the most significant.
-pub fn number_of(octets: &[u8]) -> u64
-    requires { length octets.now ≡ 8 }
+pub fn number_of(octets: &[u8; 8]) -> u64
     ensures { (k : ℕ) → k < 64 → result / 2 ^ (63 - k) % 2 ≡ bit octets.now k }
 {
-    let mut number: u64 = 0;
-    let mut i = 0;
-    while i < 8 {
-        number = (number << 8) + (octets[i] as u64);
-        i += 1;
-    }
-    number
+    u64::from_be_bytes(*octets)
 }
 
 // The eight octets of a number.
 pub fn octets_of(number: u64) -> [u8; 8]
     ensures { result ≡ octets_from 8 (λ k. number / 2 ^ (63 - k) % 2) }
 {
-    let mut out = [0u8; 8];
-    let mut i = 0;
-    while i < 8 {
-        out[i] = ((number >> (56 - 8 * i)) % 256) as u8;
-        i += 1;
-    }
-    out
-}
-
-// How many octets so many bits take, by sums that fit for any number of them.
-fn octets_for(bits: usize) -> usize
-    ensures { result ≡ (bits + 7) / 8 }
-{
-    bits / 8 + (bits % 8 + 7) / 8
+    number.to_be_bytes()
 }
 
 // The first n bits of a number, the others zero.
@@ -96,15 +41,16 @@ fn bits_from(stream: &[u8], first: usize, s: usize) -> u64
     requires { (first < length stream.now) × (s < 8) }
     ensures { (k : ℕ) → k < 57 → 8 * first + s + k < 8 * length stream.now → result / 2 ^ (63 - k) % 2 ≡ bit stream.now (8 * first + s + k) }
 {
+    let mut octets = [0u8; 8];
     // A shorter stream is read as if zeros followed.
     if stream.len() < 8 {
-        let mut eight = [0u8; 8];
-        copy(stream, &mut eight[..stream.len()]);
-        return number_of(&eight) << (8 * first + s);
+        octets[..stream.len()].copy_from_slice(stream);
+        return number_of(&octets) << (8 * first + s);
     }
     // Near the stream's end its last eight octets are read.
-    let start = least(first, stream.len() - 8);
-    number_of(&stream[start..start + 8]) << (8 * (first - start) + s)
+    let start = first.min(stream.len() - 8);
+    octets.copy_from_slice(&stream[start..start + 8]);
+    number_of(&octets) << (8 * (first - start) + s)
 }
 
 // Turns over every bit of a part by those of as many octets.
@@ -112,10 +58,8 @@ fn turn_octets(part: &mut [u8], key: &[u8])
     requires { length key.now ≡ length part.old }
     ensures { part.new ≡ turned (8 * length part.old) (bit key.now) part.old }
 {
-    let mut i = 0;
-    while i < part.len() {
-        part[i] = part[i] ^ key[i];
-        i += 1;
+    for (i, octet) in part.iter_mut().enumerate() {
+        *octet ^= key[i];
     }
 }
 
@@ -125,14 +69,12 @@ fn turn_bits(part: &mut [u8], width: usize, stream: &[u8], from: usize)
     ensures { part.new ≡ turned width (λ n. bit stream.now (from + n)) part.old }
 {
     let first = from / 8;
-    let n = least(part.len(), octets_for(width));
-    let mut at = 0;
-    while at < n {
-        let octets = least(7, n - at);
-        let bits = least(56, width - 8 * at);
+    let n = part.len().min(width.div_ceil(8));
+    for at in (0..n).step_by(7) {
+        let octets = (n - at).min(7);
+        let bits = (width - 8 * at).min(56);
         let key = octets_of(top(bits_from(stream, first + at, from % 8), bits));
         turn_octets(&mut part[at..at + octets], &key[..octets]);
-        at += octets;
     }
 }
 

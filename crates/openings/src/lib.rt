@@ -2,30 +2,38 @@
 #![tactic(auto)]
 
 ghost use Rattle.std.specs.Prelude.{◌≡◌, length};
+ghost use Rattle.answers.specs.Outcomes.{result_of};
 ghost use Rattle.sizes.specs.Ciphers.{vector_octets};
 ghost use Rattle.openings.specs.Ladder.{opening_key_of, session_vector, zero_for, vector_key_of};
 
 use answers::Answer;
-use keybook::{BOOK_OCTETS, Ready, ready_key, refused};
+use keybook::{BOOK_OCTETS, ready_key};
 use keyentry::in_range;
-use octets::{all_zero, copy};
-use sizes::cipher::{Scramble, VECTOR_OCTETS};
+use octets::all_zero;
+use sizes::cipher::{KEY_ROOM, Scramble, VECTOR_OCTETS};
 
 // The ready key for what is to be opened. By the caller's word, its own numbers are in range, and it is bad, or busy.
-pub fn opening_key(ranged: bool, bad: bool, busy: bool, cipher: u8, id: u8, book: &[u8]) -> Ready
-    ensures { (result.answer, result.key) ≡ opening_key_of ranged bad busy cipher id book.now }
+pub fn opening_key(
+    ranged: bool,
+    bad: bool,
+    busy: bool,
+    cipher: u8,
+    id: u8,
+    book: &[u8],
+) -> Result<[u8; KEY_ROOM], Answer>
+    ensures { result ≡ result_of (opening_key_of ranged bad busy cipher id book.now) }
 {
     if book.len() != BOOK_OCTETS {
-        return refused(Answer::WrongLength);
+        return Err(Answer::WrongLength);
     }
     if !ranged || !in_range(cipher, id) {
-        return refused(Answer::OutOfRange);
+        return Err(Answer::OutOfRange);
     }
     if bad {
-        return refused(Answer::Bad);
+        return Err(Answer::Bad);
     }
     if busy {
-        return refused(Answer::NotNow);
+        return Err(Answer::NotNow);
     }
     ready_key(book, cipher, id)
 }
@@ -40,19 +48,14 @@ pub fn session_vector(cipher: u8, vector: &[u8]) -> [u8; VECTOR_OCTETS]
     if cipher == Scramble::TYPE {
         return [0; VECTOR_OCTETS];
     }
-    let mut own = [0; VECTOR_OCTETS];
-    copy(vector, &mut own);
-    own
+    *vector.as_array().unwrap()
 }
 
 // Whether a sender's vector is refused because it is zero.
 fn is_zero_for(cipher: u8, vector: &[u8]) -> bool
     ensures { result ≡ zero_for cipher vector.now }
 {
-    if cipher == Scramble::TYPE {
-        return false;
-    }
-    all_zero(vector)
+    cipher != Scramble::TYPE && all_zero(vector)
 }
 
 // The ready key for an opening that is given a vector: by the caller's word a sender's, or not.
@@ -65,19 +68,15 @@ pub fn opening_key_with(
     id: u8,
     vector: &[u8],
     book: &[u8],
-) -> Ready
-    ensures { (result.answer, result.key) ≡ vector_key_of sends ranged bad busy cipher id vector.now book.now }
+) -> Result<[u8; KEY_ROOM], Answer>
+    ensures { result ≡ result_of (vector_key_of sends ranged bad busy cipher id vector.now book.now) }
 {
     if vector.len() != VECTOR_OCTETS {
-        return refused(Answer::WrongLength);
+        return Err(Answer::WrongLength);
     }
-    let ready = opening_key(ranged, bad, busy, cipher, id, book);
-    let answer = ready.answer;
-    if answer.number() != 0 {
-        return ready;
-    }
+    let key = opening_key(ranged, bad, busy, cipher, id, book)?;
     if sends && is_zero_for(cipher, vector) {
-        return refused(Answer::ZeroVector);
+        return Err(Answer::ZeroVector);
     }
-    ready
+    Ok(key)
 }

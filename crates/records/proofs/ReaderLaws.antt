@@ -1,22 +1,20 @@
 -- The receiver program's reader: what is kept of a line is enough, and what the code carries and hands back is what the reader leaves.
 use mathlib.Core.Path.{◌≡◌, ap, ◌∙◌}
-use mathlib.Core.List.{List, ◌++◌}
-use Prim.Native.Nat.{ℕ, zero, suc, ◌-◌, ◌≤◌, ◌<◌, min}
+use mathlib.Core.List.{List}
+use Prim.Native.Nat.{ℕ, ◌≤◌, ◌<◌}
 use native.Mathlib.Decide.{dec_lt}
 use native.Mathlib.Omega.{arith}
-use lib.ListN.{length, take, drop, replicate}
+use lib.ListN.{length, take}
 use lib.Seq.{take_all, take-append_seam, length-take-le}
 use borrow.Author.Tests.{lt-ltb}
 use Rattle.calls.specs.declared.call.Call.{Call}
-use Rattle.calls.specs.Call.{no_call}
 use Rattle.text.specs.Reader.{Reading, taken, closing}
 use Rattle.text.proofs.ReaderLaws.{Enough}
-use Rattle.text.proofs.CarryLaws.{take_least}
 use Rattle.text.proofs.TakeLaws.{taken-used, taken_wrote, taken_some, closing_wrote}
 use Rattle.lines.specs.Record.{line_octets, line_of}
 use Rattle.records.specs.declared.reader.Carry.{Carry}
 use Rattle.records.specs.Answered.{answer_room, Recorder, recorder, answered}
-use Rattle.records.specs.Reader.{kept_octets, line_reader, reading, reading_of, carried, started, Left, handed, take_from, close_from}
+use Rattle.records.specs.Reader.{kept_octets, line_reader, reading_of, carried, Left, handed, take_from, close_from}
 
 -- ---- what is kept of a line is as good as the whole
 
@@ -31,26 +29,6 @@ line_kept l = go (dec_lt line_octets (length l))
 pub enough : Enough line_reader
 unfolding answered
 enough = record { some = omega arith; as_all = λ l s. rw (line_kept l) }
-
--- ---- what is carried
-
-zeros-left : (k n : ℕ) → drop k (replicate {A = ℕ} n 0) ≡ replicate (n - k) 0
-zeros-left zero n = let e : n - 0 ≡ n = omega arith in rw e
-zeros-left (suc k) zero = let e : 0 - suc k ≡ 0 = omega arith in rw e
-zeros-left (suc k) (suc n) = let e : suc n - suc k ≡ n - k = omega arith in rw e (zeros-left k n)
-
--- before any input
-pub started-is : (call : Call) → call ≡ no_call → record { line = replicate kept_octets 0; count = 0; call = call } ≡ started
-started-is call e = rw e
-
-pub carried-is : (kept : List ℕ) → length kept ≡ kept_octets → (count : ℕ) → count ≤ kept_octets → (call : Call) (p : List ℕ) → p ≡ take count kept
-    → record { line = p ++ drop count (replicate kept_octets 0); count = count; call = call } ≡ carried (take count kept) call
-carried-is kept long count h call p e = rw (e, zeros-left count kept_octets, length-take-le count kept (omega arith))
-
--- as the code reads it: no more octets than there are
-pub reading-is : (line : List ℕ) (count n : ℕ) (call : Call) (book : List ℕ) → length line ≡ kept_octets → n ≡ min count kept_octets
-    → reading line n call book ≡ reading line count call book
-reading-is line count n call book l m = rw (take_least line count kept_octets n (omega arith) m)
 
 -- ---- what is handed back, and the same read
 

@@ -1,10 +1,9 @@
 -- However an input is cut into pieces, and whatever room for output each is given, taking them and finishing writes what its lines come to.
 use mathlib.Core.Path.{◌≡◌, refl, sym, ap, ◌∙◌}
-use mathlib.Core.List.{List, [], ◌++◌}
-use Prim.Native.Nat.{ℕ, ◌+◌, ◌-◌, ◌≤◌}
-use lib.ListN.{length, take, drop}
-use lib.Seq.{take-add}
-use borrow.Author.Rules.{part_to_end}
+use mathlib.Core.List.{List, [], ◌∷◌, ◌++◌}
+use native.Mathlib.Omega.{arith}
+use Prim.Native.Nat.{ℕ, ◌≤◌}
+use lib.ListN.{length, take, drop, take-append-drop}
 use Rattle.calls.specs.Call.{no_call}
 use Rattle.text.specs.Reader.{Reading, fresh, and_then, fed, finished, closing}
 use Rattle.text.proofs.ReaderLaws.{fed_append, whole}
@@ -17,20 +16,20 @@ use Rattle.records.proofs.ReaderLaws.{enough, taken_is, closing-is}
 abbrev Fed : Type 0
 Fed = List ℕ × Reading Recorder
 
--- ---- a piece taken in parts: what is carried, and the book, are those of as much of it as was taken
+-- ---- a piece taken in parts: what is left comes to what it came to with what was taken
 
-pub fed-none : (s : Reading Recorder) (piece : List ℕ) → s ≡ (fed line_reader s (take 0 piece)).1
+pub fed_on : (piece out : List ℕ) (c : Carry) (b : List ℕ) {c' : Carry} {b' out' : List ℕ} {n w : ℕ} → (n, (w, (c', (b', out')))) ≡ take_of c piece b out
+    → (fed line_reader (reading_of c b) piece).1 ≡ (fed line_reader (reading_of c' b') (drop n piece)).1
+fed_on piece out c b {n = n} q =
+    let s = reading_of c b in
+    ap (λ (k : List ℕ). (fed line_reader s k).1) (sym (take-append-drop n piece))
+    ∙ ap (λ (f : Fed). f.1) (fed_append line_reader (take n piece) s (drop n piece))
+    ∙ ap (λ (f : Fed). (fed line_reader f.1 (drop n piece)).1) (taken-fed line_reader s piece out (taken_is s piece out q))
+
+pub fed_all : (s : Reading Recorder) (piece : List ℕ) → length piece ≡ 0 → (fed line_reader s piece).1 ≡ s
 unfolding fed
-fed-none s piece = refl
-
-pub fed_more : (s : Reading Recorder) (piece out : List ℕ) (at : ℕ) (c : Carry) (b : List ℕ) {c' : Carry} {b' out' : List ℕ} {n w : ℕ}
-    → reading_of c b ≡ (fed line_reader s (take at piece)).1 → (n, (w, (c', (b', out')))) ≡ take_of c (take (length piece - at) (drop at piece)) b out
-    → reading_of c' b' ≡ (fed line_reader s (take (at + n) piece)).1
-fed_more s piece out at c b {n = n} before q =
-    let rest = drop at piece in
-    sym (ap (λ (f : Fed). f.1) (taken-fed line_reader (reading_of c b) rest out (taken_is (reading_of c b) rest out (rw (part_to_end piece at) at q))))
-    ∙ ap (λ (t : Reading Recorder). (fed line_reader t (take n rest)).1) before
-    ∙ sym (ap (λ (k : List ℕ). (fed line_reader s k).1) (take-add at n piece) ∙ ap (λ (f : Fed). f.1) (fed_append line_reader (take at piece) s (take n rest)))
+fed_all s [] e = refl
+fed_all s (x ∷ xs) e = absurd (omega arith)
 
 -- ---- a run
 

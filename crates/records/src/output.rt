@@ -8,7 +8,6 @@ ghost use Rattle.records.specs.Lent.{Laid};
 
 use answers::Answer;
 use calls::call::{CLOSED, Call};
-use octets::copy;
 use text::decimal::put_decimal;
 use text::hex::put_hex;
 
@@ -19,7 +18,7 @@ fn put(out: &mut [u8], at: usize, text: &[u8]) -> usize
     ensures { Laid (length text.now) out.old at text.now out.new result }
 {
     let end = at + text.len();
-    copy(text, &mut out[at..end]);
+    out[at..end].copy_from_slice(text);
     end
 }
 
@@ -27,7 +26,7 @@ fn put_number(out: &mut [u8], at: usize, n: u8) -> usize
     requires { at + number_room ≤ length out.old }
     ensures { Laid number_room out.old at (decimal n) out.new result }
 {
-    at + put_decimal(&mut out[at..], n as u32)
+    at + put_decimal(&mut out[at..], u32::from(n))
 }
 
 fn put_octets(out: &mut [u8], at: usize, octets: &[u8]) -> usize
@@ -53,7 +52,7 @@ fn put_frame(out: &mut [u8], at: usize, frame: &[u8]) -> usize
     requires { (at + 2 * record_frame ≤ length out.old) × (length frame.now ≤ record_frame) }
     ensures { Laid (2 * record_frame) out.old at (shown frame.now) out.new result }
 {
-    if frame.len() == 0 {
+    if frame.is_empty() {
         return put(out, at, b"-");
     }
     put_octets(out, at, frame)

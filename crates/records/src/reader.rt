@@ -1,14 +1,14 @@
 // Lines out of pieces of input. What is carried from piece to piece is a value; the book and the room for output are lent.
-ghost use Rattle.std.specs.Prelude.{◌≡◌, ◌++◌, ◌≤◌, length, take};
+ghost use Rattle.std.specs.Prelude.{◌≡◌, List, ℕ, ◌++◌, ◌≤◌, length, take};
 ghost use Rattle.text.specs.Responded.{Responded};
 ghost use Rattle.sessions.specs.Session.{Cached};
 ghost use Rattle.records.specs.Answered.{answer_room, recorder};
-ghost use Rattle.records.specs.Reader.{kept_octets, line_reader, reading, carried, started, take_from, take_of, close_from, close_of};
+ghost use Rattle.records.specs.Reader.{kept_octets, line_reader, reading_of, carried, started, take_of, close_of};
 
-use crate::respond::{Response, respond};
+use crate::respond::respond;
 use calls::call::{Call, no_call};
 use lines::record::LINE_OCTETS;
-use octets::{copy, least};
+use sessions::Session;
 use sizes::frame::{HALF_FRAME_OCTETS, HALF_SESSION_OCTETS};
 use text::carry::keep;
 use text::part::{LINE_END, part_end};
@@ -57,80 +57,89 @@ pub fn start() -> Carry
     }
 }
 
-fn carry_on(kept: [u8; KEPT_OCTETS], count: usize, call: Call) -> Carry
-    requires { count ≤ kept_octets }
-    ensures { result ≡ carried (take count kept) call }
-{
-    let mut line = [0; KEPT_OCTETS];
-    copy(&kept[..count], &mut line[..count]);
-    Carry { line, count, call }
-}
-
-// ---- a line that ends
-
-// What was kept of it and these octets. Where nothing was kept they are the line.
-fn end_line(
-    kept: &mut [u8],
-    count: usize,
-    octets: &[u8],
-    book: &mut [u8],
-    call: Call,
-    session: &mut [u8],
-    made: bool,
-    out: &mut [u8],
-) -> Response
-    requires { (length kept.old ≡ kept_octets) × (count ≤ kept_octets) × (answer_room ≤ length out.old) × Cached made call session.old }
-    ensures responded { Responded line_reader (take count kept.old ++ octets.now) (recorder book.old call) out.old result.length (recorder book.new result.call) out.new }
-    ensures cached { Cached result.made result.call session.new }
-{
-    if count > 0 {
-        let all = keep(kept, count, octets);
-        return respond(&kept[..all], book, call, session, made, out);
+impl Carry {
+    // The same, with no more octets than there are.
+    fn within(self) -> Carry
+        ensures few { result.count ≤ kept_octets }
+        ensures same { (book : List ℕ) → reading_of result book ≡ reading_of self book }
+    {
+        Carry {
+            count: self.count.min(KEPT_OCTETS),
+            ..self
+        }
     }
-    respond(octets, book, call, session, made, out)
+
+    // As it is handed back: zeros past the octets of the line.
+    fn cleared(mut self) -> Carry
+        requires { self.count ≤ kept_octets }
+        ensures { result ≡ carried (take self.count self.line) self.call }
+    {
+        let count = self.count;
+        self.line[count..].fill(0);
+        self
+    }
+
+    // A line that ends: what was kept of it, and these octets. Where nothing was kept they are the line. How much output it gave.
+    fn end_line(
+        &mut self,
+        octets: &[u8],
+        book: &mut [u8],
+        session: &mut Session<'_>,
+        out: &mut [u8],
+    ) -> usize
+        requires { (self.old.count ≤ kept_octets) × (answer_room ≤ length out.old) × Cached session.old.made self.old.call session.old.octets.now }
+        ensures responded { Responded line_reader (take self.old.count self.old.line ++ octets.now) (recorder book.old self.old.call) out.old result (recorder book.new self.new.call) out.new }
+        ensures cached { Cached session.new.made self.new.call session.new.octets.now }
+        ensures none_kept { (self.new.count ≡ 0) × (length self.new.line ≡ kept_octets) }
+    {
+        let count = self.count;
+        let call = self.call;
+        let done = if count > 0 {
+            let all = keep(&mut self.line, self.count, octets);
+            respond(&self.line[..all], book, self.call, session, out)
+        } else {
+            respond(octets, book, self.call, session, out)
+        };
+        self.count = 0;
+        self.call = done.call;
+        done.length
+    }
 }
 
 // ---- pieces of input
 
-// From a line of which so many octets are kept, line by line.
-fn take_from(
-    mut kept: [u8; KEPT_OCTETS],
-    mut count: usize,
-    mut call: Call,
-    piece: &[u8],
-    book: &mut [u8],
-    out: &mut [u8],
-) -> Took
-    requires { count ≤ kept_octets }
-    ensures { (result.used, (result.wrote, (result.carry, (book.new, out.new)))) ≡ take_from (reading kept count call book.old) piece.now out.old }
+// From what is carried on, line by line.
+fn take_from(mut carry: Carry, piece: &[u8], book: &mut [u8], out: &mut [u8]) -> Took
+    requires { carry.count ≤ kept_octets }
+    ensures { (result.used, (result.wrote, (result.carry, (book.new, out.new)))) ≡ take_of carry piece.now book.old out.old }
 {
-    let mut session = [0; HALF_SESSION_OCTETS];
-    let mut made = false;
+    let mut octets = [0; HALF_SESSION_OCTETS];
+    let mut session = Session {
+        octets: &mut octets,
+        made: false,
+    };
     let mut used = 0;
     let mut wrote = 0;
-    loop {
-        if out.len() - wrote < ANSWER_ROOM {
-            let carry = carry_on(kept, count, call);
-            return Took { used, wrote, carry };
-        }
+    // Kept: a turn goes on by a line, however long that is, and stops where the room for output does: no `for` is plainer.
+    while out.len() - wrote >= ANSWER_ROOM {
         let end = part_end(piece, used, LINE_END);
         let rest = &piece[used..end];
         if end == piece.len() {
-            count = keep(&mut kept, count, rest);
-            let carry = carry_on(kept, count, call);
+            let count = carry.count;
+            carry.count = keep(&mut carry.line, count, rest);
             return Took {
                 used: end,
                 wrote,
-                carry,
+                carry: carry.cleared(),
             };
         }
-        let room = &mut out[wrote..];
-        let done = end_line(&mut kept, count, rest, book, call, &mut session, made, room);
-        wrote += done.length;
-        call = done.call;
-        made = done.made;
-        count = 0;
+        wrote += carry.end_line(rest, book, &mut session, &mut out[wrote..]);
         used = end + 1;
+    }
+    Took {
+        used,
+        wrote,
+        carry: carry.cleared(),
     }
 }
 
@@ -140,44 +149,34 @@ pub fn take(carry: Carry, piece: &[u8], book: &mut [u8], out: &mut [u8]) -> Took
     ensures within { (result.used ≤ length piece.now) × (result.wrote ≤ length out.new) }
     ensures goes_on { answer_room ≤ length out.old → 1 ≤ length piece.now → 1 ≤ result.used }
 {
-    let line = carry.line;
-    let call = carry.call;
-    take_from(
-        line,
-        least(carry.count, KEPT_OCTETS),
-        call,
-        piece,
-        book,
-        out,
-    )
+    take_from(carry.within(), piece, book, out)
 }
 
-// From a line of which so many octets are kept.
-fn finish_from(
-    line: [u8; KEPT_OCTETS],
-    count: usize,
-    call: Call,
-    book: &mut [u8],
-    out: &mut [u8],
-) -> Finished
-    requires { count ≤ kept_octets }
-    ensures { (result.wrote, (result.carry, (book.new, out.new))) ≡ close_from (reading line count call book.old) out.old }
+// From what is carried on.
+fn finish_from(carry: Carry, book: &mut [u8], out: &mut [u8]) -> Finished
+    requires { carry.count ≤ kept_octets }
+    ensures { (result.wrote, (result.carry, (book.new, out.new))) ≡ close_of carry book.old out.old }
 {
-    if out.len() < ANSWER_ROOM {
-        let carry = carry_on(line, count, call);
-        return Finished { wrote: 0, carry };
+    let count = carry.count;
+    if out.len() < ANSWER_ROOM || count == 0 {
+        return Finished {
+            wrote: 0,
+            carry: carry.cleared(),
+        };
     }
-    if count == 0 {
-        let carry = carry_on(line, 0, call);
-        return Finished { wrote: 0, carry };
-    }
-    let mut session = [0; HALF_SESSION_OCTETS];
-    let done = respond(&line[..count], book, call, &mut session, false, out);
-    let after = done.call;
-    let carry = carry_on(line, 0, after);
+    let mut octets = [0; HALF_SESSION_OCTETS];
+    let mut session = Session {
+        octets: &mut octets,
+        made: false,
+    };
+    let done = respond(&carry.line[..count], book, carry.call, &mut session, out);
+    let after = Carry {
+        call: done.call,
+        ..start()
+    };
     Finished {
         wrote: done.length,
-        carry,
+        carry: after,
     }
 }
 
@@ -186,7 +185,5 @@ pub fn finish(carry: Carry, book: &mut [u8], out: &mut [u8]) -> Finished
     ensures closed { (result.wrote, (result.carry, (book.new, out.new))) ≡ close_of carry book.old out.old }
     ensures within { result.wrote ≤ length out.new }
 {
-    let line = carry.line;
-    let call = carry.call;
-    finish_from(line, least(carry.count, KEPT_OCTETS), call, book, out)
+    finish_from(carry.within(), book, out)
 }

@@ -9,13 +9,13 @@ use crate::output::put_answer;
 use crate::step::step;
 use calls::call::Call;
 use lines::record::{RECORD_ROOM, read};
+use sessions::Session;
 
-// How long the output line is, the call after it, and whether the lent session is the call's.
+// How long the output line is, and the call after it.
 #[derive(Clone, Copy)]
 pub struct Response {
     pub length: usize,
     pub call: Call,
-    pub made: bool,
 }
 
 // Does what a line says, and writes its output line at the start of lent octets.
@@ -23,24 +23,19 @@ pub fn respond(
     line: &[u8],
     book: &mut [u8],
     call: Call,
-    session: &mut [u8],
-    made: bool,
+    session: &mut Session<'_>,
     out: &mut [u8],
 ) -> Response
-    requires { (answer_room ≤ length out.old) × Cached made call session.old }
+    requires { (answer_room ≤ length out.old) × Cached session.old.made call session.old.octets.now }
     ensures responded { Responded line_reader line.now (recorder book.old call) out.old result.length (recorder book.new result.call) out.new }
-    ensures cached { Cached result.made result.call session.new }
+    ensures cached { Cached session.new.made result.call session.new.octets.now }
 {
     let mut octets = [0; RECORD_ROOM];
     let parsed = read(line, &mut octets);
-    let stepped = step(parsed, &mut octets, book, call, session, made);
-    let answer = stepped.answer;
-    let after = stepped.call;
-    let shown = stepped.shown;
-    let length = put_answer(out, answer, after, &octets[..shown]);
+    let done = step(parsed, &mut octets, book, call, session);
+    let length = put_answer(out, done.answer, done.call, &octets[..done.shown]);
     Response {
         length,
-        call: after,
-        made: stepped.made,
+        call: done.call,
     }
 }

@@ -1,5 +1,7 @@
 -- When a report gives each answer, by plain numbers and in both directions, and what it says. Its statement settles it: any two that meet it are equal.
-use mathlib.Core.Path.{◌≡◌, refl, sym, ap, ap₂, subst, ◌∙◌}
+use mathlib.Core.Path.{◌≡◌, refl, sym, ap, subst, ◌∙◌}
+use Rattle.std.specs.Prelude.{Result, Ok, Err, IfOk}
+use Rattle.std.specs.Result.{result_map_both}
 use mathlib.Core.Bool.{Bool, true, false, ◌&&◌, ◌||◌, not, and-true, true≢false}
 use mathlib.Core.List.{List}
 use mathlib.Core.Logic.{◌⊎◌, inl, inr}
@@ -12,9 +14,10 @@ use Rattle.octets.specs.Tests.{pick, all_below}
 use Rattle.sizes.specs.Frame.{most_words}
 use Rattle.answers.specs.declared.Answer.{Answer}
 use Rattle.answers.specs.declared.Answer.TheVariants.{Done, WrongLength, PastLimit}
+use Rattle.answers.specs.Outcomes.{result_of}
 use Rattle.answers.specs.Numbers.{number_of}
 use Rattle.answers.proofs.OutcomeLaws.{Refusal, keeps}
-use Rattle.report.specs.declared.Reported.{Reported}
+use Rattle.report.specs.declared.Sums.{Sums}
 use Rattle.report.specs.Report.{per_call, calls, most_calls, counts_within, sum_at, figures, no_figures, sums, report_refusals, report_of}
 use Rattle.report.proofs.SumLaws.{count_most, at_most}
 
@@ -110,38 +113,53 @@ module _ (counts : List ℕ) where
   pub sum-at-most : Adds counts → (place : ℕ) → sum_at place counts ≤ 40000000000
   sum-at-most a = at_most counts a.small (omega (arith, a.few))
 
-  module _ (r : Reported) (e : (r.answer, figures r) ≡ report_of counts) where
-    abbrev Ratio : List ℕ → Type 0
-    Ratio l = (get_or l 4 0 ≡ get_or l 0 0) × (get_or l 5 0 ≡ get_or l 0 0 + get_or l 1 0)
+  -- what a refusal says is its answer, and what is done its sums
+  pub refused-two : (length counts % 4 ≡ 0 → ⊥) → result_of (report_of counts) ≡ Err WrongLength
+  refused-two n = ap result_of (wrong_length n)
+
+  pub refused_past : Past counts → result_of (report_of counts) ≡ Err PastLimit
+  refused_past p = ap result_of (past_limit p)
+
+  pub done-result : Adds counts → result_of (report_of counts) ≡ Ok (sums counts)
+  done-result a = ap result_of (done_sums a)
+
+  module _ (r : Result Sums Answer) (e : result_map_both figures (λ a. a) r ≡ result_of (report_of counts)) where
+    abbrev Ratio : Result (List ℕ) Answer → Type 0
+    Ratio r = IfOk r (λ l. (get_or l 4 0 ≡ get_or l 0 0) × (get_or l 5 0 ≡ get_or l 0 0 + get_or l 1 0))
 
     -- opened over opened plus held
-    pub ratio : (r.part ≡ r.opened) × (r.whole ≡ r.opened + r.held)
+    pub ratio : IfOk r (λ s. (s.part ≡ s.opened) × (s.whole ≡ s.opened + s.held))
     unfolding sums
-    ratio =
-        subst (λ (o : Answer × List ℕ). Ratio o.1) (sym e)
-        (by-case (λ o. Ratio o.1) (λ h. (refl, refl)) (λ h. (refl, refl)) (λ h. (refl, refl)))
+    ratio = of_result r (subst Ratio (sym e) (by-case (λ o. Ratio (result_of o)) (λ h. tt) (λ h. tt) (λ h. (refl, refl))))
+      where
+        of_result : (r : Result Sums Answer) → Ratio (result_map_both figures (λ a. a) r) → IfOk r (λ s. (s.part ≡ s.opened) × (s.whole ≡ s.opened + s.held))
+        of_result (Ok s) h = h
+        of_result (Err a) h = tt
 
-    pub part_of_whole : r.part ≤ r.whole
-    part_of_whole = omega (arith, ratio.0, ratio.1)
+    pub part_of_whole : IfOk r (λ s. s.part ≤ s.whole)
+    part_of_whole = go r ratio
+      where
+        go : (r : Result Sums Answer) → IfOk r (λ s. (s.part ≡ s.opened) × (s.whole ≡ s.opened + s.held)) → IfOk r (λ s. s.part ≤ s.whole)
+        go (Ok s) h = omega (arith, h.0, h.1)
+        go (Err a) h = tt
 
 -- ---- any two that meet the statement are equal
 
-abbrev reported : Answer × List ℕ → Reported
-reported o =
+abbrev sums_of : List ℕ → Sums
+sums_of l =
     record {
-      answer = o.0;
-      opened = get_or o.1 0 0;
-      held = get_or o.1 1 0;
-      replaced = get_or o.1 2 0;
-      lost = get_or o.1 3 0;
-      part = get_or o.1 4 0;
-      whole = get_or o.1 5 0;
+      opened = get_or l 0 0;
+      held = get_or l 1 0;
+      replaced = get_or l 2 0;
+      lost = get_or l 3 0;
+      part = get_or l 4 0;
+      whole = get_or l 5 0;
     }
 
-pub one_report : (r s : Reported) (counts : List ℕ) → (r.answer, figures r) ≡ report_of counts → (s.answer, figures s) ≡ report_of counts → r ≡ s
-one_report r s counts p q = ap reported (p ∙ sym q)
-
--- by what a callee hands back
-pub handed : (r : Reported) {a : Answer} {l : List ℕ} {o : Answer × List ℕ} → (r.answer ≡ a) × (figures r ≡ l) → o ≡ (a, l)
-    → (r.answer, figures r) ≡ o
-handed r e h = ap₂ (λ (x : Answer) (y : List ℕ). (x, y)) e.0 e.1 ∙ sym h
+pub one_report : (r s : Result Sums Answer) (counts : List ℕ) → result_map_both figures (λ a. a) r ≡ result_of (report_of counts)
+    → result_map_both figures (λ a. a) s ≡ result_of (report_of counts) → r ≡ s
+one_report r s counts p q = sym (back r) ∙ ap (result_map_both sums_of (λ a. a)) (p ∙ sym q) ∙ back s
+  where
+    back : (r : Result Sums Answer) → result_map_both sums_of (λ a. a) (result_map_both figures (λ a. a) r) ≡ r
+    back (Ok s) = refl
+    back (Err a) = refl

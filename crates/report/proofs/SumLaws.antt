@@ -1,6 +1,6 @@
 -- The sum over the calls: how far it can go, and the calls of two reports one after the other.
 use mathlib.Core.Path.{◌≡◌, refl, sym, ap, ap₂, ◌∙◌}
-use mathlib.Core.Bool.{true}
+use mathlib.Core.Bool.{Bool, true, false}
 use mathlib.Core.List.{List, [], ◌∷◌, ◌++◌}
 use Prim.Native.Nat.{ℕ, zero, suc, ◌+◌, ◌*◌, ◌%◌, ◌≤◌, ◌<◌}
 use native.Mathlib.Nat.{add-zero, add-suc, mul-zero, mul-suc}
@@ -10,8 +10,10 @@ use native.Mathlib.Omega.{arith}
 use lib.Dec.{leb}
 use lib.ListN.{length, get_or, length-append, replicate, length-replicate, get_or-replicate, get_or-append, get_or-eq_default}
 use lib.Seq.{get_or-append-add}
-use borrow.Author.Tests.{leb-true}
-use Rattle.octets.proofs.TestLaws.{all-at}
+use borrow.Author.Tests.{leb-true, le-leb, lt-leb}
+use Rattle.octets.proofs.TestLaws.{all-at, all_intro, all_fails}
+use Rattle.std.proofs.Common.{MatchBool}
+use Rattle.std.specs.List.{HoldsAt, AllWithin}
 use Rattle.sizes.specs.Frame.{most_words}
 use Rattle.report.specs.Report.{per_call, opened, held, replaced, lost, calls, count_at, most_calls, counts_within, sum_below, sum_at, sums}
 
@@ -105,3 +107,13 @@ sum_alike place p n count =
   where
     at : ℕ → ℕ
     at = count_at place (replicate (per_call * n) count)
+
+-- ---- as the code looks the counts over
+
+pub within_cases : (counts : List ℕ) (r : Bool)
+    → MatchBool r (AllWithin (λ x. x ≤ most_words) counts 0 (length counts)) ((k : ℕ) × (k < length counts) × HoldsAt (λ x. most_words < x) counts k)
+    → r ≡ counts_within counts
+unfolding counts_within
+within_cases counts true h =
+    sym (all_intro (λ i. leb (get_or counts i 0) most_words) (length counts) (λ i l. le-leb _ _ (h i 0 (omega arith) l)))
+within_cases counts false h = sym (all_fails (λ i. leb (get_or counts i 0) most_words) (length counts) h.0 h.1 (lt-leb _ _ (h.2 0)))

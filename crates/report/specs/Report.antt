@@ -5,7 +5,7 @@ use Rattle.sizes.specs.Frame.{most_words}
 use Rattle.answers.specs.declared.Answer.{Answer}
 use Rattle.answers.specs.declared.Answer.TheVariants.{WrongLength, PastLimit}
 use Rattle.answers.specs.Outcomes.{Refusals, outcome}
-use Rattle.report.specs.declared.Reported.{Reported}
+use Rattle.report.specs.declared.Sums.{Sums}
 
 -- ---- the counts, call after call: four to a call, each at its place
 
@@ -51,8 +51,8 @@ sum_at place counts = sum_below (count_at place counts) (calls counts)
 
 -- ---- the report
 
--- what it says besides its answer
-abbrev pub figures : Reported → List ℕ
+-- what it says, in order
+abbrev pub figures : Sums → List ℕ
 figures r = r.opened ∷ r.held ∷ r.replaced ∷ r.lost ∷ r.part ∷ r.whole ∷ []
 
 abbrev pub no_figures : List ℕ

@@ -2,7 +2,9 @@
 #![tactic(auto)]
 
 ghost use Rattle.std.specs.Prelude.{◌≡◌, true, ◌≤◌, ◌<◌};
-ghost use Rattle.report.specs.Report.{per_call, calls, most_calls, counts_within, sum_at, figures, no_figures, sums, report_of};
+ghost use Rattle.answers.specs.Outcomes.{result_of};
+ghost use Rattle.report.specs.Report.{per_call, calls, most_calls, counts_within, sum_at, figures, sums, report_of};
+ghost use Rattle.std.specs.Result.{result_map_both};
 
 use answers::Answer;
 use sizes::frame::MOST_WORDS;
@@ -20,10 +22,9 @@ const LOST: usize = 3;
 
 const MOST_CALLS: usize = 10_000;
 
-// The sums, and opened over opened plus held as part over whole. A refusal gives zeros.
-#[derive(Clone, Copy)]
-pub struct Reported {
-    pub answer: Answer,
+// The sums, and opened over opened plus held as part over whole.
+#[derive(Clone, Copy, PartialEq, Eq)]
+pub struct Sums {
     pub opened: u64,
     pub held: u64,
     pub replaced: u64,
@@ -35,21 +36,7 @@ pub struct Reported {
 fn counts_within(counts: &[u32]) -> bool
     ensures { result ≡ counts_within counts.now }
 {
-    let mut i = 0;
-    while i < counts.len() {
-        if counts[i] > MOST_WORDS {
-            return false;
-        }
-        i += 1;
-    }
-    true
-}
-
-// A count, as wide as the sums are.
-fn widened(count: u32) -> u64
-    ensures { result ≡ count }
-{
-    count as u64
+    counts.iter().all(|count| *count <= MOST_WORDS)
 }
 
 fn sum_at(counts: &[u32], place: usize) -> u64
@@ -57,39 +44,22 @@ fn sum_at(counts: &[u32], place: usize) -> u64
     ensures { result ≡ sum_at place counts.now }
 {
     let mut sum: u64 = 0;
-    let mut call = 0;
-    while call < counts.len() / PER_CALL {
-        sum += widened(counts[PER_CALL * call + place]);
-        call += 1;
+    for call in 0..counts.len() / PER_CALL {
+        sum += u64::from(counts[PER_CALL * call + place]);
     }
     sum
 }
 
-fn refused(answer: Answer) -> Reported
-    ensures { (result.answer ≡ answer) × (figures result ≡ no_figures) }
-{
-    Reported {
-        answer,
-        opened: 0,
-        held: 0,
-        replaced: 0,
-        lost: 0,
-        part: 0,
-        whole: 0,
-    }
-}
-
 // The sums of counts that nothing refuses.
-fn added(counts: &[u32]) -> Reported
+fn added(counts: &[u32]) -> Sums
     requires { (calls counts.now ≤ most_calls) × (counts_within counts.now ≡ true) }
-    ensures { (result.answer ≡ Answer.Done) × (figures result ≡ sums counts.now) }
+    ensures { figures result ≡ sums counts.now }
 {
     let opened = sum_at(counts, OPENED);
     let held = sum_at(counts, HELD);
     let replaced = sum_at(counts, REPLACED);
     let lost = sum_at(counts, LOST);
-    Reported {
-        answer: Answer::Done,
+    Sums {
         opened,
         held,
         replaced,
@@ -100,14 +70,14 @@ fn added(counts: &[u32]) -> Reported
 }
 
 // The counts of up to 10,000 calls, four to a call in the order in which end gives them.
-pub fn report(counts: &[u32]) -> Reported
-    ensures { (result.answer, figures result) ≡ report_of counts.now }
+pub fn report(counts: &[u32]) -> Result<Sums, Answer>
+    ensures { result_map_both figures (λ a. a) result ≡ result_of (report_of counts.now) }
 {
     if counts.len() % PER_CALL != 0 {
-        return refused(Answer::WrongLength);
+        return Err(Answer::WrongLength);
     }
     if counts.len() / PER_CALL > MOST_CALLS || !counts_within(counts) {
-        return refused(Answer::PastLimit);
+        return Err(Answer::PastLimit);
     }
-    added(counts)
+    Ok(added(counts))
 }

@@ -6,7 +6,7 @@ use native.Mathlib.Nat.{add_assoc, zero-add, lt_of_lt_of_le, add-zero, mul-mod_l
 use native.Mathlib.Numerals.{add-one}
 use native.Mathlib.Omega.{arith}
 use lib.Bits.{bit_xor, xor_block, xor_mod, xor_zero_r}
-use lib.Pow.{pow_mono, high, mod-pow-add, mod-mod-pow, shl-shr, shr_le, shr-shr}
+use lib.Pow.{pow_mono, high, mod-pow-add, mod-mod-pow, shl-shr, shr-shr}
 use lib.ListN.{get_or}
 use Rattle.octets.specs.Bits.{octets_from}
 use Rattle.octets.proofs.BitLaws.{octet_same, get_or-octets_from}
@@ -36,9 +36,6 @@ module _ (key : List ℕ) (i : ℕ) where
   gather_rest rest e = ap (λ (z : ℕ). z / 2) e ∙ shr-shr (key_number key) i 1
 
 -- the bits held k places later
-pub later-fits : (x y k : ℕ) → x % 32768 + y % 32768 / 2 ^ k < 2 ^ 64
-later-fits x y k = omega (arith, shr_le (y % 32768) k)
-
 module _ (key : List ℕ) (n : ℕ) where
   abbrev s : ℕ → ℕ
   s = P key

@@ -9,12 +9,14 @@ ghost use Rattle.octets.specs.Bits.{octets_from};
 ghost use Rattle.scramble.specs.Sequence.{key_number, P};
 ghost use Rattle.scramble.specs.Held.{held, moved};
 
+// Kept: a key is a slice of any length of at least 2, here and in each function below, since `write` asks no more of its callers.
+//
 // The key's fifteen bits as a number.
 fn key_number(key: &[u8]) -> usize
     requires { 2 ≤ length key.now }
     ensures { result ≡ key_number key.now }
 {
-    (256 * octets::wide(key[0]) + octets::wide(key[1])) % 32768
+    usize::from(u16::from_be_bytes([key[0], key[1]])) % 32768
 }
 
 // The bits from place 0 on: the key's own, the lowest first.
@@ -24,11 +26,9 @@ fn first(key: &[u8]) -> usize
 {
     let mut rest = key_number(key);
     let mut bits = 0;
-    let mut i = 0usize;
-    while i < 15 {
+    for _ in 0..15usize {
         bits = 2 * bits + rest % 2;
-        rest = rest / 2;
-        i += 1;
+        rest /= 2;
     }
     bits
 }
@@ -47,13 +47,11 @@ fn octets_later(bits: usize, n: usize) -> usize
     requires { bits < 2 ^ 15 }
     ensures { result ≡ iterate moved (8 * n) bits }
 {
-    let mut b = bits;
-    let mut i = 0;
-    while i < n {
-        b = later(b, 8);
-        i += 1;
+    let mut moved = bits;
+    for _ in 0..n {
+        moved = later(moved, 8);
     }
-    b
+    moved
 }
 
 // The bits from a place on. The sequence comes again after 32,767 places, so that no place is far.
@@ -71,10 +69,8 @@ pub fn write(key: &[u8], from: usize, out: &mut [u8])
     ensures { out.new ≡ octets_from (length out.old) (λ k. P key.now (from + k)) }
 {
     let mut bits = bits_at(key, from);
-    let mut i = 0;
-    while i < out.len() {
-        out[i] = (bits >> 7) as u8;
+    for octet in out.iter_mut() {
+        *octet = (bits >> 7) as u8;
         bits = later(bits, 8);
-        i += 1;
     }
 }

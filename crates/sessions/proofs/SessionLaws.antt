@@ -1,34 +1,33 @@
 -- Lent octets that hold a session: when they are made, and what keeps them.
-use mathlib.Core.Path.{◌≡◌, refl, sym, ap, ◌∙◌}
+use mathlib.Core.Path.{◌≡◌, refl, sym, ap, subst, ◌∙◌}
 use mathlib.Core.Bool.{Bool, true, false, ◌&&◌, false≢true}
 use mathlib.Core.List.{List, ◌++◌}
+use Rattle.std.specs.Prelude.{Result, Ok, Err, IsErr}
 use Prim.Native.Nat.{ℕ, ◌-◌, ◌/◌, ◌%◌, ◌^◌, ◌≤◌, ◌<◌}
-use native.Mathlib.Decide.{dec_lt}
 use native.Mathlib.Omega.{arith}
 use lib.Dec.{leb}
 use lib.ListN.{length, take, drop, length-append, get_or-append}
 use lib.Seq.{length-take-le}
 use borrow.Author.Tests.{le-leb, lt-leb}
 use Rattle.answers.specs.declared.Answer.{Answer}
-use Rattle.answers.specs.Numbers.{number_of}
-use Rattle.answers.proofs.OutcomeLaws.{Refusal}
+use Rattle.answers.specs.declared.Answer.TheVariants.{Done}
+use Rattle.answers.specs.Outcomes.{result_of}
+use Rattle.answers.proofs.ResultLaws.{is_returned}
 use Rattle.sizes.specs.Ciphers.{scrambles}
 use Rattle.sizes.specs.Frame.{session_octets}
 use Rattle.calls.specs.declared.call.Call.{Call}
 use Rattle.calls.specs.Call.{unknown_vector, good_call, standing, knows, width_of}
 use Rattle.voice.specs.Slot.{lost_of, stream_of, voice_of, voice_by_octets, session_stream_of, IsSession}
+use Rattle.voice.specs.declared.slot.Slot.{Slot}
+use Rattle.voice.specs.Told.{slot_of}
 use Rattle.calls.proofs.CallLaws.{knows_no, knows_yes}
 use Rattle.voice.proofs.SessionOnce.{voice_by_is_voice, session-made, session-kept, session-kept-lost}
-use Rattle.voice.proofs.Settled.{lost_keeps, voice_keeps}
-use Rattle.sessions.specs.Session.{Cached, can_hold}
+use Rattle.voice.proofs.ToldLaws.{slot_told}
+use Rattle.sessions.specs.Session.{Cached, can_hold, call_after}
 
 -- nothing holds what is not made
 pub unmade : (c : Call) (session : List ℕ) → Cached false c session
 unmade c session = record { holds = λ e. absurd (false≢true e) }
-
--- a slot that is handed on as it is
-pub slot_is : {a b : Answer} {c d : Call} {f : List ℕ} {o : Answer × (Call × List ℕ)} → (a ≡ b) × (c ≡ d) → (b, (d, f)) ≡ o → (a, (c, f)) ≡ o
-slot_is same e = rw (same.0, same.1) e
 
 -- octets that hold a session may be followed by any
 session_longer : (c : Call) (xs ys : List ℕ) → IsSession c xs → IsSession c (xs ++ ys)
@@ -76,34 +75,41 @@ module _ (c : Call) (session : List ℕ) where
 
   module _ {made : Bool} (h : Cached made c session) where
     -- a refusal leaves the call, so it is still in its session
-    pub refused_cached : {stays : Bool} {a : Answer} {call after : Call} {o : Answer × Call} → (a, call) ≡ o → (Refusal o.0 → o.1 ≡ c) → after ≡ call
-        → (stays ≡ true → (made ≡ true) × Refusal a) → Cached stays after session
-    refused_cached {after = after} {o = o} q keeps e s =
-        let same : Refusal o.0 → after ≡ c = λ r. e ∙ ap (λ (x : Answer × Call). x.1) q ∙ keeps r in
-        record { holds = λ t. rw (same (rw (ap (λ (x : Answer × Call). x.0) q) at (s t).1)) (h.holds (s t).0) }
+    pub refused_cached : {stays : Bool} (done : Result Call Answer) → (stays ≡ true → (made ≡ true) × IsErr done) → Cached stays (call_after c done) session
+    refused_cached done s = record { holds = λ t. go done (s t).1 (h.holds (s t).0) }
+      where
+        go : (r : Result Call Answer) → IsErr r → IsSession c session → IsSession (call_after c r) session
+        go (Ok d) e i = absurd (false≢true e)
+        go (Err a) e i = i
 
-    module _ (m : made ≡ true) {a : Answer} {after : Call} {goes : Bool}
-        (g : goes ≡ true → number_of a ≤ 1 → after.position ≡ 0 → scrambles c.terms.cipher ≡ true) where
-      -- a slot leaves it in its session, if it goes on
-      slot-cached : (o : Answer × Call) → (a, after) ≡ o → (Refusal o.0 → o.1 ≡ c)
-          → ((o.1.position ≡ 0 → scrambles c.terms.cipher ≡ true) → IsSession o.1 session) → Cached goes after session
-      slot-cached o q keeps kept = record { holds = λ t. rw (ap (λ (x : Answer × Call). x.1) q) (go t (dec_lt 1 (number_of o.0))) }
-        where
-          go : goes ≡ true → Dec (1 < number_of o.0) → IsSession o.1 session
-          go t (yes r) = rw (keeps r) (h.holds m)
-          go t (no r) =
-              let taken : number_of a ≤ 1 = rw (ap (λ (x : Answer × Call). number_of x.0) q) (omega arith) in
-              kept (λ p. g t taken (ap (λ (x : Answer × Call). x.1.position) q ∙ p))
+    -- a slot leaves it in its session, if it goes on
+    lost-cached : {goes : Bool} {after : Call} → (goes ≡ true → (made ≡ true) × (after.position ≡ 0 → scrambles c.terms.cipher ≡ true))
+        → lost_of c ≡ (Done, after) → Cached goes after session
+    lost-cached s q =
+        record {
+          holds =
+              λ t.
+              subst (λ (d : Call). IsSession d session) (ap (λ (o : Answer × Call). o.1) q)
+              (session-kept-lost c session (h.holds (s t).0) (λ p. (s t).1 (sym (ap (λ (o : Answer × Call). o.1.position) q) ∙ p)));
+        }
 
-      pub lost_cached : (a, after) ≡ lost_of c → Cached goes after session
-      lost_cached q = slot-cached (lost_of c) q (lost_keeps c) (session-kept-lost c session (h.holds m))
+    -- so does a lost one that is done
+    pub lost_cached : {goes : Bool} {after : Call} {r : Result Call Answer} → r ≡ result_of (lost_of c) → r ≡ Ok after
+        → (goes ≡ true → (made ≡ true) × (after.position ≡ 0 → scrambles c.terms.cipher ≡ true)) → Cached goes after session
+    lost_cached e p s = lost-cached s (is_returned (lost_of c) e p)
 
-      pub voice_cached : (mask : ℕ) (frame : List ℕ) {f : List ℕ} → (a, (after, f)) ≡ voice_of c mask frame → Cached goes after session
-      voice_cached mask frame q =
-          slot-cached ((voice_of c mask frame).0, (voice_of c mask frame).1.0) (ap (λ (o : Answer × (Call × List ℕ)). (o.0, o.1.0)) q)
-          (λ r. ap (λ (o : Call × List ℕ). o.0) (voice_keeps c mask frame r)) (session-kept c session (h.holds m) stream_of mask frame)
+    module _ (m : made ≡ true) (mask : ℕ) (frame : List ℕ) where
+      -- a slot by octets that hold the session is the slot of the call
+      pub voice_held : {o : Result Slot Answer × List ℕ} → o ≡ slot_of (voice_by_octets session c mask frame) → o ≡ slot_of (voice_of c mask frame)
+      voice_held q = q ∙ ap slot_of (voice_by_is_voice c session (h.holds m) mask frame)
 
-    -- a slot by octets that hold the session is the slot of the call
-    pub voice_held : made ≡ true → (mask : ℕ) (frame : List ℕ) {o : Answer × (Call × List ℕ)} → o ≡ voice_by_octets session c mask frame
-        → o ≡ voice_of c mask frame
-    voice_held m mask frame q = q ∙ voice_by_is_voice c session (h.holds m) mask frame
+      pub voice_cached : {goes : Bool} {s : Slot} {f : List ℕ} → (goes ≡ true → s.call.position ≡ 0 → scrambles c.terms.cipher ≡ true)
+          → (Ok s, f) ≡ slot_of (voice_of c mask frame) → Cached goes s.call session
+      voice_cached {s = s} g q =
+          let e : s.call ≡ (voice_of c mask frame).1.0 = (slot_told (voice_of c mask frame) (sym (ap (λ (o : Result Slot Answer × List ℕ). o.0) q))).2 in
+          record {
+            holds =
+                λ t.
+                subst (λ (d : Call). IsSession d session) (sym e)
+                (session-kept c session (h.holds m) stream_of mask frame (λ p. g t (ap (λ (d : Call). d.position) e ∙ p)));
+          }

@@ -1,4 +1,7 @@
 // The cipher types with their sizes. Scramble is no block cipher, so it has no block bits.
+//
+// Kept: a type per cipher with its sizes as constants is a form that the build paper names (docs/DECISIONS.md), and `key_octets`, `block_bits` and
+// `session_slots` take any number and answer 0 for one that is no cipher type, so there is no enum of the three.
 ghost use Rattle.std.specs.Prelude.{◌≡◌};
 ghost use Rattle.sizes.specs.Ciphers.{by_cipher, key_octets, block_bits, session_slots};
 

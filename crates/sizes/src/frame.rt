@@ -22,6 +22,8 @@ impl Full {
     pub const WIDTH: usize = 72;
 }
 
+// Kept: a rate may be any number in `is_rate` and `width`, so it is no enum.
+#[tactic(auto, unfolding(crate::specs::Frame::is_rate))]
 pub fn is_rate(rate: u8) -> bool
     ensures { result ≡ is_rate rate }
 {
@@ -32,12 +34,16 @@ pub fn width(rate: u8) -> usize
     ensures { (result ≡ width rate) × (result ≤ most_width) }
 {
     if rate == Full::RATE {
-        return Full::WIDTH;
+        Full::WIDTH
+    } else {
+        Half::WIDTH
     }
-    Half::WIDTH
 }
 
 // ---- what follows from a width
+//
+// Kept: a width is a number with a bound in the five contracts below. A struct of it would be no plainer: only `width` would build it, by an invariant,
+// and each clause here and above would say `width.bits` for `width`.
 
 pub const WORDS: usize = 4;
 
@@ -45,7 +51,7 @@ pub fn word_octets(width: usize) -> usize
     requires { width ≤ most_width }
     ensures { result ≡ word_octets width }
 {
-    (width + 7) / 8
+    width.div_ceil(8)
 }
 
 pub fn frame_octets(width: usize) -> usize
@@ -67,7 +73,7 @@ pub fn slot_octets(width: usize) -> usize
     requires { width ≤ most_width }
     ensures { result ≡ slot_octets width }
 {
-    (slot_bits(width) + 7) / 8
+    slot_bits(width).div_ceil(8)
 }
 
 // The octets that hold the longest session's keystream.
@@ -79,6 +85,8 @@ pub fn session_octets(width: usize) -> usize
 }
 
 // ---- sizes that have to be known before a call runs
+//
+// Kept: they write out what the functions above compute, since a constant's value cannot hold a call.
 
 // The octets that hold the keystream of any slot.
 pub const MOST_SLOT_OCTETS: usize = (Full::WIDTH * WORDS + 7) / 8;

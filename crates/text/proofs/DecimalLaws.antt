@@ -10,14 +10,15 @@ use native.Mathlib.Omega.{arith}
 use lib.Dec.{ltb, leb, eqb}
 use lib.ListN.{length, get_or, set, take, drop, length-append, get_or-append}
 use lib.Seq.{take-suc, take-length, drop-cons, append_snoc, get_or_at, set_at, set_split}
+use Rattle.std.specs.Prelude.{Option, Some, None}
+use Rattle.std.specs.Option.{unwrap_or}
 use borrow.Author.Tests.{lt-ltb, le-ltb, le-leb, lt-leb, leb-true, eq-eqb, ne_eqb}
 use Rattle.octets.specs.Tests.{pick, all_below}
 use Rattle.octets.specs.Lists.{replaced}
 use Rattle.octets.proofs.TestLaws.{every_fails, every-at, all_none, all-at, all_more, all_fails, all_intro}
-use Rattle.text.specs.declared.decimal.Number.TheVariants.{Of, Not}
 use Rattle.text.specs.Decimal.{is_digit, value_to, decimal_value, is_decimal, number_in, last_digits, decimal}
 use Rattle.text.proofs.PartedLaws.{Lacks}
-use Rattle.text.proofs.RangeLaws.{inside, below, above, least, most}
+use Rattle.text.proofs.RangeLaws.{inside, least, most}
 
 -- ---- a number read
 
@@ -61,33 +62,29 @@ module _ (limit : ℕ) (xs : List ℕ) where
     unfolding value_to
     more-worth = rw (add-one, r.worth)
 
-    pub reading_more : i < length xs → 48 ≤ get_or xs i 0 → get_or xs i 0 ≤ 57 → 10 * v + (get_or xs i 0 - 48) ≤ limit
-        → Reading limit xs (i + 1) (10 * v + (get_or xs i 0 - 48))
-    reading_more l a b m =
+    pub reading_more : i < length xs → is_digit (get_or xs i 0) ≡ true → 10 * v + (get_or xs i 0 - 48) ≤ limit → Reading limit xs (i + 1) (10 * v + (get_or xs i 0 - 48))
+    reading_more l d m =
         record {
           within = omega arith;
-          digits = all_more (digit_at xs) i r.digits (inside 48 57 (get_or xs i 0) a b);
+          digits = all_more (digit_at xs) i r.digits d;
           worth = more-worth;
           small = m;
         }
 
-  refused : (n : ℕ) → get_or tests n true ≡ false → Not ≡ number_in limit xs
+  refused : (n : ℕ) → get_or tests n true ≡ false → None ≡ number_in limit xs
   unfolding number_in is_decimal
   refused n e = rw (sym (every_fails tests n e))
 
-  pub refused_empty : length xs ≡ 0 → Not ≡ number_in limit xs
+  pub refused_empty : length xs ≡ 0 → None ≡ number_in limit xs
   refused_empty e = refused 0 (lt-leb 1 (length xs) (omega arith))
 
-  pub refused_zero : 1 < length xs → get_or xs 0 0 ≡ 48 → Not ≡ number_in limit xs
+  pub refused_zero : 1 < length xs → get_or xs 0 0 ≡ 48 → None ≡ number_in limit xs
   refused_zero l e = refused 2 (rw (ne_eqb (length xs) 1 (λ q. omega arith), eq-eqb (get_or xs 0 0) 48 e))
 
-  pub refused_low : (i : ℕ) → i < length xs → get_or xs i 0 < 48 → Not ≡ number_in limit xs
-  refused_low i l h = refused 1 (all_fails (digit_at xs) (length xs) i l (below 48 57 (get_or xs i 0) h))
+  pub refused_other : (i : ℕ) → i < length xs → is_digit (get_or xs i 0) ≡ false → None ≡ number_in limit xs
+  refused_other i l h = refused 1 (all_fails (digit_at xs) (length xs) i l h)
 
-  pub refused_high : (i : ℕ) → i < length xs → 57 < get_or xs i 0 → Not ≡ number_in limit xs
-  refused_high i l h = refused 1 (all_fails (digit_at xs) (length xs) i l (above 48 57 (get_or xs i 0) h))
-
-  pub refused_large : (i v : ℕ) → Reading limit xs i v → i < length xs → limit < 10 * v + (get_or xs i 0 - 48) → Not ≡ number_in limit xs
+  pub refused_large : (i v : ℕ) → Reading limit xs i v → i < length xs → limit < 10 * v + (get_or xs i 0 - 48) → None ≡ number_in limit xs
   refused_large i v r l h =
       let e : length xs - (i + 1) + (i + 1) ≡ length xs = omega arith in
       let g : value_to xs (i + 1) ≤ value_to xs (length xs) = rw e at (value_grows xs (i + 1) (length xs - (i + 1))) in
@@ -98,26 +95,26 @@ module _ (limit : ℕ) (xs : List ℕ) where
   unfolding is_decimal
   is-decimal l d z m = rw (le-leb 1 (length xs) l, d, z, le-leb (decimal_value xs) limit m)
 
-  pub taken : (i v : ℕ) → Reading limit xs i v → length xs ≤ i → 1 ≤ length xs → fewest xs ≡ true → Of v ≡ number_in limit xs
+  pub taken : (i v : ℕ) → Reading limit xs i v → length xs ≤ i → 1 ≤ length xs → fewest xs ≡ true → Some v ≡ number_in limit xs
   unfolding number_in
   taken i v r h l z =
       let q : i ≡ length xs = omega (arith, r.within) in
       let w : v ≡ decimal_value xs = rw q at r.worth in
       rw (is-decimal l (rw q at r.digits) z (omega (arith, r.small)), w)
 
-  by-test : (b : Bool) → is_decimal limit xs ≡ b → number_in limit xs ≡ pick b (Of (decimal_value xs)) Not
+  by-test : (b : Bool) → is_decimal limit xs ≡ b → number_in limit xs ≡ pick b (Some (decimal_value xs)) None
   unfolding number_in
   by-test b e = rw e
 
   -- what an answer tells of a field
-  pub number_of : (v : ℕ) → number_in limit xs ≡ Of v → (is_decimal limit xs ≡ true) × (v ≡ decimal_value xs)
+  pub number_of : (v : ℕ) → number_in limit xs ≡ Some v → (is_decimal limit xs ≡ true) × (v ≡ decimal_value xs)
   number_of v n = go (is_decimal limit xs) refl
     where
       go : (b : Bool) → is_decimal limit xs ≡ b → (is_decimal limit xs ≡ true) × (v ≡ decimal_value xs)
       go true e = let m = by-test true e in (e, cc)
       go false e = let m = by-test false e in absurd (let z : ◌≡◌ {A = ℕ} 0 1 = cc in omega arith)
 
-  pub number-not : number_in limit xs ≡ Not → is_decimal limit xs ≡ false
+  pub number-not : number_in limit xs ≡ None → is_decimal limit xs ≡ false
   number-not n = go (is_decimal limit xs) refl
     where
       go : (b : Bool) → is_decimal limit xs ≡ b → is_decimal limit xs ≡ false
@@ -147,8 +144,13 @@ module _ (limit : ℕ) (xs : List ℕ) where
     decimal-lacks sep h k l = ne_eqb (get_or xs k 0) sep (λ q. omega (arith, digit_within k l))
 
 -- a number that was read is within the limit
-pub number-most : (limit : ℕ) (xs : List ℕ) (v : ℕ) → Of v ≡ number_in limit xs → v ≤ limit
+pub number-most : (limit : ℕ) (xs : List ℕ) (v : ℕ) → Some v ≡ number_in limit xs → v ≤ limit
 number-most limit xs v e = let is = number_of limit xs v (sym e) in omega (arith, decimal-most limit xs is.0)
+
+-- and so it is with 0 in place of none
+pub number_or : (limit : ℕ) (xs : List ℕ) (v : Option ℕ) → v ≡ number_in limit xs → unwrap_or v 0 ≤ limit
+number_or limit xs None e = omega arith
+number_or limit xs (Some v) e = number-most limit xs v e
 
 -- ---- a number written: the digits of its tenth part, where there are any, and its remainder
 

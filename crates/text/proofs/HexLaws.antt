@@ -1,22 +1,22 @@
 -- Octets in hex: what a digit is worth, hex read and written in a loop, and that reading takes back what writing made.
 use mathlib.Core.Path.{◌≡◌, refl, sym, ap, ap₂, ◌∙◌}
-use mathlib.Core.Bool.{Bool, true, false, ◌||◌, true≢false, false≢true}
+use mathlib.Core.Bool.{Bool, true, false, ◌&&◌, ◌||◌, true≢false, false≢true}
 use mathlib.Core.List.{List}
 use Prim.Native.Nat.{ℕ, ◌+◌, ◌-◌, ◌*◌, ◌/◌, ◌%◌, ◌≤◌, ◌<◌}
-use native.Mathlib.Nat.{mod-eq_of_lt, div-one}
+use native.Mathlib.Nat.{div-one}
 use native.Mathlib.Decide.{ℕ_discrete, dec_lt}
 use native.Mathlib.Omega.{arith}
-use lib.Bits.{bit_or}
 use lib.Dec.{ltb, eqb}
 use lib.ListN.{length, get_or, set, get_or-eq_default}
 use lib.Seq.{ext_get_or}
+use Rattle.std.specs.Prelude.{Option, Some, None, is_some}
+use Rattle.std.specs.Option.{unwrap_or}
 use borrow.Author.Tests.{lt-ltb, le-ltb, eqb-true, eq-eqb, ne_eqb}
 use Rattle.octets.specs.Tests.{pick, all_below}
 use Rattle.octets.specs.Lists.{tab}
 use Rattle.octets.specs.Bits.{Octets}
 use Rattle.octets.proofs.TestLaws.{and_left, and_right, all-at, all-step, all_intro, agree}
 use Rattle.octets.proofs.ListLaws.{length-tab, get_or-tab, tab_same, octets-tab}
-use Rattle.octets.proofs.BitLaws.{or_below}
 use Rattle.octets.proofs.Front.{Front, front_start, front_more, front_to, front_done}
 use Rattle.text.specs.Decimal.{is_digit}
 use Rattle.text.specs.Hex.{is_letter_digit, is_hex_digit, hex_value, hex_digit, is_hex, hex_octets, hex_text, read_hex}
@@ -52,35 +52,32 @@ module _ (x : ℕ) where
       go false true e f t = omega (arith, least 65 70 x f)
       go false false e f t = absurd (false≢true t)
 
-  pub worth_digit : 48 ≤ x → x ≤ 57 → x - 48 ≡ pick (is_hex_digit x) (hex_value x) 16
+  pub worth_digit : 48 ≤ x → x ≤ 57 → Some (x - 48) ≡ pick (is_hex_digit x) (Some (hex_value x)) None
   unfolding hex_value
   worth_digit h l = rw (inside 48 57 x h l)
 
-  pub worth_letter : 65 ≤ x → x ≤ 70 → x - 65 + 10 ≡ pick (is_hex_digit x) (hex_value x) 16
+  pub worth_letter : 65 ≤ x → x ≤ 70 → Some (x - 65 + 10) ≡ pick (is_hex_digit x) (Some (hex_value x)) None
   unfolding hex_value
-  worth_letter h l = rw (above 48 57 x (omega arith), inside 65 70 x h l) (omega arith)
+  worth_letter h l = let q : x - 65 + 10 ≡ 10 + (x - 65) = omega arith in rw (above 48 57 x (omega arith), inside 65 70 x h l, q)
 
-  pub worth_none : is_digit x ≡ false → is_letter_digit x ≡ false → 16 ≡ pick (is_hex_digit x) (hex_value x) 16
+  pub worth_none : is_digit x ≡ false → is_letter_digit x ≡ false → None ≡ pick (is_hex_digit x) (Some (hex_value x)) None
   worth_none d l = rw (d, l)
 
-  -- what the code makes of a digit: its worth, and 16 for an octet that is none
-  module _ (v : ℕ) (worth : v ≡ pick (is_hex_digit x) (hex_value x) 16) where
-    by-digit : (b : Bool) → is_hex_digit x ≡ b → v ≡ pick b (hex_value x) 16
-    by-digit b e = rw e at worth
-
-    pub worth_mod : v % 16 ≡ hex_value x
-    worth_mod = go (is_hex_digit x) refl
+  -- what the code makes of a digit: its worth, and none for an octet that is no digit
+  module _ (v : Option ℕ) (worth : v ≡ pick (is_hex_digit x) (Some (hex_value x)) None) where
+    pub worth_or : unwrap_or v 0 ≡ hex_value x
+    worth_or = rw worth (go (is_hex_digit x) refl)
       where
-        go : (b : Bool) → is_hex_digit x ≡ b → v % 16 ≡ hex_value x
-        go true e = rw (by-digit true e) (mod-eq_of_lt value_lt)
-        go false e = rw (by-digit false e) (sym (value_none e))
+        go : (b : Bool) → is_hex_digit x ≡ b → unwrap_or (pick b (Some (hex_value x)) None) 0 ≡ hex_value x
+        go true e = refl
+        go false e = sym (value_none e)
 
-    pub worth_lt : ltb v 16 ≡ is_hex_digit x
-    worth_lt = go (is_hex_digit x) refl
+    pub worth_some : is_some v ≡ is_hex_digit x
+    worth_some = rw worth (go (is_hex_digit x))
       where
-        go : (b : Bool) → is_hex_digit x ≡ b → ltb v 16 ≡ b
-        go true e = lt-ltb v 16 (omega (arith, by-digit true e, value_lt))
-        go false e = le-ltb v 16 (omega (arith, by-digit false e))
+        go : (b : Bool) → is_some (pick b (Some (hex_value x)) None) ≡ b
+        go true = refl
+        go false = refl
 
 -- ---- hex read
 
@@ -88,10 +85,10 @@ module _ (field : List ℕ) where
   abbrev pub digit_at : ℕ → Bool
   digit_at k = is_hex_digit (get_or field k 0)
 
-  -- the digits so far are digits exactly where their values together are below 16, one on
-  pub digits_more : (i bits value : ℕ) → ltb bits 16 ≡ all_below digit_at i → value ≡ pick (digit_at i) (hex_value (get_or field i 0)) 16
-      → ltb (bit_or bits value) 16 ≡ all_below digit_at (i + 1)
-  digits_more i bits value e v = or_below 4 bits value ∙ rw (e, worth_lt (get_or field i 0) value v, all-step)
+  -- whether the digits so far are digits, one on
+  pub digits_more : (i : ℕ) (all : Bool) (value : Option ℕ) → all ≡ all_below digit_at i → value ≡ pick (digit_at i) (Some (hex_value (get_or field i 0))) None
+      → (all && is_some value) ≡ all_below digit_at (i + 1)
+  digits_more i all value e v = rw (e, worth_some (get_or field i 0) value v, all-step)
 
   pub values_lt : (k : ℕ) → get_or (tab (λ i. hex_value (get_or field i 0)) (length field)) k 0 < 16
   values_lt k = go (dec_lt k (length field))

@@ -1,17 +1,21 @@
 -- Text parted by one octet: where a part ends, and what parts come of a text.
-use mathlib.Core.Path.{◌≡◌, refl, sym, ap, ◌∙◌}
-use mathlib.Core.Bool.{Bool, true, false, not}
+use mathlib.Core.Path.{◌≡◌, refl, sym, ap, ap₂, ◌∙◌}
+use mathlib.Core.Bool.{Bool, true, false, ◌&&◌, not}
 use mathlib.Core.List.{List, [], ◌∷◌, ◌++◌}
 use Prim.Native.Nat.{ℕ, zero, suc, ◌+◌, ◌-◌, ◌≤◌, ◌<◌}
 use native.Mathlib.Decide.{dec_lt}
 use native.Mathlib.Numerals.{add-one}
 use native.Mathlib.Omega.{arith}
 use lib.Dec.{ltb, eqb}
-use lib.ListN.{length, get_or, take, drop, length-drop, take-append-drop}
-use lib.Seq.{take_all, get_or-drop, get_or-take, drop-drop, drop-cons, length-take-le}
-use borrow.Author.Tests.{lt-ltb, le-ltb, eq-eqb, ne_eqb, eqb-true, not-true}
-use Rattle.octets.specs.Tests.{pick, first_below}
-use Rattle.octets.proofs.TestLaws.{all-at, all_intro, first-is, first-none, first_le, first_holds, first-before}
+use lib.ListN.{length, get_or, take, drop, length-drop, take-append-drop, length-append, get_or-append}
+use lib.Seq.{take_all, get_or-drop, get_or-take, get_or_at, drop-drop, take_at, drop_at, drop-cons, length-take-le}
+use Rattle.std.specs.Prelude.{Option, Some, None, nat_lt}
+use Rattle.std.specs.List.{position, position_or_len}
+use Rattle.std.proofs.lemmas.Option.{cond_some, none-some}
+use Rattle.std.proofs.lemmas.List.Sums.{fails_before_first, passes_at_first}
+use borrow.Author.Tests.{lt-ltb, le-ltb, ltb-true, ltb-false, eq-eqb, eqb-true, not-true}
+use Rattle.octets.specs.Tests.{pick, all_below, first_below}
+use Rattle.octets.proofs.TestLaws.{all_none, all-step, all-at, all_intro, first-is, first-none, first_le, first_holds, first-before}
 use Rattle.text.specs.Parted.{onto, parted, part_end}
 use Rattle.text.specs.Walked.{is_part}
 
@@ -28,12 +32,44 @@ pub part_has_none : (sep : ℕ) (xs : List ℕ) → is_part sep xs ≡ true → 
 unfolding is_part
 part_has_none sep xs t k l = not-true (eqb (get_or xs k 0) sep) (all-at (λ k. not (eqb (get_or xs k 0) sep)) (length xs) k l t)
 
+all_alike : (f g : ℕ → Bool) (n : ℕ) → ((k : ℕ) → k < n → f k ≡ g k) → all_below f n ≡ all_below g n
+unfolding all_below
+all_alike f g zero h = refl
+all_alike f g (suc n) h = ap₂ ◌&&◌ (all_alike f g n (λ k l. h k (omega arith))) (h n (omega arith))
+
+-- the test, begun with no octet, and with one more
+pub part_none : (sep : ℕ) → is_part sep [] ≡ true
+unfolding is_part
+part_none sep = all_none (λ k. not (eqb (get_or [] k 0) sep))
+
+pub part_more : (sep : ℕ) (xs : List ℕ) (x : ℕ) (part more : Bool) → part ≡ is_part sep xs → more ≡ (part && not (eqb x sep)) → more ≡ is_part sep (xs ++ (x ∷ []))
+unfolding is_part
+part_more sep xs x part more e is =
+    rw (length-append xs (x ∷ []), is, all-step, get_or_at xs x [] 0 (length xs) refl, e, same)
+  where
+    f : ℕ → Bool
+    f k = not (eqb (get_or xs k 0) sep)
+
+    g : ℕ → Bool
+    g k = not (eqb (get_or (xs ++ (x ∷ [])) k 0) sep)
+
+    same : all_below g (length xs) ≡ all_below f (length xs)
+    same = all_alike g f (length xs) (λ k h. ap (λ (z : ℕ). not (eqb z sep)) (get_or-append xs (x ∷ []) 0 k h))
+
 -- a part of a text from e to s, and its octets
 between_long : (xs : List ℕ) (e s : ℕ) → s ≤ length xs → length (take (s - e) (drop e xs)) ≡ s - e
 between_long xs e s l = length-take-le (s - e) (drop e xs) (omega (arith, length-drop e xs))
 
 between-at : (xs : List ℕ) (e s k : ℕ) → k < s - e → get_or (take (s - e) (drop e xs)) k 0 ≡ get_or xs (e + k) 0
 between-at xs e s k l = get_or-take (s - e) (drop e xs) k 0 l ∙ get_or-drop e xs k 0
+
+-- the rest of a text as the code lends it
+pub rest_whole : (xs : List ℕ) (e : ℕ) → take (length xs - e) (drop e xs) ≡ drop e xs
+rest_whole xs e = take_all (length xs - e) (drop e xs) (omega (arith, length-drop e xs))
+
+-- the octets of a text after those that come next
+pub drop_next : (xs : List ℕ) (e : ℕ) (next rest : List ℕ) → drop e xs ≡ next ++ rest → drop (e + length next) xs ≡ rest
+drop_next xs e next rest d = sym (drop-drop (length next) e xs) ∙ ap (drop (length next)) d ∙ drop_at next rest (length next) refl
 
 -- ---- the parts of a text
 
@@ -123,13 +159,6 @@ module _ (sep : ℕ) (xs : List ℕ) (at : ℕ) (within : at ≤ length xs) wher
   pub passed_start : Passed sep xs at at
   passed_start = record { from = omega arith; to = within; none = λ k a l. absurd (omega arith) }
 
-  pub passed_more : (e : ℕ) → Passed sep xs at e → e < length xs → (get_or xs e 0 ≡ sep → ⊥) → Passed sep xs at (e + 1)
-  passed_more e p l n = record { from = omega (arith, p.from); to = omega arith; none = λ k a m. go k a m (dec_lt k e) }
-    where
-      go : (k : ℕ) → at ≤ k → k < e + 1 → Dec (k < e) → eqb (get_or xs k 0) sep ≡ false
-      go k a m (yes h) = p.none k a h
-      go k a m (no h) = let q : k ≡ e = omega arith in rw q (ne_eqb (get_or xs e 0) sep n)
-
   -- what was passed is one part, and one part more is passed
   pub passed_part : (e : ℕ) → Passed sep xs at e → is_part sep (take (e - at) (drop at xs)) ≡ true
   passed_part e p =
@@ -148,6 +177,13 @@ module _ (sep : ℕ) (xs : List ℕ) (at : ℕ) (within : at ≤ length xs) wher
           let f = part_has_none sep (take (s - e) (drop e xs)) t (k - e) (omega (arith, between_long xs e s l)) in
           rw (between-at xs e s (k - e) (omega arith), q) at f
 
+  -- octets that come next in the text, and have no separator
+  pub passed_next : (e : ℕ) → Passed sep xs at e → (next rest : List ℕ) → drop e xs ≡ next ++ rest → is_part sep next ≡ true → Passed sep xs at (e + length next)
+  passed_next e p next rest d t =
+      let n : e + length next - e ≡ length next = omega arith in
+      passed_on e (e + length next) p (omega arith) (omega (arith, p.to, length-drop e xs, ap length d, length-append next rest))
+      (rw (n, d, take_at next rest (length next) refl) t)
+
   -- the part ends at a separator, or at the end of the text
   pub passed_stop : (e : ℕ) → Passed sep xs at e → e < length xs → get_or xs e 0 ≡ sep → e ≡ part_end sep xs at
   unfolding part_end
@@ -159,6 +195,51 @@ module _ (sep : ℕ) (xs : List ℕ) (at : ℕ) (within : at ≤ length xs) wher
   unfolding part_end
   passed_all e p l =
       omega (arith, p.to, first-none stops (length xs - at) (λ k m. p.none (at + k) (omega arith) (omega arith)))
+
+  -- what strides pass: one after the other, each from a place on
+  pub passed_strides : (near e : ℕ) → (at ≤ near) × (near ≤ length xs) × (is_part sep (take (near - at) (drop at xs)) ≡ true)
+      → (near ≤ e) × (e ≤ length xs) × (is_part sep (take (e - near) (drop near xs)) ≡ true) → Passed sep xs at e
+  passed_strides near e a b = passed_on near e (passed_on at near passed_start a.0 a.1 a.2) b.0 b.1 b.2
+
+  -- the first separator that is found in the rest of the text, as the code lends it, or that there is none
+  module _ (e : ℕ) (p : Passed sep xs at e) (r : Option ℕ) (first : r ≡ position (λ x. eqb x sep) (take (length xs - e) (drop e xs))) where
+    abbrev is_sep : ℕ → Bool
+    is_sep x = eqb x sep
+
+    found : r ≡ position is_sep (drop e xs)
+    found = first ∙ ap (position is_sep) (rest_whole xs e)
+
+    abbrev ahead : ℕ
+    ahead = position_or_len is_sep (drop e xs)
+
+    passed_ahead : (i : ℕ) → i ≤ ahead → e + i ≤ length xs → Passed sep xs at (e + i)
+    passed_ahead i h l = record { from = omega (arith, p.from); to = l; none = λ k a m. go k a m (dec_lt k e) }
+      where
+        go : (k : ℕ) → at ≤ k → k < e + i → Dec (k < e) → eqb (get_or xs k 0) sep ≡ false
+        go k a m (yes b) = p.none k a b
+        go k a m (no b) =
+            let q : e + (k - e) ≡ k = omega arith in
+            let f : eqb (get_or (drop e xs) (k - e) 0) sep ≡ false = fails_before_first is_sep (drop e xs) (k - e) 0 (omega arith) in
+            rw (get_or-drop e xs (k - e) 0, q) at f
+
+    pub passed_found : (i : ℕ) → r ≡ Some i → (e + i ≡ part_end sep xs at) × (at ≤ e + i) × (e + i ≤ length xs)
+    passed_found i h =
+        let some = cond_some (nat_lt ahead (length (drop e xs))) ahead i (sym found ∙ h) in
+        let l : ahead < length (drop e xs) = ltb-true ahead (length (drop e xs)) some.0 in
+        let w : e + i < length xs = omega (arith, length-drop e xs, some.1) in
+        let is : eqb (get_or (drop e xs) ahead 0) sep ≡ true = passes_at_first is_sep (drop e xs) 0 l in
+        let at-sep : get_or xs (e + i) 0 ≡ sep = sym (get_or-drop e xs i 0) ∙ eqb-true (get_or (drop e xs) i 0) sep (rw some.1 at is) in
+        (passed_stop (e + i) (passed_ahead i (omega (arith, some.1)) (omega arith)) w at-sep, omega (arith, p.from), omega arith)
+
+    pub passed_none : r ≡ None → (length xs ≡ part_end sep xs at) × (at ≤ length xs) × (length xs ≤ length xs)
+    passed_none h =
+        let l : length (drop e xs) ≤ ahead = go (nat_lt ahead (length (drop e xs))) refl in
+        let q : e + (length xs - e) ≡ length xs = omega (arith, p.to) in
+        (passed_all (length xs) (rw q at (passed_ahead (length xs - e) (omega (arith, length-drop e xs)) (omega (arith, p.to)))) (omega arith), within, omega arith)
+      where
+        go : (b : Bool) → nat_lt ahead (length (drop e xs)) ≡ b → length (drop e xs) ≤ ahead
+        go true t = absurd (none-some ahead (sym h ∙ found ∙ rw t))
+        go false t = ltb-false ahead (length (drop e xs)) t
 
   pub end_from : at ≤ part_end sep xs at
   unfolding part_end

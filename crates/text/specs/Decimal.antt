@@ -1,8 +1,6 @@
 -- Decimal numbers without leading zeros (document 01, "The receiver program").
-use Rattle.std.specs.Prelude.{List, [], ◌∷◌, ◌++◌, Bool, ◌&&◌, ◌||◌, not, ℕ, zero, suc, ◌+◌, ◌-◌, ◌*◌, ◌/◌, ◌%◌, ltb, leb, eqb, length, get_or}
+use Rattle.std.specs.Prelude.{List, [], ◌∷◌, ◌++◌, Bool, ◌&&◌, ◌||◌, not, ℕ, zero, suc, ◌+◌, ◌-◌, ◌*◌, ◌/◌, ◌%◌, ltb, leb, eqb, length, get_or, Option, Some, None}
 use Rattle.octets.specs.Tests.{pick, every, all_below}
-use Rattle.text.specs.declared.decimal.Number.{Number}
-use Rattle.text.specs.declared.decimal.Number.TheVariants.{Of, Not}
 
 -- the digit 0
 abbrev pub digit_zero : ℕ
@@ -26,9 +24,9 @@ is_decimal most xs =
     (leb 1 (length xs) ∷ all_below (λ i. is_digit (get_or xs i 0)) (length xs) ∷ (eqb (length xs) 1 || not (eqb (get_or xs 0 0) digit_zero))
     ∷ leb (decimal_value xs) most ∷ [])
 
--- the number of a field, at most `most`, or that it is none
-unfoldable pub number_in : ℕ → List ℕ → Number
-number_in most xs = pick (is_decimal most xs) (Of (decimal_value xs)) Not
+-- the number of a field, where the field is one and is at most `most`
+unfoldable pub number_in : ℕ → List ℕ → Option ℕ
+number_in most xs = pick (is_decimal most xs) (Some (decimal_value xs)) None
 
 -- the last digits of a number, as many as it has and no more than k: those of its tenth part, and its remainder
 unfoldable pub last_digits : ℕ → ℕ → List ℕ

@@ -3,42 +3,28 @@ ghost use Rattle.std.specs.Prelude.{◌≡◌, ◌≤◌, length};
 ghost use Rattle.octets.specs.Lists.{replaced};
 ghost use Rattle.text.specs.Decimal.{number_in, decimal};
 
-// A number, or a field that is none.
-#[derive(Clone, Copy)]
-pub enum Number {
-    Of(u32),
-    Not,
-}
-
-// The number of a field, where it is at most `most`.
-pub fn read_number(field: &[u8], most: u32) -> Number
+// The number of a field, where the field is one and is at most `most`.
+pub fn read_number(field: &[u8], most: u32) -> Option<u32>
     ensures { result ≡ number_in most field.now }
 {
-    if field.len() == 0 {
-        return Number::Not;
+    if field.is_empty() {
+        return None;
     }
-    if field.len() > 1 {
-        if field[0] == b'0' {
-            return Number::Not;
-        }
+    if field.len() > 1 && field[0] == b'0' {
+        return None;
     }
+    let limit = u64::from(most);
     let mut value: u64 = 0;
-    let mut i = 0;
-    while i < field.len() {
-        let digit = field[i];
-        if digit < b'0' {
-            return Number::Not;
+    for digit in field {
+        if !digit.is_ascii_digit() {
+            return None;
         }
-        if digit > b'9' {
-            return Number::Not;
+        value = 10 * value + u64::from(*digit - b'0');
+        if value > limit {
+            return None;
         }
-        value = 10 * value + (digit - b'0') as u64;
-        if value > most as u64 {
-            return Number::Not;
-        }
-        i += 1;
     }
-    Number::Of(value as u32)
+    Some(value as u32)
 }
 
 // Writes a number at the start of lent octets, the digits of its tenth part first, and answers how many octets it took: at most ten.

@@ -1,17 +1,17 @@
 // Octets in upper-case hex.
-ghost use Rattle.std.specs.Prelude.{◌≡◌, ℕ, ◌+◌, ◌*◌, ◌≤◌, ◌<◌, length, get_or};
+ghost use Rattle.std.specs.Prelude.{◌≡◌, ℕ, ◌+◌, ◌*◌, ◌≤◌, ◌<◌, length, get_or, Some, None};
 ghost use Rattle.octets.specs.Tests.{pick, all_below};
 ghost use Rattle.octets.specs.Lists.{tab};
 ghost use Rattle.text.specs.Hex.{is_hex_digit, hex_value, hex_digit, is_hex, most_octets, read_hex, hex_text};
 
-// What a digit is worth, and 16 for an octet that is none.
-fn hex_value(digit: u8) -> u8
-    ensures { result ≡ pick (is_hex_digit digit) (hex_value digit) 16 }
+// What a digit is worth.
+fn hex_value(digit: u8) -> Option<u8>
+    ensures { result ≡ pick (is_hex_digit digit) (Some (hex_value digit)) None }
 {
     match digit {
-        b'0'..=b'9' => digit - b'0',
-        b'A'..=b'F' => digit - b'A' + 10,
-        _ => 16,
+        b'0'..=b'9' => Some(digit - b'0'),
+        b'A'..=b'F' => Some(digit - b'A' + 10),
+        _ => None,
     }
 }
 
@@ -21,16 +21,13 @@ fn read_digits(field: &[u8], values: &mut [u8]) -> bool
     ensures value { result ≡ all_below (λ i. is_hex_digit (get_or field.now i 0)) (length field.now) }
     ensures values_after { values.new ≡ tab (λ i. hex_value (get_or field.now i 0)) (length field.now) }
 {
-    // 16 has a bit that no digit's value has.
-    let mut bits: u8 = 0;
-    let mut i = 0;
-    while i < field.len() {
+    let mut all = true;
+    for (i, place) in values.iter_mut().enumerate() {
         let value = hex_value(field[i]);
-        values[i] = value % 16;
-        bits = bits | value;
-        i += 1;
+        *place = value.unwrap_or(0);
+        all &= value.is_some();
     }
-    bits < 16
+    all
 }
 
 // Each octet from two digits, the high one first.
@@ -38,10 +35,8 @@ fn join_digits(values: &[u8], out: &mut [u8])
     requires { (length values.now ≡ 2 * length out.old) × ((k : ℕ) → get_or values.now k 0 < 16) }
     ensures { out.new ≡ tab (λ i. 16 * get_or values.now (2 * i) 0 + get_or values.now (2 * i + 1) 0) (length out.old) }
 {
-    let mut i = 0;
-    while i < out.len() {
-        out[i] = 16 * values[2 * i] + values[2 * i + 1];
-        i += 1;
+    for (i, octet) in out.iter_mut().enumerate() {
+        *octet = 16 * values[2 * i] + values[2 * i + 1];
     }
 }
 
@@ -83,11 +78,8 @@ pub fn put_hex(out: &mut [u8], octets: &[u8])
     requires { length out.old ≡ 2 * length octets.now }
     ensures { out.new ≡ hex_text octets.now }
 {
-    let mut i = 0;
-    while i < octets.len() {
-        let octet = octets[i];
-        out[2 * i] = hex_digit(octet / 16);
-        out[2 * i + 1] = hex_digit(octet % 16);
-        i += 1;
+    for (i, octet) in octets.iter().enumerate() {
+        out[2 * i] = hex_digit(*octet / 16);
+        out[2 * i + 1] = hex_digit(*octet % 16);
     }
 }

@@ -16,13 +16,8 @@ const SHORT_STRIDE: usize = 4;
 fn is_part(text: &[u8], separator: u8) -> bool
     ensures { result ≡ is_part separator text.now }
 {
-    let mut part = true;
-    let mut i = 0;
-    while i < text.len() {
-        part = part & (text[i] != separator);
-        i += 1;
-    }
-    part
+    text.iter()
+        .fold(true, |part, octet| part & (*octet != separator))
 }
 
 // A place that the part from a place on reaches: as many whole strides of n octets as it has.
@@ -31,12 +26,11 @@ fn stride(text: &[u8], at: usize, separator: u8, n: usize) -> usize
     ensures { (at ≤ result) × (result ≤ length text.now) × (is_part separator (take (result - at) (drop at text.now)) ≡ true) }
 {
     let mut end = at;
-    while n <= text.len() - end {
-        let next = end + n;
-        if !is_part(&text[end..next], separator) {
+    for stride in text[at..].chunks_exact(n) {
+        if !is_part(stride, separator) {
             return end;
         }
-        end = next;
+        end += n;
     }
     end
 }
@@ -47,12 +41,9 @@ pub fn part_end(text: &[u8], at: usize, separator: u8) -> usize
     ensures { (result ≡ part_end separator text.now at) × (at ≤ result) × (result ≤ length text.now) }
 {
     let near = stride(text, at, separator, LONG_STRIDE);
-    let mut end = stride(text, near, separator, SHORT_STRIDE);
-    while end < text.len() {
-        if text[end] == separator {
-            return end;
-        }
-        end += 1;
+    let end = stride(text, near, separator, SHORT_STRIDE);
+    match text[end..].iter().position(|octet| *octet == separator) {
+        Some(left) => end + left,
+        None => text.len(),
     }
-    end
 }

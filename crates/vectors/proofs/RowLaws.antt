@@ -1,56 +1,13 @@
--- A row's fields as the code walks along them, and a field that is read as hex.
+-- A field of a row that is read as hex.
 use mathlib.Core.Path.{◌≡◌, sym, ap, ◌∙◌}
 use mathlib.Core.Bool.{Bool, true, false, false≢true}
-use mathlib.Core.List.{List, []}
-use Prim.Native.Nat.{ℕ, suc, ◌+◌, ◌-◌, ◌≤◌, ◌<◌}
-use native.Mathlib.Nat.{sub-zero}
+use mathlib.Core.List.{List}
+use Prim.Native.Nat.{ℕ, ◌≤◌}
 use native.Mathlib.Omega.{arith}
-use lib.ListN.{length, get_or, take, drop}
-use lib.Dec.{ltb}
-use borrow.Author.Tests.{lt-ltb, le-ltb}
-use Rattle.octets.specs.Tests.{pick}
+use lib.ListN.{length}
 use Rattle.octets.specs.Bits.{Octets}
-use Rattle.text.specs.Parted.{tab_octet, parted, part_end}
-use Rattle.text.specs.Fields.{field_at}
 use Rattle.text.specs.Hex.{is_hex, hex_text, most_octets, read_hex}
-use Rattle.text.proofs.PartedLaws.{parted-step, end_within}
 use Rattle.text.proofs.HexLaws.{read_of, length-hex_text, hex_back, hex_round, hex_text-hex}
-use Rattle.vectors.specs.Row.{field_of}
-
--- k fields are passed, and the next begins at a place
-pub record Walked (row : List ℕ) (n k at : ℕ) : Type 0 where
-  pub inside : at ≤ length row
-  pub few : k ≤ n
-  pub rest : field_of row n ≡ get_or (parted tab_octet (drop at row)) (n - k) []
-
-module _ (row : List ℕ) (n : ℕ) where
-  pub walk_start : Walked row n 0 0
-  unfolding field_of field_at
-  walk_start = record { inside = omega arith; few = omega arith; rest = rw sub-zero }
-
-  -- the field that begins there ends at e
-  module _ (k at e : ℕ) (w : Walked row n k at) (ends : e ≡ part_end tab_octet row at) where
-    within : e ≤ length row
-    within = rw ends (end_within tab_octet row at w.inside)
-
-    -- where another field is asked for: it comes after the next tab, or there is none
-    after : k < n → field_of row n ≡ get_or (pick (ltb e (length row)) (parted tab_octet (drop (e + 1) row)) []) (n - (k + 1)) []
-    after h = let q : n - k ≡ suc (n - (k + 1)) = omega arith in w.rest ∙ rw (q, parted-step tab_octet row at w.inside, ← ends)
-
-    pub walk_more : k < n → (e ≡ length row → ⊥) → Walked row n (k + 1) (e + 1)
-    walk_more h t =
-        let l : e < length row = omega (arith, within) in
-        record { inside = omega arith; few = omega arith; rest = rw (lt-ltb e (length row) l) at (after h) }
-
-    pub walk_none : k < n → e ≡ length row → take (length row - e) (drop e row) ≡ field_of row n
-    walk_none h t =
-        let z : length row - e ≡ 0 = omega arith in
-        rw z (sym (rw (le-ltb e (length row) (omega arith)) at (after h)))
-
-    pub walk_done : n ≤ k → take (e - at) (drop at row) ≡ field_of row n
-    walk_done h = let q : n - k ≡ 0 = omega arith in sym (w.rest ∙ rw (q, parted-step tab_octet row at w.inside, ← ends))
-
--- ---- a field read as hex
 
 pub read_law : (field f out read : List ℕ) (r : Bool) → f ≡ field → r ≡ is_hex (length out) f → read ≡ read_hex f out
     → (r ≡ true → field ≡ hex_text read) × (is_hex (length out) field ≡ true → length out ≤ most_octets → r ≡ true)

@@ -1,6 +1,6 @@
 // Calls of a receiver from their opening to their end: what became of the words of their slots, and what a report makes of two such calls.
 use crate::row::{field, first_octets_of, number};
-use calls::call::{Call, RECEIVING, Stepped, TOLD, Terms, UNKNOWN, end};
+use calls::call::{Call, RECEIVING, TOLD, Terms, UNKNOWN, end};
 use calls::counts::Counts;
 use calls::vector::announce;
 use report::report;
@@ -11,24 +11,21 @@ const LOST: u8 = 0xFF;
 
 const ANNOUNCED: u8 = 0xFE;
 
-fn tell(call: Call, what: u8, frame: &mut [u8]) -> Stepped {
-    if what == LOST {
-        return lost(call);
-    }
-    if what == ANNOUNCED {
-        return announce(call, &[0xABu8; 8]);
-    }
-    voice(call, what, frame)
+// The call after what it is told: done or held, or as it was where it is refused.
+fn tell(call: Call, what: u8, frame: &mut [u8]) -> Call {
+    let done = match what {
+        LOST => lost(call),
+        ANNOUNCED => announce(call, &[0xABu8; 8]),
+        mask => voice(call, mask, frame).map(|slot| slot.call),
+    };
+    done.unwrap_or(call)
 }
 
-// The call after all that it is told, done, held or refused.
+// The call after all that it is told.
 fn go_through(call: Call, told: &[u8], frame: &mut [u8]) -> Call {
     let mut gone = call;
-    let mut k = 0;
-    while k < told.len() {
-        let stepped = tell(gone, told[k], frame);
-        gone = stepped.call;
-        k += 1;
+    for what in told {
+        gone = tell(gone, *what, frame);
     }
     gone
 }
@@ -41,21 +38,12 @@ fn received(terms: Terms, joined: bool) -> Call {
         replaced: 0,
         lost: 0,
     };
-    if joined {
-        return Call {
-            end: RECEIVING,
-            terms,
-            position: 4,
-            known: UNKNOWN,
-            vector: [0; 8],
-            counts,
-        };
-    }
+    let (position, known) = if joined { (4, UNKNOWN) } else { (0, TOLD) };
     Call {
         end: RECEIVING,
         terms,
-        position: 0,
-        known: TOLD,
+        position,
+        known,
         vector: [0; 8],
         counts,
     }
@@ -63,10 +51,10 @@ fn received(terms: Terms, joined: bool) -> Call {
 
 // Whether these are the counts of a row, and a report of two such calls has them twice.
 fn has_counts(row: &[u8], counts: Counts) -> bool {
-    let opened = number(row, 6) as u32;
-    let held = number(row, 7) as u32;
-    let replaced = number(row, 8) as u32;
-    let lost = number(row, 9) as u32;
+    let opened = u32::from(number(row, 6));
+    let held = u32::from(number(row, 7));
+    let replaced = u32::from(number(row, 8));
+    let lost = u32::from(number(row, 9));
     if counts.opened != opened
         || counts.held != held
         || counts.replaced != replaced
@@ -74,7 +62,7 @@ fn has_counts(row: &[u8], counts: Counts) -> bool {
     {
         return false;
     }
-    let both = report(&[
+    let Ok(both) = report(&[
         opened,
         held,
         replaced,
@@ -83,26 +71,23 @@ fn has_counts(row: &[u8], counts: Counts) -> bool {
         counts.held,
         counts.replaced,
         counts.lost,
-    ]);
-    both.part == 2 * (opened as u64) && both.whole == 2 * (opened as u64 + held as u64)
+    ]) else {
+        return false;
+    };
+    both.part == 2 * u64::from(opened) && both.whole == 2 * (u64::from(opened) + u64::from(held))
 }
 
 // The same in as many of the lent octets as a frame of the row's rate has.
 fn counts_in(row: &[u8], call: Call, told: &[u8], room: &mut [u8]) -> bool {
-    let mut length = 28;
-    if number(row, 1) == 1 {
-        length = 36;
-    }
+    let length = if number(row, 1) == 1 { 36 } else { 28 };
     if length > room.len() {
         return false;
     }
     let gone = go_through(call, told, &mut room[0..length]);
-    let ended = end(gone);
-    let answer = ended.answer;
-    if answer.number() != 0 {
-        return false;
+    match end(gone) {
+        Ok((_, counts)) => has_counts(row, counts),
+        Err(_) => false,
     }
-    has_counts(row, ended.counts)
 }
 
 // A row has the cipher type, the rate, the strictness, the key, 1 where the receiver joined and knows no vector, what it is told, and how many words were
@@ -110,10 +95,7 @@ fn counts_in(row: &[u8], call: Call, told: &[u8], room: &mut [u8]) -> bool {
 pub fn holds(row: &[u8]) -> bool {
     let mut key = [0u8; 32];
     let mut told = [0u8; 32];
-    if !first_octets_of(row, 3, &mut key) {
-        return false;
-    }
-    if !first_octets_of(row, 5, &mut told) {
+    if !first_octets_of(row, 3, &mut key) || !first_octets_of(row, 5, &mut told) {
         return false;
     }
     let terms = Terms {

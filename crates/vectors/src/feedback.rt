@@ -10,11 +10,9 @@ use octets::turn;
 fn feed_back(engine: DesEngine, key: &[u8], block: &mut [u8], text: &mut [u8])
     requires { (0 < length block.old) × (length block.old ≤ 16) }
 {
-    let mut at = 0;
-    while at < text.len() {
+    for part in text.chunks_mut(block.len()) {
         encipher(engine, key, block);
-        turn(&mut text[at..], 8 * block.len(), block, 0);
-        at += block.len();
+        turn(part, 8 * part.len(), block, 0);
     }
 }
 
@@ -27,13 +25,7 @@ fn row_holds(
 ) -> bool
     requires { (0 < length vector.old) × (length vector.old ≤ 16) }
 {
-    if !octets_of(row, 2, key) {
-        return false;
-    }
-    if !octets_of(row, 3, vector) {
-        return false;
-    }
-    if !octets_of(row, 4, text) {
+    if !octets_of(row, 2, key) || !octets_of(row, 3, vector) || !octets_of(row, 4, text) {
         return false;
     }
     feed_back(engine, key, vector, text);

@@ -21,37 +21,13 @@ use crate::slots::Way;
 use std::io::Read;
 use std::rt::Files;
 use std::{fs, io};
-use text::part::{LINE_END, part_end};
-
-// A file of known answers, named after what its rows try.
-#[derive(Clone, Copy)]
-enum Set {
-    Des(DesEngine),
-    Aes,
-    Feedback(DesEngine),
-    Standard,
-    Slots(Way),
-    Calls,
-    Messages(DesEngine),
-}
+use text::part::LINE_END;
 
 // How many rows of a set were tried, and how many of them held.
 #[derive(Clone, Copy)]
 struct Tally {
     held: u64,
     rows: u64,
-}
-
-fn holds(set: Set, row: &[u8]) -> bool {
-    match set {
-        Set::Des(engine) => blocks::des_holds(engine, row),
-        Set::Aes => blocks::aes_holds(row),
-        Set::Feedback(engine) => feedback::holds(engine, row),
-        Set::Standard => standard::holds(row),
-        Set::Slots(way) => slots::holds(way, row),
-        Set::Calls => counts::holds(row),
-        Set::Messages(engine) => messages::holds(engine, row),
-    }
 }
 
 fn name_row(rt: &impl Print, file: &str, line: u64) -> io::Result<()> {
@@ -82,6 +58,7 @@ fn read_full(opened: &mut impl Read, text: &mut [u8]) -> io::Result<usize>
     ensures { ReadsAtMost result text.new }
 {
     let mut done = 0;
+    // Kept: the new form is no plainer: a read says itself how many octets it brought, so no range and no part of the text counts the turns.
     while done < text.len() {
         let n = opened.read(&mut text[done..])?;
         if n == 0 {
@@ -112,38 +89,48 @@ fn read(rt: &impl Files, file: &str, text: &mut [u8]) -> usize
     n
 }
 
-// Tries each row of a file's text.
-fn try_rows(rt: &impl Print, set: Set, file: &str, text: &[u8]) -> io::Result<Tally> {
+// Tries each row of a file's text. No count comes near its type's end: a file has 65,536 octets at most.
+fn try_rows<F: Fn(&[u8]) -> bool>(
+    rt: &impl Print,
+    holds: F,
+    file: &str,
+    text: &[u8],
+) -> io::Result<Tally>
+    requires { F.IsAlwaysCallable holds }
+{
     let mut held: u64 = 0;
     let mut rows: u64 = 0;
     let mut lines: u64 = 0;
-    let mut at = 0;
-    while at < text.len() {
-        let end = part_end(text, at, LINE_END);
-        let line = &text[at..end];
-        lines += 1;
+    for line in text.split(|octet| *octet == LINE_END) {
+        lines = lines.saturating_add(1);
         if is_row(line) {
-            rows += 1;
-            if holds(set, line) {
-                held += 1;
+            rows = rows.saturating_add(1);
+            if holds(line) {
+                held = held.saturating_add(1);
             } else {
                 name_row(rt, file, lines)?;
             }
         }
-        at = end + 1;
     }
     Ok(Tally { held, rows })
 }
 
 // A file that cannot be read counts as a row that does not hold.
-fn run(rt: &(impl Files + Print), set: Set, file: &str, title: &str) -> io::Result<()> {
+fn run<F: Fn(&[u8]) -> bool>(
+    rt: &(impl Files + Print),
+    holds: F,
+    file: &str,
+    title: &str,
+) -> io::Result<()>
+    requires { F.IsAlwaysCallable holds }
+{
     let mut text = room();
     let n = read(rt, file, &mut text);
     if n == 0 {
         name_file(rt, file)?;
         return print(rt, title, Tally { held: 0, rows: 1 });
     }
-    let tally = try_rows(rt, set, file, &text[..n])?;
+    let tally = try_rows(rt, holds, file, &text[..n])?;
     print(rt, title, tally)
 }
 
@@ -158,17 +145,19 @@ fn say_selection(rt: &(impl Files + Print), file: &str) -> io::Result<()> {
 }
 
 // Runs a set's known answers, and then rows of them that one bit makes wrong: none of these may hold.
-fn run_both(
+fn run_both<F: Fn(&[u8]) -> bool + Copy>(
     rt: &(impl Files + Print),
-    set: Set,
+    holds: F,
     file: &str,
     title: &str,
     wrong: &str,
-) -> io::Result<()> {
-    run(rt, set, file, title)?;
+) -> io::Result<()>
+    requires { (row : _) → F.Fn.pre holds row }
+{
+    run(rt, holds, file, title)?;
     run(
         rt,
-        set,
+        holds,
         wrong,
         "The same with one bit wrong, where none may hold",
     )
@@ -183,14 +172,14 @@ fn run_blocks(
 ) -> io::Result<()> {
     run_both(
         rt,
-        Set::Des(engine),
+        |row| blocks::des_holds(engine, row),
         "des-known-answers.tsv",
         blocks,
         "des-one-bit-wrong.tsv",
     )?;
     run_both(
         rt,
-        Set::Feedback(engine),
+        |row| feedback::holds(engine, row),
         "ofb-known-answers.tsv",
         feedback,
         "ofb-one-bit-wrong.tsv",
@@ -206,14 +195,14 @@ fn run_messages(
 ) -> io::Result<()> {
     run_both(
         rt,
-        Set::Messages(engine),
+        |row| messages::holds(engine, row),
         "nxdn-first-messages.tsv",
         first,
         "nxdn-first-messages-one-bit-wrong.tsv",
     )?;
     run_both(
         rt,
-        Set::Messages(engine),
+        |row| messages::holds(engine, row),
         "data-messages.tsv",
         later,
         "data-messages-one-bit-wrong.tsv",
@@ -224,52 +213,52 @@ fn run_messages(
 fn run_slots(rt: &(impl Files + Print)) -> io::Result<()> {
     run_both(
         rt,
-        Set::Slots(Way::Sent),
+        |row| slots::holds(Way::Sent, row),
         "voice-slots.tsv",
         "Voice slots at both rates, in a first session and past it, by an independent model and OpenSSL, sent",
         "voice-slots-one-bit-wrong.tsv",
     )?;
     run_both(
         rt,
-        Set::Slots(Way::Heard),
+        |row| slots::holds(Way::Heard, row),
         "voice-slots.tsv",
         "The same, heard with no announcement past the first session",
         "voice-slots-one-bit-wrong.tsv",
     )?;
     run_both(
         rt,
-        Set::Slots(Way::Whole),
+        |row| slots::holds(Way::Whole, row),
         "voice-slots.tsv",
         "The same, heard, the session's keystream made whole, DES by its joined tables",
         "voice-slots-one-bit-wrong.tsv",
     )?;
     run(
         rt,
-        Set::Slots(Way::Heard),
+        |row| slots::holds(Way::Heard, row),
         "voice-slots-zeros.tsv",
         "Slots of a sender whose vectors are zeros, heard with no announcement",
     )?;
     run(
         rt,
-        Set::Slots(Way::Whole),
+        |row| slots::holds(Way::Whole, row),
         "voice-slots-zeros.tsv",
         "The same, the session's keystream made whole, DES by its joined tables",
     )?;
     run(
         rt,
-        Set::Slots(Way::Sent),
+        |row| slots::holds(Way::Sent, row),
         "voice-slots-zeros.tsv",
         "The same, sent by ours, which goes by no such vector, where none may hold",
     )?;
     run(
         rt,
-        Set::Calls,
+        counts::holds,
         "call-counts.tsv",
         "Calls to their end, words opened, held, replaced and lost, by the same model",
     )?;
     run(
         rt,
-        Set::Calls,
+        counts::holds,
         "call-counts-one-wrong.tsv",
         "The same with one count wrong, where none may hold",
     )
@@ -292,14 +281,14 @@ fn main(rt: HostRuntime) -> io::Result<()> {
     say_selection(&rt, "des-one-bit-wrong.tsv")?;
     run_both(
         &rt,
-        Set::Aes,
+        blocks::aes_holds,
         "aes256-known-answers.tsv",
         "AES-256, FIPS 197, SP 800-38A, AESAVS and the Rijndael submission",
         "aes256-one-bit-wrong.tsv",
     )?;
     run_both(
         &rt,
-        Set::Standard,
+        standard::holds,
         "nxdn-known-answers.tsv",
         "NXDN TS 1-D, 7.2.3",
         "nxdn-one-bit-wrong.tsv",

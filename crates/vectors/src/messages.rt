@@ -1,15 +1,14 @@
 // Data messages of each kind, protected by a packet at a row's count; or turned beside it, by the keystream with DES by its plain engine.
 use crate::blocks::DesEngine;
 use crate::row::{first_octets_of, has_octets, number, octets_of};
+use answers::Answer;
 use data::kind::{HEAD_OCTETS, MOST_PROTECTED, message_octets, protected_octets};
 use data::message::message;
 use data::packet::{MOST_MESSAGES, Packet};
 
 // The message that comes next in a packet. False where it isn't sent.
 fn send(packet: Packet, octets: &mut [u8]) -> bool {
-    let sent = message(packet, octets);
-    let answer = sent.answer;
-    answer.number() == 0
+    message(packet, octets).is_ok()
 }
 
 // The same beside the packet, by the keystream with DES by its plain engine. False where there is no such message.
@@ -21,11 +20,9 @@ fn turn_plain(packet: Packet, octets: &mut [u8]) -> bool {
     if packet.cipher < 1 || packet.cipher > 3 || packet.count >= MOST_MESSAGES {
         return false;
     }
-    let key = packet.key;
-    let vector = packet.vector;
-    let from = part * (packet.count as usize);
+    let from = part * usize::from(packet.count);
     let mut stream = [0u8; MOST_PROTECTED];
-    ciphers::plain::keystream(packet.cipher, key, vector, from, &mut stream);
+    ciphers::plain::keystream(packet.cipher, packet.key, packet.vector, from, &mut stream);
     octets::turn(
         &mut octets[HEAD_OCTETS..HEAD_OCTETS + part],
         8 * part,
@@ -44,26 +41,13 @@ fn turn(engine: DesEngine, packet: Packet, octets: &mut [u8]) -> bool {
 
 // Whether the message of a row, as the packet's next, is turned into what the row has.
 fn protects(engine: DesEngine, row: &[u8], packet: Packet, octets: &mut [u8]) -> bool {
-    if !octets_of(row, 5, octets) {
-        return false;
-    }
-    if !turn(engine, packet, octets) {
-        return false;
-    }
-    has_octets(row, 6, octets)
+    octets_of(row, 5, octets) && turn(engine, packet, octets) && has_octets(row, 6, octets)
 }
 
 // The same in as many of the lent octets as the packet's messages have.
 fn protects_in(engine: DesEngine, row: &[u8], packet: Packet, octets: &mut [u8]) -> bool {
     let length = message_octets(packet.kind);
-    if length > octets.len() {
-        return false;
-    }
-    protects(engine, row, packet, &mut octets[0..length])
-}
-
-fn count_of(high: u8, low: u8) -> u16 {
-    256 * (high as u16) + (low as u16)
+    length <= octets.len() && protects(engine, row, packet, &mut octets[0..length])
 }
 
 // A row has the cipher type, the kind, the key, the vector, the count, the message and the protected message.
@@ -71,20 +55,17 @@ pub fn holds(engine: DesEngine, row: &[u8]) -> bool {
     let mut key = [0u8; 32];
     let mut vector = [0u8; 8];
     let mut count = [0u8; 2];
-    if !first_octets_of(row, 2, &mut key) {
-        return false;
-    }
-    if !octets_of(row, 3, &mut vector) {
-        return false;
-    }
-    if !octets_of(row, 4, &mut count) {
+    if !first_octets_of(row, 2, &mut key)
+        || !octets_of(row, 3, &mut vector)
+        || !octets_of(row, 4, &mut count)
+    {
         return false;
     }
     let packet = Packet {
         kind: number(row, 1),
         cipher: number(row, 0),
         key,
-        count: count_of(count[0], count[1]),
+        count: u16::from_be_bytes(count),
         vector,
     };
     let mut octets = [0u8; 22];

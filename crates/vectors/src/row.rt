@@ -4,26 +4,15 @@ ghost use Rattle.text.specs.Hex.{is_hex, hex_text, most_octets};
 ghost use Rattle.vectors.specs.Row.{field_of};
 
 use check::same;
-use text::decimal::{Number, read_number};
+use text::decimal::read_number;
+use text::field::Fields;
 use text::hex::{MOST_OCTETS, read_hex};
-use text::part::{TAB, part_end};
 
 // Field n of a row, the first being 0; empty where the row has no such field.
 pub fn field(row: &[u8], n: usize) -> &[u8]
     ensures { result.now ≡ field_of row.now n }
 {
-    let mut at = 0;
-    let mut k = 0;
-    while k < n {
-        at = part_end(row, at, TAB);
-        if at == row.len() {
-            return &row[at..];
-        }
-        at += 1;
-        k += 1;
-    }
-    let end = part_end(row, at, TAB);
-    &row[at..end]
+    Fields::of(row).nth(n).unwrap_or(&row[row.len()..])
 }
 
 // Whether a line is a row: neither empty nor a comment.
@@ -39,10 +28,7 @@ const MOST_NUMBER: u32 = 255;
 
 // The number that is field n of a row, or 0 where that is none.
 pub fn number(row: &[u8], n: usize) -> u8 {
-    match read_number(field(row, n), MOST_NUMBER) {
-        Number::Of(value) => value as u8,
-        Number::Not => 0,
-    }
+    read_number(field(row, n), MOST_NUMBER).unwrap_or(0) as u8
 }
 
 // Takes the octets that field n of a row has in hex, or answers false where they are not just as many as asked.

@@ -2,39 +2,38 @@
 // alone: by default it goes on over each announcement that does not come.
 use crate::row::{field, first_octets_of, has_octets, number, octets_of};
 use answers::Answer;
-use calls::call::{Call, DEFAULT, RECEIVING, SENDING, Stepped, TOLD, Terms};
+use calls::call::{Call, DEFAULT, RECEIVING, SENDING, TOLD, Terms};
 use calls::counts::Counts;
-use voice::slot::{session_stream, voice, voice_by};
+use voice::slot::{Slot, session_stream, voice, voice_by};
 
 // How a row's slot is turned: as it is sent, as it is heard, or heard with the whole session's keystream made first.
-#[derive(Clone, Copy)]
+// Kept: an enum that is matched, and no closure: it says too which end the call is.
+#[derive(Clone, Copy, PartialEq, Eq)]
 pub enum Way {
     Sent,
     Heard,
     Whole,
 }
 
-// The call after so many slots in which no word is turned, or the first answer that is not 0.
-fn go_through(call: Call, slots: u8, frame: &mut [u8]) -> Stepped {
+// The call after so many slots in which no word is turned; None where one of them is refused or held.
+fn go_through(call: Call, slots: u8, frame: &mut [u8]) -> Option<Call> {
     let mut gone = call;
-    let mut k = 0;
-    while k < slots {
-        let stepped = voice(gone, 0, frame);
-        let answer = stepped.answer;
-        if answer.number() != 0 {
-            return stepped;
-        }
-        gone = stepped.call;
-        k += 1;
+    for _ in 0..slots {
+        gone = done(voice(gone, 0, frame))?;
     }
-    Stepped {
-        answer: Answer::Done,
-        call: gone,
+    Some(gone)
+}
+
+// The call after a slot that was turned.
+fn done(slot: Result<Slot, Answer>) -> Option<Call> {
+    match slot {
+        Ok(slot) if !slot.held => Some(slot.call),
+        _ => None,
     }
 }
 
 // A slot by the call's own bits, DES by its plain engine, or by the whole session's, DES by its joined tables.
-fn turn(way: Way, call: Call, mask: u8, frame: &mut [u8]) -> Stepped {
+fn turn(way: Way, call: Call, mask: u8, frame: &mut [u8]) -> Result<Slot, Answer> {
     match way {
         Way::Whole => {
             let mut session = [0u8; 288];
@@ -47,25 +46,17 @@ fn turn(way: Way, call: Call, mask: u8, frame: &mut [u8]) -> Stepped {
 
 // Whether a call turns the frame of a row into what the row has.
 fn turns(way: Way, row: &[u8], call: Call, mask: u8, frame: &mut [u8]) -> bool {
-    if !octets_of(row, 6, frame) {
-        return false;
-    }
-    let turned = turn(way, call, mask, frame);
-    let answer = turned.answer;
-    if answer.number() != 0 {
-        return false;
-    }
-    has_octets(row, 7, frame)
+    octets_of(row, 6, frame)
+        && done(turn(way, call, mask, frame)).is_some()
+        && has_octets(row, 7, frame)
 }
 
 // Whether it does after the slots that come before. The lent frame is zeros.
 fn turns_after(way: Way, row: &[u8], call: Call, mask: u8, frame: &mut [u8]) -> bool {
-    let gone = go_through(call, number(row, 4), frame);
-    let answer = gone.answer;
-    if answer.number() != 0 {
-        return false;
+    match go_through(call, number(row, 4), frame) {
+        Some(gone) => turns(way, row, gone, mask, frame),
+        None => false,
     }
-    turns(way, row, gone.call, mask, frame)
 }
 
 // The same in as many of the lent octets as the frame of the row has. A call refuses a frame that has another length than its rate's.
@@ -90,13 +81,10 @@ pub fn holds(way: Way, row: &[u8]) -> bool {
     let mut key = [0u8; 32];
     let mut vector = [0u8; 8];
     let mut mask = [0u8; 1];
-    if !first_octets_of(row, 2, &mut key) {
-        return false;
-    }
-    if !octets_of(row, 3, &mut vector) {
-        return false;
-    }
-    if !octets_of(row, 5, &mut mask) {
+    if !first_octets_of(row, 2, &mut key)
+        || !octets_of(row, 3, &mut vector)
+        || !octets_of(row, 5, &mut mask)
+    {
         return false;
     }
     let call = Call {

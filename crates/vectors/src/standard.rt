@@ -4,10 +4,8 @@ use crate::row::{has_octets, number, octets_of};
 // The n-th output from a seed; the first is the seed itself.
 fn output(seed: [u8; 8], n: u8) -> [u8; 8] {
     let mut vector = seed;
-    let mut k = 1;
-    while k < n {
+    for _ in 1..n {
         vector = generator::next_vector(&vector);
-        k += 1;
     }
     vector
 }
@@ -16,15 +14,9 @@ fn output(seed: [u8; 8], n: u8) -> [u8; 8] {
 pub fn holds(row: &[u8]) -> bool {
     let n = number(row, 2);
     let mut seed = [0u8; 8];
-    if n == 0 {
-        return false;
-    }
-    if !octets_of(row, 3, &mut seed) {
+    if n == 0 || !octets_of(row, 3, &mut seed) {
         return false;
     }
     let vector = output(seed, n);
-    if !has_octets(row, 4, &vector) {
-        return false;
-    }
-    has_octets(row, 5, &generator::aes_vector(&vector))
+    has_octets(row, 4, &vector) && has_octets(row, 5, &generator::aes_vector(&vector))
 }

@@ -1,4 +1,5 @@
 pub mod FrameLaws
+pub mod ToldLaws
 pub mod SlotLaws
 pub mod SlotGood
 pub mod SlotSteps

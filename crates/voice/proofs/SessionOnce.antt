@@ -1,5 +1,5 @@
 -- A session's keystream, made once: a slot turned by it is the slot of the session, and it holds from slot to slot.
-use mathlib.Core.Path.{◌≡◌, refl, sym, ap, ◌∙◌}
+use mathlib.Core.Path.{◌≡◌, refl, sym, ap, ap₂, ◌∙◌}
 use mathlib.Core.Bool.{Bool, true, false, true≢false}
 use mathlib.Core.List.{List}
 use Prim.Native.Nat.{ℕ, ◌+◌, ◌*◌, ◌≤◌, ◌<◌}
@@ -16,6 +16,7 @@ use Rattle.ciphers.specs.Keystream.{stream}
 use Rattle.sizes.proofs.SizeLaws.{slot_ranged}
 use Rattle.ciphers.proofs.KeystreamLaws.{bits-stream}
 use Rattle.answers.specs.declared.Answer.TheVariants.{Done, Held}
+use Rattle.answers.specs.Numbers.{number_of}
 use Rattle.answers.specs.Outcomes.{settled}
 use Rattle.answers.proofs.OutcomeLaws.{NoneHolds, by_refusals}
 use Rattle.calls.specs.declared.counts.Counts.{Counts}
@@ -28,7 +29,7 @@ use Rattle.calls.proofs.CountLaws.{Fits, lost-fits, arrived-fits}
 use Rattle.voice.specs.Slot.{going_on, ridden, slot_on, is_full, lost_refusals, lost_of, voice_refusals, stream_of, in_slot, voice_after, voice_by, voice_of, voice_by_octets, session_stream_of, IsSession}
 use Rattle.voice.proofs.FrameLaws.{protect_same}
 use Rattle.calls.proofs.CallLaws.{by_stands, is-sender, knows-good, knows_inside, known-width, known_written}
-use Rattle.voice.proofs.SlotLaws.{by_long, slot-fits, none_long, none-full, taken_none, taken_call, lent-turned}
+use Rattle.voice.proofs.SlotLaws.{by_long, slot-fits, none_long, none-full, voice_taken, voice_done}
 use Rattle.calls.proofs.GoodLaws.{read_written}
 use Rattle.voice.proofs.SlotGood.{scramble_right, slot-good_if}
 
@@ -62,7 +63,7 @@ voice_by_is_voice c session i mask frame = by_long session c mask frame (rw (kno
 -- a slot that is done, as the code does it by such octets
 module _ (c : Call) (mask : ℕ) (frame : List ℕ) (done : Done ≡ (voice_of c mask frame).0) where
   none : NoneHolds (voice_refusals c mask frame)
-  none = taken_none c mask frame Done done (omega arith)
+  none = let e : 0 ≡ number_of (voice_of c mask frame).0 = ap number_of done in voice_taken stream_of c mask frame (omega arith)
 
   pub done_long : length frame ≡ frame_octets (width_of c.terms)
   done_long = none_long c mask frame none
@@ -73,9 +74,14 @@ module _ (c : Call) (mask : ℕ) (frame : List ℕ) (done : Done ≡ (voice_of c
 pub within_done : (c : Call) (session : List ℕ) → IsSession c session → (mask : ℕ) (frame : List ℕ) → Done ≡ (voice_of c mask frame).0
     → {d : Call} → d ≡ written (plus c.counts (arrived_words mask true)) (slot_on (standing c)) → {g : List ℕ} → g ≡ in_slot (λ e. bit session) mask frame c
     → (Done, (d, g)) ≡ voice_of c mask frame
-within_done c session i mask frame done {d} on {g} turned =
-    lent-turned session c mask frame Done d (done, taken_call c mask frame Done done (omega arith) refl refl on) (omega arith) i.long refl g turned
-    ∙ voice_by_is_voice c session i mask frame
+within_done c session i mask frame done on turned =
+    ap₂ (λ (d : Call) (g : List ℕ). (Done, (d, g))) on (turned ∙ ap (in_slot (λ e. bit session) mask frame) (sym (known_written c i.known)))
+    ∙ ap
+    (λ (t : Bool).
+    (pick t Done Held, (written (plus c.counts (arrived_words mask t)) (slot_on (standing c)), pick t (in_slot (λ e. bit session) mask frame (written c.counts (standing c))) frame)))
+    (sym i.known)
+    ∙ voice_done (λ e. bit session) c mask frame (none c mask frame done)
+    ∙ voice_same (λ e. bit session) stream_of c i.bits mask frame
 
 -- ---- a session made
 

@@ -1,12 +1,13 @@
 -- Slots of a call, as the code goes through them.
-use mathlib.Core.Path.{◌≡◌, refl, sym, ap, ◌∙◌}
-use mathlib.Core.Bool.{Bool, true, false, not, true≢false}
+use mathlib.Core.Path.{◌≡◌, refl, sym, ap, ap₂, ◌∙◌}
+use mathlib.Core.Bool.{Bool, true, false, not, true≢false, ◌&&◌}
 use mathlib.Core.List.{List}
+use Rattle.std.specs.Prelude.{Result, Ok, Err}
 use Prim.Native.Nat.{ℕ, ◌+◌, ◌*◌, ◌/◌, ◌%◌, ◌≤◌, ◌<◌}
 use native.Mathlib.Omega.{arith}
-use lib.Dec.{ltb, eqb}
+use lib.Dec.{ltb, eqb, leb}
 use lib.ListN.{length}
-use borrow.Author.Tests.{eq-eqb, eqb-true, le-leb, lt-leb, leb-true, leb-false, lt-ltb, le-ltb, not-true, not-false}
+use borrow.Author.Tests.{eq-eqb, eqb-false, eqb-true, le-leb, lt-leb, leb-true, leb-false, lt-ltb, le-ltb, not-true, not-false}
 use Rattle.sizes.proofs.SizeLaws.{slots-at-most, slot_held}
 use Rattle.ciphers.proofs.KeystreamLaws.{bits-stream}
 use Rattle.octets.specs.Tests.{pick}
@@ -26,11 +27,14 @@ use Rattle.calls.specs.declared.call.Call.{Call}
 use Rattle.sizes.specs.Frame.{frame_octets, slot_bits, slot_octets, session_bits, session_octets, most_words}
 use Rattle.octets.proofs.Words.{word-ends}
 use Rattle.voice.specs.Frame.{of_slot, protect}
-use Rattle.calls.specs.Call.{closed_end, receiving_end, unknown_vector, carried_vector, by_default, good_call, carried, is_known, known_number, known_vector, known_by, untold, Standing, sending, receiving, standing, call_at, width_of, written, width_in, stands, knows}
+use Rattle.calls.specs.Call.{closed_end, receiving_end, unknown_vector, carried_vector, by_default, good_call, carried, is_known, known_number, known_vector, known_by, untold, Standing, sending, receiving, standing, call_at, width_of, written, width_in, stands, receives, knows}
 use Rattle.calls.specs.Counts.{no_counts, plus, total, lost_words, arrived_words}
 use Rattle.voice.specs.Slot.{going_on, rides, ridden, slot_on, is_full, lost_refusals, lost_of, top_mask, voice_refusals, stream_of, in_slot, voice_after, voice_by, voice_of, short_refusals, voice_by_octets}
+use Rattle.voice.specs.declared.slot.Slot.{Slot}
+use Rattle.voice.specs.Told.{held_of, slot_of}
 use Rattle.voice.proofs.FrameLaws.{protect_same}
-use Rattle.calls.proofs.CallLaws.{counts_most, is_known_lem, known-vector, untold-is, by_stands, is_receiver, good_by, not_bad, stands-none, stands_some, width_in_lem, inside, known_written}
+use Rattle.voice.proofs.ToldLaws.{held_told, slot_told, slot_refuses, slot_is, refused_as}
+use Rattle.calls.proofs.CallLaws.{knows-good, unless_receiver, counts_most, is_known_lem, known-vector, untold-is, by_stands, is_receiver, good_by, knows-is, not_bad, stands-none, stands_some, width_in_lem, inside, known_written}
 
 -- ---- a receiver as its next session starts
 
@@ -76,6 +80,14 @@ module _ (c : Call) (good : good_call c ≡ true) where
   full_is f =
       by_stands c good (λ o e s. absurd (true≢false (sym f ∙ rw s))) (λ o e s. absurd (true≢false (sym f ∙ rw s)))
       (λ o e s. (e, omega (arith, counts_most c good, leb-true most_words (total c.counts) (rw s at f))))
+
+  -- as the code tests it
+  pub full_by : is_full (standing c) c.counts ≡ (eqb c.end receiving_end && leb most_words (total c.counts))
+  full_by = go (eqb c.end receiving_end) refl
+    where
+      go : (t : Bool) → eqb c.end receiving_end ≡ t → is_full (standing c) c.counts ≡ (t && leb most_words (total c.counts))
+      go true e = rw (is_receiver c good (eqb-true _ _ e))
+      go false e = rw (unless_receiver c good receives refl (λ t p v. refl) (eqb-false _ _ e))
 
   pub below_limit : is_full (standing c) c.counts ≡ false → c.end ≡ receiving_end → total c.counts < most_words
   below_limit f e = leb-false _ _ (rw (is_receiver c good e) at f)
@@ -276,59 +288,78 @@ module _ (c : Call) (mask : ℕ) (frame : List ℕ) where
         ∙ ap (λ (r : Answer × (Call × List ℕ)). r.0)
         (voice_done stream_of c mask frame (le-ltb _ _ m, (not_bad c good, (stands_some c good o, (room, (ap not (eq-eqb _ _ (l ∙ ap frame_octets (sym (width_in_lem c good o)))), tt))))))
 
-  -- the call after it
-  module _ (a : Answer) (e : a ≡ (voice_of c mask frame).0) where
-    pub taken_none : number_of a < 2 → NoneHolds (voice_refusals c mask frame)
-    taken_none l = voice_taken stream_of c mask frame (rw e at l)
-
-    pub refused_call : Refusal a → c ≡ (voice_of c mask frame).1.0
-    refused_call r =
-        by_voice stream_of c mask frame (λ o. Refusal o.0 → c ≡ o.1.0) (λ b q h. refl)
-        (λ n h. absurd (omega (arith, taken-under-two (knows (standing c))))) (rw e at r)
-
-    -- 0 says that the vector is known
-    taken-knows : number_of a < 2 → {n : ℕ} → n ≡ number_of a → eqb n 0 ≡ knows (standing c)
-    taken-knows l q =
-        ap (λ (n : ℕ). eqb n 0) (q ∙ ap number_of e ∙ sym (ap (λ (o : Answer × (Call × List ℕ)). number_of o.0) (voice_done stream_of c mask frame (taken_none l))))
-        ∙ go (knows (standing c))
+    -- held where the call says that it is unknown
+    pub held_taken : (c.end ≡ closed_end → ⊥) → is_full (standing c) c.counts ≡ false → Ok (eqb c.known unknown_vector) ≡ held_of (voice_of c mask frame).0
+    held_taken o room = go (eqb c.known unknown_vector) (knows-is c good)
       where
-        go : (t : Bool) → eqb (number_of (pick t Done Held)) 0 ≡ t
-        go true = refl
-        go false = refl
+        go : (t : Bool) → knows (standing c) ≡ not t → Ok t ≡ held_of (voice_of c mask frame).0
+        go true k = ap held_of (answer_taken false o room k)
+        go false k = ap held_of (answer_taken true o room k)
 
-    pub taken_call : number_of a < 2 → {n : ℕ} → n ≡ number_of a → {w : Counts} → w ≡ arrived_words mask (eqb n 0) → {d : Call}
-        → d ≡ written (plus c.counts w) (slot_on (standing c)) → d ≡ (voice_of c mask frame).1.0
-    taken_call l q g f =
-        f
-        ∙ ap (λ (v : Counts). written (plus c.counts v) (slot_on (standing c))) (g ∙ ap (arrived_words mask) (taken-knows l q))
-        ∙ ap (λ (o : Answer × (Call × List ℕ)). o.1.0) (voice_done stream_of c mask frame (taken_none l))
+  -- a receiver's, as the code tests it
+  pub taken_done : knows (standing c) ≡ true → mask ≤ top_mask → c.end ≡ receiving_end → is_full (standing c) c.counts ≡ false → length frame ≡ frame_octets (width_of c.terms)
+      → (c.end ≡ receiving_end) × (Done ≡ (voice_of c mask frame).0)
+  taken_done k m e room l = (e, answer_taken l m (knows-good c k) true (λ z. omega arith) room k)
 
-with_frame : (a : Answer) (d : Call) (g : List ℕ) (o : Answer × (Call × List ℕ)) → (a, d) ≡ without_frame o → g ≡ o.1.1 → (a, (d, g)) ≡ o
-with_frame a d g o e f =
-    ap (λ (r : Answer × Call). (r.0, (r.1, g))) e ∙ ap (λ (h : List ℕ). (o.0, (o.1.0, h))) f
+  -- what is held or not is refused by nothing
+  module _ {r : Result Bool Answer} (e : r ≡ held_of (voice_of c mask frame).0) where
+    module _ {h : Bool} (p : r ≡ Ok h) where
+      its-held : (number_of (voice_of c mask frame).0 < 2) × (h ≡ eqb (number_of (voice_of c mask frame).0) 1)
+      its-held = held_told (voice_of c mask frame).0 (sym e ∙ p)
 
--- the frame
-module _ (st : Call → ℕ → ℕ) (c : Call) (mask : ℕ) (frame : List ℕ)
-    (a : Answer) (d : Call) (stepped : (a ≡ (voice_of c mask frame).0) × (d ≡ (voice_of c mask frame).1.0)) where
-  e : (a, d) ≡ without_frame (voice_of c mask frame)
-  e = rw (stepped.0, stepped.1)
+      pub taken_none : NoneHolds (voice_refusals c mask frame)
+      taken_none = voice_taken stream_of c mask frame its-held.0
 
-  number_by : number_of a ≡ number_of (voice_by st c mask frame).0
-  number_by = ap (λ (r : Answer × Call). number_of r.0) (e ∙ voice_beside stream_of st c mask frame)
+      -- and says whether the vector is known
+      held-knows : not h ≡ knows (standing c)
+      held-knows =
+          ap not its-held.1
+          ∙ sym (ap (λ (o : Answer × (Call × List ℕ)). not (eqb (number_of o.0) 1)) (voice_done stream_of c mask frame taken_none))
+          ∙ go (knows (standing c))
+        where
+          go : (t : Bool) → not (eqb (number_of (pick t Done Held)) 1) ≡ t
+          go true = refl
+          go false = refl
 
-  pub frame_stays : (number_of a ≡ 0 → ⊥) → (a, (d, frame)) ≡ voice_by st c mask frame
-  frame_stays n =
-      with_frame a d frame (voice_by st c mask frame) (e ∙ voice_beside stream_of st c mask frame)
-      (sym (undone_stays st c mask frame (λ z. n (number_by ∙ z))))
+      -- the call after it
+      taken-call : {w : Counts} → w ≡ arrived_words mask (not h) → {d : Call} → d ≡ written (plus c.counts w) (slot_on (standing c)) → d ≡ (voice_of c mask frame).1.0
+      taken-call g f =
+          f
+          ∙ ap (λ (w : Counts). written (plus c.counts w) (slot_on (standing c))) (g ∙ ap (arrived_words mask) held-knows)
+          ∙ ap (λ (o : Answer × (Call × List ℕ)). o.1.0) (voice_done stream_of c mask frame taken_none)
 
-  module _ (z : number_of a ≡ 0) where
-    pub frame_turned : (g : List ℕ) → g ≡ in_slot st mask frame c → (a, (d, g)) ≡ voice_by st c mask frame
-    frame_turned g t =
-        with_frame a d g (voice_by st c mask frame) (e ∙ voice_beside stream_of st c mask frame)
-        (t ∙ sym (done_turned st c mask frame (sym number_by ∙ z)))
+      pub slot_taken : {w : Counts} → w ≡ arrived_words mask (not h) → {d : Call} → d ≡ written (plus c.counts w) (slot_on (standing c))
+          → Ok (record { held = h; call = d }) ≡ (slot_of (voice_of c mask frame)).0
+      slot_taken g f = slot_is (voice_of c mask frame) its-held.0 its-held.1 (taken-call g f)
 
-    none-refused : NoneHolds (voice_refusals c mask frame)
-    none-refused = voice_taken st c mask frame (omega (arith, number_by))
+    pub slot_refused : {a : Answer} → r ≡ Err a → Err a ≡ (slot_of (voice_of c mask frame)).0
+    slot_refused p = refused_as (voice_of c mask frame) (sym e ∙ p)
+
+-- the frame, after a slot's step
+module _ (st : Call → ℕ → ℕ) (c : Call) (mask : ℕ) (frame : List ℕ) {r : Result Slot Answer} (stepped : r ≡ (slot_of (voice_of c mask frame)).0) where
+  abbrev after : Answer × (Call × List ℕ)
+  after = voice_by st c mask frame
+
+  -- the step rests on no bit of the session
+  step-by : r ≡ (slot_of after).0
+  step-by = stepped ∙ ap (λ (o : Answer × Call). (slot_of (o.0, (o.1, frame))).0) (voice_beside stream_of st c mask frame)
+
+  with-frame : {g : List ℕ} → g ≡ after.1.1 → (r, g) ≡ slot_of after
+  with-frame f = ap₂ (λ (s : Result Slot Answer) (g : List ℕ). (s, g)) step-by f
+
+  module _ {a : Answer} (p : r ≡ Err a) where
+    pub step-refuses : Refusal after.0
+    step-refuses = slot_refuses after (sym step-by ∙ p)
+
+    pub frame_refused : (Err a, frame) ≡ slot_of after
+    frame_refused = rw (← p) (with-frame (sym (undone_stays st c mask frame (λ z. let n = step-refuses in omega arith))))
+
+  module _ {s : Slot} (p : r ≡ Ok s) where
+    its-slot : (number_of after.0 < 2) × (s.held ≡ eqb (number_of after.0) 1) × (s.call ≡ after.1.0)
+    its-slot = slot_told after (sym step-by ∙ p)
+
+    pub none-refused : NoneHolds (voice_refusals c mask frame)
+    none-refused = voice_taken st c mask frame its-slot.0
 
     pub turned_long : length frame ≡ frame_octets (width_of c.terms)
     turned_long = none_long c mask frame none-refused
@@ -336,33 +367,41 @@ module _ (st : Call → ℕ → ℕ) (c : Call) (mask : ℕ) (frame : List ℕ)
     pub turned_inside : c.position < session_slots c.terms.cipher
     turned_inside = inside c (none-good c mask frame none-refused) (none_open c mask frame none-refused)
 
+    pub frame_stays : s.held ≡ true → (Ok s, frame) ≡ slot_of after
+    frame_stays h = rw (← p) (with-frame (sym (undone_stays st c mask frame (λ z. let o = eqb-true (number_of after.0) 1 (sym its-slot.1 ∙ h) in omega arith))))
+
+    pub frame_turned : s.held ≡ false → {g : List ℕ} → g ≡ in_slot st mask frame c → (Ok s, g) ≡ slot_of after
+    frame_turned h t =
+        rw (← p)
+        (with-frame
+        (t ∙ sym (done_turned st c mask frame (let n = eqb-false (number_of after.0) 1 (sym its-slot.1 ∙ h) in let l = its-slot.0 in omega arith))))
+
 -- by lent octets
-module _ (session : List ℕ) (c : Call) (mask : ℕ) (frame : List ℕ)
-    (a : Answer) (d : Call) (stepped : (a ≡ (voice_of c mask frame).0) × (d ≡ (voice_of c mask frame).1.0)) where
-  abbrev st : Call → ℕ → ℕ
-  st e = bit session
+module _ (session : List ℕ) (c : Call) (mask : ℕ) (frame : List ℕ) {r : Result Slot Answer} (stepped : r ≡ (slot_of (voice_of c mask frame)).0) where
+  abbrev lent-bits : Call → ℕ → ℕ
+  lent-bits d = bit session
 
-  pub lent_refused : Refusal a → (a, (d, frame)) ≡ voice_by_octets session c mask frame
-  lent_refused r =
-      frame_stays st c mask frame a d stepped (λ z. omega arith)
-      ∙ sym (by_refused session c mask frame (rw (number_by st c mask frame a d stepped) at r))
+  pub lent_refused : {a : Answer} → r ≡ Err a → (Err a, frame) ≡ slot_of (voice_by_octets session c mask frame)
+  lent_refused p =
+      frame_refused lent-bits c mask frame stepped p
+      ∙ ap slot_of (sym (by_refused session c mask frame (step-refuses lent-bits c mask frame stepped p)))
 
-  module _ (taken : number_of a < 2) where
+  module _ {s : Slot} (p : r ≡ Ok s) where
     none : NoneHolds (voice_refusals c mask frame)
-    none = taken_none c mask frame a stepped.0 taken
+    none = none-refused lent-bits c mask frame stepped p
 
     its : width_in (standing c) ≡ width_of c.terms
     its = width_in_lem c (none-good c mask frame none) (none_open c mask frame none)
 
-    pub lent_short : length session < session_octets (width_of c.terms) → (WrongLength, (c, frame)) ≡ voice_by_octets session c mask frame
-    lent_short l = by_short session c mask frame none (rw its l)
+    pub lent_short : length session < session_octets (width_of c.terms) → (Err WrongLength, frame) ≡ slot_of (voice_by_octets session c mask frame)
+    lent_short l = ap slot_of (by_short session c mask frame none (rw its l))
 
     module _ (l : session_octets (width_of c.terms) ≤ length session) where
-      enough : voice_by_octets session c mask frame ≡ voice_by st c mask frame
-      enough = by_long session c mask frame (rw its l)
+      enough : slot_of (voice_by lent-bits c mask frame) ≡ slot_of (voice_by_octets session c mask frame)
+      enough = ap slot_of (sym (by_long session c mask frame (rw its l)))
 
-      pub lent-held : (number_of a ≡ 0 → ⊥) → (a, (d, frame)) ≡ voice_by_octets session c mask frame
-      lent-held n = frame_stays st c mask frame a d stepped n ∙ sym enough
+      pub lent-held : s.held ≡ true → (Ok s, frame) ≡ slot_of (voice_by_octets session c mask frame)
+      lent-held h = frame_stays lent-bits c mask frame stepped p h ∙ enough
 
-      pub lent-turned : number_of a ≡ 0 → (g : List ℕ) → g ≡ in_slot st mask frame c → (a, (d, g)) ≡ voice_by_octets session c mask frame
-      lent-turned z g t = frame_turned st c mask frame a d stepped z g t ∙ sym enough
+      pub lent-turned : s.held ≡ false → {g : List ℕ} → g ≡ in_slot lent-bits mask frame c → (Ok s, g) ≡ slot_of (voice_by_octets session c mask frame)
+      lent-turned h t = frame_turned lent-bits c mask frame stepped p h t ∙ enough

@@ -1,2 +1,3 @@
 pub mod Frame
 pub mod Slot
+pub mod Told

@@ -25,9 +25,7 @@ pub fn turn_frame(frame: &mut [u8], width: usize, mask: u8, stream: &[u8], from:
     requires { (width ≤ most_width) × (length frame.old ≡ frame_octets width) × (from < session_bits width) × (from + slot_bits width ≤ 8 * length stream.now) }
     ensures { frame.new ≡ protect width (λ n. bit stream.now (from + n)) mask frame.old }
 {
-    let mut w = 0;
-    while w < WORDS {
+    for w in 0..WORDS {
         turn_word(frame, width, mask, w, stream, from);
-        w += 1;
     }
 }

@@ -1,22 +1,24 @@
 // A voice slot of a call, arrived or lost.
 ghost use Rattle.std.specs.Prelude.{◌≡◌, ◌≤◌, ◌<◌, length, true, false, not, eqb};
+ghost use Rattle.std.specs.Option.{IfNone, IfSome};
 ghost use Rattle.sizes.specs.Ciphers.{session_slots};
 ghost use Rattle.sizes.specs.Frame.{words, frame_octets, slot_octets, session_octets};
 ghost use Rattle.octets.specs.Lists.{all_zero};
 ghost use Rattle.octets.specs.Bits.{bit};
 ghost use Rattle.calls.specs.Call.{closed_end, receiving_end, unknown_vector, vector_right, good_call, known_by, sending, receiving, standing, width_of, written, knows};
 ghost use Rattle.calls.specs.Counts.{no_counts, plus, total};
+ghost use Rattle.answers.specs.Outcomes.{result_of};
+ghost use Rattle.voice.specs.Told.{held_of, slot_of};
 ghost use Rattle.voice.specs.Slot.{going_on, rides, ridden, slot_on, moved_to, is_full, lost_of, stream_of, in_slot, voice_of, voice_by_octets, session_stream_of, IsSession};
 
 use crate::frame::turn_frame;
 use answers::Answer;
 use calls::call::{
-    CARRIED, CLOSED, Call, DEFAULT, RECEIVING, SENDING, Stepped, Terms, UNKNOWN, good_call,
-    receiver, refused, sender, untold,
+    CARRIED, CLOSED, Call, DEFAULT, RECEIVING, SENDING, Terms, UNKNOWN, good_call, receiver,
+    sender, untold,
 };
 use calls::counts::{Counts, arrived_words, lost_words, plus, total};
 use ciphers::{joined, plain};
-use octets::wide;
 use sizes::cipher::{Scramble, VECTOR_OCTETS, session_slots};
 use sizes::frame::{
     MOST_SLOT_OCTETS, MOST_WORDS, frame_octets, session_octets, slot_bits, slot_octets, width,
@@ -31,17 +33,12 @@ const TOP_MASK: u8 = 15;
 fn is_riding(terms: Terms, known: u8) -> bool
     ensures { result ≡ rides terms (not (eqb known unknown_vector)) }
 {
-    if terms.cipher == Scramble::TYPE {
-        return false;
-    }
-    if terms.strictness != DEFAULT {
-        return false;
-    }
-    known != UNKNOWN
+    terms.cipher != Scramble::TYPE && terms.strictness == DEFAULT && known != UNKNOWN
 }
 
 // What a slot moves of a receiver's call: all but what its opening fixed.
-#[derive(Clone, Copy)]
+// Kept: numbers, as in calls' `Call`, for the reason that is given there.
+#[derive(Clone, Copy, PartialEq, Eq)]
 pub struct Moved {
     pub position: u8,
     pub known: u8,
@@ -70,6 +67,7 @@ fn next_session(terms: Terms, known: u8, vector: [u8; VECTOR_OCTETS], counts: Co
 }
 
 // A receiver after a slot.
+#[tactic(auto, using(calls::proofs::CallLaws::receiver_is), unfolding(crate::specs::Slot::slot_on))]
 fn receiver_on(
     terms: Terms,
     position: u8,
@@ -81,7 +79,7 @@ fn receiver_on(
     ensures { moved_to terms result ≡ written counts (slot_on (receiving terms position (known_by known vector))) }
 {
     let heard = position + 1;
-    if wide(heard) < session_slots(terms.cipher) {
+    if usize::from(heard) < session_slots(terms.cipher) {
         return Moved {
             position: heard,
             known,
@@ -96,12 +94,17 @@ fn receiver_on(
 pub fn moved_to(terms: Terms, moved: Moved) -> Call
     ensures { result ≡ moved_to terms moved }
 {
-    let vector = moved.vector;
-    let counts = moved.counts;
-    receiver(terms, moved.position, moved.known, vector, counts)
+    receiver(
+        terms,
+        moved.position,
+        moved.known,
+        moved.vector,
+        moved.counts,
+    )
 }
 
 // The vector of a sender's next session.
+#[tactic(auto, unfolding(crate::specs::Slot::going_on))]
 fn going_on(cipher: u8, vector: [u8; VECTOR_OCTETS]) -> [u8; VECTOR_OCTETS]
     ensures { result ≡ going_on cipher vector }
 {
@@ -112,12 +115,13 @@ fn going_on(cipher: u8, vector: [u8; VECTOR_OCTETS]) -> [u8; VECTOR_OCTETS]
 }
 
 // A sender after a slot.
+#[tactic(auto, unfolding(crate::specs::Slot::slot_on))]
 fn sender_on(terms: Terms, position: u8, vector: [u8; VECTOR_OCTETS]) -> Call
     requires { position < session_slots terms.cipher }
     ensures { result ≡ written no_counts (slot_on (sending terms position vector)) }
 {
     let sent = position + 1;
-    if wide(sent) < session_slots(terms.cipher) {
+    if usize::from(sent) < session_slots(terms.cipher) {
         return sender(terms, sent, vector);
     }
     sender(terms, 0, going_on(terms.cipher, vector))
@@ -128,125 +132,109 @@ fn slot_on(call: Call, slot: Counts) -> Call
     requires { (good_call call ≡ true) × (call.end ≡ closed_end → ⊥) × (is_full (standing call) call.counts ≡ false) × (total slot ≡ words) }
     ensures { result ≡ written (plus call.counts slot) (slot_on (standing call)) }
 {
-    let terms = call.terms;
-    let vector = call.vector;
     if call.end == SENDING {
-        return sender_on(terms, call.position, vector);
+        return sender_on(call.terms, call.position, call.vector);
     }
-    let counts = call.counts;
-    let moved = receiver_on(terms, call.position, call.known, vector, plus(counts, slot));
-    moved_to(terms, moved)
+    let counts = plus(call.counts, slot);
+    let moved = receiver_on(call.terms, call.position, call.known, call.vector, counts);
+    moved_to(call.terms, moved)
 }
 
 // Whether a receiver was told of as many slots as it may be.
+#[tactic(auto, using(crate::proofs::SlotLaws::full_by))]
 pub fn is_full(call: Call) -> bool
     requires { good_call call ≡ true }
     ensures { result ≡ is_full (standing call) call.counts }
 {
-    if call.end != RECEIVING {
-        return false;
-    }
-    let counts = call.counts;
-    total(counts) >= MOST_WORDS as u64
+    call.end == RECEIVING && total(call.counts) >= u64::from(MOST_WORDS)
 }
 
 // ---- a lost slot
 
-pub fn lost(call: Call) -> Stepped
-    ensures { (result.answer, result.call) ≡ lost_of call }
+pub fn lost(call: Call) -> Result<Call, Answer>
+    ensures { result ≡ result_of (lost_of call) }
 {
     if !good_call(call) {
-        return refused(Answer::Bad, call);
+        return Err(Answer::Bad);
     }
     if call.end != RECEIVING {
-        return refused(Answer::NotNow, call);
+        return Err(Answer::NotNow);
     }
     if is_full(call) {
-        return refused(Answer::PastLimit, call);
+        return Err(Answer::PastLimit);
     }
-    Stepped {
-        answer: Answer::Done,
-        call: slot_on(call, lost_words()),
-    }
+    Ok(slot_on(call, lost_words()))
 }
 
 // ---- a voice slot
 
-// The frame turned by the bits of the session's slot, which stand for all words, in the mask or not. They are made in lent octets, from the octet on in which they
-// begin, and with DES by its plain engine: the audio task has little stack.
-fn turn_in(call: Call, mask: u8, frame: &mut [u8], slot: &mut [u8])
-    requires { (call.position < session_slots call.terms.cipher) × (length frame.old ≡ frame_octets (width_of call.terms)) × (length slot.old ≡ slot_octets (width_of call.terms)) }
-    ensures { frame.new ≡ in_slot stream_of mask frame.old call }
-{
-    let key = call.terms.key;
-    let vector = call.vector;
-    let width = width(call.terms.rate);
-    let from = slot_bits(width) * wide(call.position);
-    plain::keystream(call.terms.cipher, key, vector, from / 8, slot);
-    turn_frame(frame, width, mask, slot, from % 8);
+// A slot that was turned, or held as it came, and the call after it.
+#[derive(Clone, Copy)]
+pub struct Slot {
+    pub held: bool,
+    pub call: Call,
 }
 
-// The same, in room for a slot at any rate.
+// The frame turned by the bits of the session's slot, which stand for all words, in the mask or not. They are made in room for a slot at any rate, from the octet
+// on in which they begin, and with DES by its plain engine: the audio task has little stack.
 fn turn_slot(call: Call, mask: u8, frame: &mut [u8])
     requires { (call.position < session_slots call.terms.cipher) × (length frame.old ≡ frame_octets (width_of call.terms)) }
     ensures { frame.new ≡ in_slot stream_of mask frame.old call }
 {
+    let width = width(call.terms.rate);
+    let from = slot_bits(width) * usize::from(call.position);
     let mut room = [0; MOST_SLOT_OCTETS];
-    let octets = slot_octets(width(call.terms.rate));
-    turn_in(call, mask, frame, &mut room[..octets]);
+    let slot = &mut room[..slot_octets(width)];
+    plain::keystream(
+        call.terms.cipher,
+        call.terms.key,
+        call.vector,
+        from / 8,
+        slot,
+    );
+    turn_frame(frame, width, mask, slot, from % 8);
 }
 
-// What a slot is answered. Of the frame only the length counts.
-fn answer_to(call: Call, mask: u8, frame: &[u8]) -> Answer
-    ensures { result ≡ (voice_of call mask frame.now).0 }
+// Whether a slot is held, where nothing refuses it. Of the frame only the length counts.
+fn is_held(call: Call, mask: u8, frame: &[u8]) -> Result<bool, Answer>
+    ensures { result ≡ held_of (voice_of call mask frame.now).0 }
 {
     if mask > TOP_MASK {
-        return Answer::BadMask;
+        return Err(Answer::BadMask);
     }
     if !good_call(call) {
-        return Answer::Bad;
+        return Err(Answer::Bad);
     }
     if call.end == CLOSED {
-        return Answer::NotNow;
+        return Err(Answer::NotNow);
     }
     if is_full(call) {
-        return Answer::PastLimit;
+        return Err(Answer::PastLimit);
     }
     if frame.len() != frame_octets(width(call.terms.rate)) {
-        return Answer::WrongLength;
+        return Err(Answer::WrongLength);
     }
-    if call.known == UNKNOWN {
-        return Answer::Held;
-    }
-    Answer::Done
+    Ok(call.known == UNKNOWN)
 }
 
-// What a slot is answered, and the call after it. The frame is to be turned where the answer is 0.
-fn step(call: Call, mask: u8, frame: &[u8]) -> Stepped
-    ensures { (result.answer ≡ (voice_of call mask frame.now).0) × (result.call ≡ (voice_of call mask frame.now).1.0) }
+// Whether a slot is held, and the call after it. The frame is to be turned where it is not.
+fn step(call: Call, mask: u8, frame: &[u8]) -> Result<Slot, Answer>
+    ensures { result ≡ (slot_of (voice_of call mask frame.now)).0 }
 {
-    let answer = answer_to(call, mask, frame);
-    if answer.number() > 1 {
-        return refused(answer, call);
-    }
-    let slot = arrived_words(mask, answer.number() == 0);
-    Stepped {
-        answer,
-        call: slot_on(call, slot),
-    }
+    let held = is_held(call, mask, frame)?;
+    let call = slot_on(call, arrived_words(mask, !held));
+    Ok(Slot { held, call })
 }
 
 // A slot sent or received: the words of the mask are turned in the lent frame, where they stand.
-pub fn voice(call: Call, mask: u8, frame: &mut [u8]) -> Stepped
-    ensures { (result.answer, (result.call, frame.new)) ≡ voice_of call mask frame.old }
+pub fn voice(call: Call, mask: u8, frame: &mut [u8]) -> Result<Slot, Answer>
+    ensures { (result, frame.new) ≡ slot_of (voice_of call mask frame.old) }
 {
-    let stepped = step(call, mask, frame);
-    let answer = stepped.answer;
-    if answer.number() != 0 {
-        return stepped;
+    let slot = step(call, mask, frame)?;
+    if !slot.held {
+        turn_slot(call, mask, frame);
     }
-    turn_slot(call, mask, frame);
-    stepped
+    Ok(slot)
 }
 
 // ---- a session's keystream, made once
@@ -257,90 +245,56 @@ fn turn_by(call: Call, mask: u8, frame: &mut [u8], session: &[u8])
     ensures { frame.new ≡ in_slot (λ d. bit session.now) mask frame.old call }
 {
     let width = width(call.terms.rate);
-    let place = slot_bits(width) * wide(call.position);
+    let place = slot_bits(width) * usize::from(call.position);
     turn_frame(frame, width, mask, session, place);
 }
 
 // The same slot, turned by lent octets that hold the session's keystream. Fewer than a session's would leave speech in clear.
-pub fn voice_by(call: Call, mask: u8, frame: &mut [u8], session: &[u8]) -> Stepped
-    ensures { (result.answer, (result.call, frame.new)) ≡ voice_by_octets session.now call mask frame.old }
+pub fn voice_by(call: Call, mask: u8, frame: &mut [u8], session: &[u8]) -> Result<Slot, Answer>
+    ensures { (result, frame.new) ≡ slot_of (voice_by_octets session.now call mask frame.old) }
 {
-    let stepped = step(call, mask, frame);
-    let answer = stepped.answer;
-    if answer.number() > 1 {
-        return stepped;
-    }
+    let slot = step(call, mask, frame)?;
     if session.len() < session_octets(width(call.terms.rate)) {
-        return refused(Answer::WrongLength, call);
+        return Err(Answer::WrongLength);
     }
-    if answer.number() != 0 {
-        return stepped;
+    if !slot.held {
+        turn_by(call, mask, frame, session);
     }
-    turn_by(call, mask, frame, session);
-    stepped
+    Ok(slot)
 }
 
 // Whether the slot is a receiver's, and done. A call whose session is at hand is good: that isn't tested anew for each slot.
+#[tactic(auto, using(crate::proofs::SlotLaws::taken_done))]
 fn is_done(call: Call, mask: u8, frame: &[u8]) -> bool
     requires { knows (standing call) ≡ true }
     ensures { result ≡ true → (call.end ≡ receiving_end) × (Answer.Done ≡ (voice_of call mask frame.now).0) }
 {
-    if mask > TOP_MASK {
-        return false;
-    }
-    if call.end != RECEIVING {
-        return false;
-    }
-    if is_full(call) {
-        return false;
-    }
-    frame.len() == frame_octets(width(call.terms.rate))
+    mask <= TOP_MASK
+        && call.end == RECEIVING
+        && !is_full(call)
+        && frame.len() == frame_octets(width(call.terms.rate))
 }
 
-// Whether a slot was done, and what it moved.
-#[derive(Clone, Copy)]
-pub struct Within {
-    pub done: bool,
-    pub moved: Moved,
-}
-
-// A receiver's slot by the octets of its session, where it is done; what is refused, and a sender's, is left to `voice_by`, with the frame as it came.
-pub fn voice_within(call: Call, mask: u8, frame: &mut [u8], session: &[u8]) -> Within
+// What a receiver's slot moves, turned by the octets of its session, where it is done; what is refused, and a sender's, is left to `voice_by`, with the frame
+// as it came.
+pub fn voice_within(call: Call, mask: u8, frame: &mut [u8], session: &[u8]) -> Option<Moved>
     requires { IsSession call session.now }
-    ensures frame_after { result.done ≡ true → (Answer.Done, (moved_to call.terms result.moved, frame.new)) ≡ voice_of call mask frame.old }
-    ensures frame_unchanged { result.done ≡ false → frame.new ≡ frame.old }
+    ensures frame_after { IfSome result (λ moved. (Answer.Done, (moved_to call.terms moved, frame.new)) ≡ voice_of call mask frame.old) }
+    ensures frame_unchanged { IfNone result (frame.new ≡ frame.old) }
 {
-    let vector = call.vector;
-    let counts = call.counts;
     if !is_done(call, mask, frame) {
-        return Within {
-            done: false,
-            moved: Moved {
-                position: call.position,
-                known: call.known,
-                vector,
-                counts,
-            },
-        };
+        return None;
     }
     turn_by(call, mask, frame, session);
-    let terms = call.terms;
-    let slot = plus(counts, arrived_words(mask, true));
-    let moved = receiver_on(terms, call.position, call.known, vector, slot);
-    Within { done: true, moved }
+    let counts = plus(call.counts, arrived_words(mask, true));
+    Some(receiver_on(call.terms, call.position, call.known, call.vector, counts))
 }
 
 // The keystream of the call's session from bit 0 on, into lent octets of any length, with DES by its joined tables. Without a known vector they stay as they are.
 pub fn session_stream(call: Call, session: &mut [u8])
     ensures { session.new ≡ session_stream_of call session.old }
 {
-    if !good_call(call) {
-        return;
+    if good_call(call) && call.known != UNKNOWN {
+        joined::keystream(call.terms.cipher, call.terms.key, call.vector, 0, session);
     }
-    if call.known == UNKNOWN {
-        return;
-    }
-    let key = call.terms.key;
-    let vector = call.vector;
-    joined::keystream(call.terms.cipher, key, vector, 0, session);
 }

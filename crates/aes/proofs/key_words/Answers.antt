@@ -12,4 +12,4 @@ loop-i-preserved c = (search rules, tab_more _ _ _ _ _ _ c.loop-i.invariant.1 (s
 
 pub returns : goal.returns
 returns c =
-    front_words _ (λ i. (c.type_inv.key i).fits) 8 60 _ _ c.loop-i.i (search rules) (search rules) (search rules) c.loop-i.invariant.1
+    front_words _ c.fits-key 8 60 _ _ c.loop-i.i (search rules) (search rules) (search rules) c.loop-i.invariant.1

@@ -1,25 +1,10 @@
 -- `aes::octet` meets its contract.
-use mathlib.Core.Path.{refl}
-use borrow.Author.Rules.{rules}
-use Rattle.aes.specs.Prepared.{octet_of}
+use mathlib.Core.Path.{ap, ◌∙◌}
+use mathlib.Core.List.{List}
+use Prim.Native.Nat.{ℕ}
+use lib.ListN.{get_or}
+use Rattle.aes.proofs.WordLaws.{le_octet}
 use Rattle.aes.proofs.octet.Goals as goal
 
-pub overflow_mul-result : goal.overflow_mul-result
-unfolding octet_of
-overflow_mul-result c = search rules
-
-pub overflow_cast-result : goal.overflow_cast-result
-unfolding octet_of
-overflow_cast-result c = search rules
-
-pub overflow_shr-result : goal.overflow_shr-result
-unfolding octet_of
-overflow_shr-result c = search rules
-
-pub overflow_cast-result-2 : goal.overflow_cast-result-2
-unfolding octet_of
-overflow_cast-result-2 c = search rules
-
 pub returns : goal.returns
-unfolding octet_of
-returns c = refl
+returns c = ap (λ (x : List ℕ). get_or x c.args.r 0) c.to_le_bytes.ensures ∙ le_octet c.args.w c.args.r c.requires

@@ -6,4 +6,4 @@ use Rattle.aes.proofs.ScheduleLaws.{rotated-octets}
 use Rattle.aes.proofs.rot_word.Goals as goal
 
 pub returns : goal.returns
-returns c = ap octets_of c.rotated.ensures ∙ rotated-octets c.args.t (search rules)
+returns c = ap octets_of c.rotate_left.ensures ∙ rotated-octets c.args.t (search rules)

@@ -1,23 +1,21 @@
 -- `batch::record_step` meets its contract.
+use Rattle.batch.specs.declared.Kind.TheVariants as kind
 use Rattle.batch.proofs.BatchLaws.{is_voice, is_lost, is_announce, is-heard, is_unknown}
 use Rattle.batch.proofs.record_step.Goals as goal
 
-pub returns-then-kind-eq-VOICE : goal.returns-then-kind-eq-VOICE
-returns-then-kind-eq-VOICE c =
-    record { recorded = is_voice _ _ c.if-kind-eq-VOICE.true c.voice_step.ensures.taken; cached = c.voice_step.ensures.cached }
+pub returns-in-Some-Voice-clause-recorded : goal.returns-in-Some-Voice-clause-recorded
+returns-in-Some-Voice-clause-recorded c = is_voice _ _ (rw c.in-Some-Voice.field-0-is at c.in-Some-Voice.ensures.numbered) c.voice_step.ensures.taken
 
-pub returns-then-kind-eq-LOST : goal.returns-then-kind-eq-LOST
-returns-then-kind-eq-LOST c =
-    record { recorded = is_lost _ _ c.if-kind-eq-LOST.true (c.lost_step.ensures.taken _); cached = c.lost_step.ensures.stays_cached _ c.requires.1 }
+pub returns-in-Some-Lost-clause-recorded : goal.returns-in-Some-Lost-clause-recorded
+returns-in-Some-Lost-clause-recorded c = is_lost _ _ (rw c.in-Some-Lost.field-0-is at c.in-Some-Lost.ensures.numbered) (c.lost_step.ensures.taken _)
 
-pub returns-then-kind-eq-ANNOUNCE : goal.returns-then-kind-eq-ANNOUNCE
-returns-then-kind-eq-ANNOUNCE c =
-    record { recorded = is_announce _ _ c.if-kind-eq-ANNOUNCE.true (c.announce_step.ensures.taken _); cached = c.announce_step.ensures.stays_cached _ c.requires.1 }
+pub returns-in-Some-Announce-clause-recorded : goal.returns-in-Some-Announce-clause-recorded
+returns-in-Some-Announce-clause-recorded c =
+    is_announce _ _ (rw c.in-Some-Announce.field-0-is at c.in-Some-Announce.ensures.numbered) (c.announce_step.ensures.taken _)
 
-pub returns-then-kind-eq-HEARD : goal.returns-then-kind-eq-HEARD
-returns-then-kind-eq-HEARD c =
-    record { recorded = is-heard _ _ c.if-kind-eq-HEARD.true (c.heard_step.ensures.taken _); cached = c.heard_step.ensures.stays_cached _ c.requires.1 }
+pub returns-in-Some-Heard-clause-recorded : goal.returns-in-Some-Heard-clause-recorded
+returns-in-Some-Heard-clause-recorded c = is-heard _ _ (rw c.in-Some-Heard.field-0-is at c.in-Some-Heard.ensures.numbered) (c.heard_step.ensures.taken _)
 
-pub returns : goal.returns
-returns c =
-    record { recorded = is_unknown _ _ c.if-kind-eq-VOICE.false c.if-kind-eq-LOST.false c.if-kind-eq-ANNOUNCE.false c.if-kind-eq-HEARD.false; cached = c.requires.1 }
+pub returns-in-None-clause-recorded : goal.returns-in-None-clause-recorded
+returns-in-None-clause-recorded c =
+    let no = c.in-None.ensures.other in is_unknown _ _ (no kind.Voice) (no kind.Lost) (no kind.Announce) (no kind.Heard)

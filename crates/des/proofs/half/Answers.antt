@@ -6,4 +6,4 @@ use lib.ListN.{take, drop}
 use Rattle.des.proofs.half.Goals as goal
 
 pub returns : goal.returns
-returns c = c.copy.ensures ∙ ap (λ (k : ℕ). take k (drop c.args.from c.args.bits.now)) (add-sub_cancel_left c.args.from 32)
+returns c = c.copy_from_slice.ensures.after ∙ ap (λ (k : ℕ). take k (drop c.args.from c.args.bits.now)) (add-sub_cancel_left c.args.from 32)

@@ -3,7 +3,6 @@
 use mathlib.Core.Path.{◌≡◌, refl, ap, ◌∙◌}
 use mathlib.Core.List.{List, ◌++◌}
 use Prim.Native.Nat.{ℕ, ◌+◌, ◌-◌}
-use native.Mathlib.Nat.{sub-zero}
 use native.Mathlib.Omega.{arith}
 use borrow.Rule.Slice.PartMut.{put_mid}
 use lib.ListN.{length}
@@ -19,4 +18,4 @@ put_rest d a b l first e second f =
 
 pub returns : goal.returns
 returns c =
-    simp sub-zero (put_rest c.args.out.now c.args.first.now c.args.second.now c.requires _ c.copy.ensures _ c.copy-2.ensures)
+    put_rest c.args.out.now c.args.first.now c.args.second.now c.requires _ c.copy_from_slice.ensures.after _ c.copy_from_slice-2.ensures.after

@@ -7,9 +7,9 @@ pub returns : goal.returns
 unfolding ip table_e table_p table_s ip⁻¹ pc_2
 returns c =
     all-put c.args.all.now _ _ _ _ _ _ c.requires
-    c.copy.ensures
-    c.copy-2.ensures
-    c.copy-3.ensures
-    c.copy-4.ensures
-    c.copy-5.ensures
-    c.copy-6.ensures
+    c.copy_from_slice.ensures.after
+    c.copy_from_slice-2.ensures.after
+    c.copy_from_slice-3.ensures.after
+    c.copy_from_slice-4.ensures.after
+    c.copy_from_slice-5.ensures.after
+    c.copy_from_slice-6.ensures.after

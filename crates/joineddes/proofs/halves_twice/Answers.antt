@@ -1,16 +1,10 @@
 -- `joineddes::halves_twice` meets its contract.
 use mathlib.Core.Path.{refl}
-use native.Mathlib.Omega.{arith}
 use lib.ListN.{replicate}
-use Rattle.octets.proofs.Front.{first_long, put_both}
+use Rattle.octets.proofs.Front.{put_both}
 use Rattle.des.specs.Prepared.{twice_over}
 use Rattle.des.proofs.KeyLaws.{length-cc, length-dd, twice_c, twice_d}
 use Rattle.joineddes.proofs.halves_twice.Goals as goal
-
-pub slice_bounds-halves-end-2 : goal.slice_bounds-halves-end-2
-slice_bounds-halves-end-2 c =
-    let x = twice_c _ _ c.first_state-cd.ensures _ c.twice.ensures in
-    omega (arith, first_long (replicate 112 0) _ (replicate 56 0) 56 56 (length-cc _) refl refl _ x)
 
 pub returns : goal.returns
 unfolding twice_over

@@ -1,10 +1,6 @@
 -- `joineddes::key_number` meets its contract: after i turns the number has the bits of i boxes.
-use Prim.Native.Nat.{◌-◌, ◌≤◌}
 use Rattle.joineddes.proofs.ScheduleLaws.{HasBoxes}
 use Rattle.joineddes.proofs.key_number.Given as goal
 
 abbrev pub invariant-loop-i : goal.invariant-loop-i
-invariant-loop-i l = (l.i ≤ 4) × HasBoxes l.bits l.first l.i l.number
-
-abbrev pub decreases-loop-i : goal.decreases-loop-i
-decreases-loop-i l = 4 - l.i
+invariant-loop-i l = HasBoxes l.bits l.first l.i l.number

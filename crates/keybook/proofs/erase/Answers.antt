@@ -1,28 +1,25 @@
 -- `keybook::erase` meets its contract.
-use mathlib.Core.Path.{sym, ◌∙◌, ap}
-use native.Mathlib.Omega.{arith}
+use mathlib.Core.Path.{sym, ap, ◌∙◌}
 use mathlib.Core.List.{List}
 use Prim.Native.Nat.{ℕ}
+use Rattle.std.proofs.lemmas.Result.{err_from_is_err_and}
 use Rattle.answers.specs.declared.Answer.TheVariants.{Done}
-use Rattle.keybook.proofs.BookLaws.{put_entry}
-use Rattle.keybook.proofs.OperationLaws.{located, erase_ways}
+use Rattle.answers.proofs.ResultLaws.{refused_with, done_with}
+use Rattle.keybook.proofs.OperationLaws.{located, way-refused, way-found, erase_ways}
 use Rattle.keybook.proofs.erase.Goals as goal
 
-pub overflow_mul-a : goal.overflow_mul-a
-overflow_mul-a c = let f = located _ _ _ _ (sym c.look.ensures ∙ c.in-At.is) in omega arith
+pub returns-in_err-k : goal.returns-in_err-k
+returns-in_err-k c =
+    let p = err_from_is_err_and c.from_residual.result c.from_residual.ensures.1 in
+    let w = way-refused _ _ _ _ (erase_ways _ _ _) _ (sym c.look.ensures ∙ c.in_err-k.was) in
+    rw (p.1, p.2) (refused_with w.0 w.1)
 
-pub overflow_add-a : goal.overflow_add-a
-overflow_add-a c = let f = located _ _ _ _ (sym c.look.ensures ∙ c.in-At.is) in omega arith
+pub entry-requires : goal.entry-requires
+entry-requires c = let f = located _ _ _ _ (sym c.look.ensures ∙ c.in_ok-k.was) in (f.sized, f.below)
 
-pub slice_bounds-clear-end : goal.slice_bounds-clear-end
-slice_bounds-clear-end c = let f = located _ _ _ _ (sym c.look.ensures ∙ c.in-At.is) in omega arith
+pub put-requires : goal.put-requires
+put-requires c = let f = located _ _ _ _ (sym c.look.ensures ∙ c.in_ok-k.was) in (f.sized, f.below)
 
-pub returns-in-Refused : goal.returns-in-Refused
-returns-in-Refused c = (erase_ways _ _ _).refused _ (sym c.look.ensures ∙ c.in-Refused.is)
-
-pub returns-in-Missing : goal.returns-in-Missing
-returns-in-Missing c = (erase_ways _ _ _).missing (sym c.look.ensures ∙ c.in-Missing.is)
-
-pub returns-in-At : goal.returns-in-At
-returns-in-At c =
-    ap (λ (l : List ℕ). (Done, l)) (put_entry _ _ c.clear.ensures) ∙ (erase_ways _ _ _).found _ (sym c.look.ensures ∙ c.in-At.is)
+pub returns : goal.returns
+returns c =
+    done_with (ap (λ (l : List ℕ). (Done, l)) (rw c.clear.ensures at c.put.ensures) ∙ way-found _ _ _ _ (erase_ways _ _ _) _ (sym c.look.ensures ∙ c.in_ok-k.was))

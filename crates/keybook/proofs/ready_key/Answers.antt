@@ -1,17 +1,21 @@
 -- `keybook::ready_key` meets its contract.
 use mathlib.Core.Path.{sym, ap, ◌∙◌}
-use Rattle.keybook.proofs.OperationLaws.{located, both, ready_ways, readying}
+use Rattle.std.proofs.lemmas.Result.{err_from_is_err_and}
+use Rattle.answers.proofs.ResultLaws.{refused}
+use Rattle.keybook.proofs.OperationLaws.{located, way-refused, way-found, ready_ways, readying}
+use Rattle.answers.specs.Outcomes.{result_of}
 use Rattle.keybook.proofs.ready_key.Goals as goal
 
+pub returns-in_err-k : goal.returns-in_err-k
+returns-in_err-k c =
+    let p = err_from_is_err_and c.from_residual.result c.from_residual.ensures.1 in
+    let w = way-refused _ _ _ _ (ready_ways _ _ _) _ (sym c.look.ensures ∙ c.in_err-k.was) in
+    rw (p.1, p.2) (refused w.0 w.1)
+
 pub entry-requires : goal.entry-requires
-entry-requires c = let f = located _ _ _ _ (sym c.look.ensures ∙ c.in-At.is) in (f.sized, f.below)
+entry-requires c = let f = located _ _ _ _ (sym c.look.ensures ∙ c.in_ok-k.was) in (f.sized, f.below)
 
-pub returns-in-Refused : goal.returns-in-Refused
-returns-in-Refused c = both c.refused.ensures.0 c.refused.ensures.1 ∙ (ready_ways _ _ _).refused _ (sym c.look.ensures ∙ c.in-Refused.is)
-
-pub returns-in-Missing : goal.returns-in-Missing
-returns-in-Missing c =
-    both c.refused-in-Missing.ensures.0 c.refused-in-Missing.ensures.1 ∙ (ready_ways _ _ _).missing (sym c.look.ensures ∙ c.in-Missing.is)
-
-pub returns-in-At : goal.returns-in-At
-returns-in-At c = c.ready_entry.ensures ∙ ap readying c.entry.ensures.0 ∙ (ready_ways _ _ _).found _ (sym c.look.ensures ∙ c.in-At.is)
+pub returns : goal.returns
+returns c =
+    c.ready_entry.ensures
+    ∙ ap result_of (ap readying c.entry.ensures ∙ way-found _ _ _ _ (ready_ways _ _ _) _ (sym c.look.ensures ∙ c.in_ok-k.was))

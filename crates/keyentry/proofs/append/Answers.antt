@@ -5,13 +5,13 @@ use Rattle.keyentry.specs.Entry.{cipher_in, lacks}
 use Rattle.keyentry.proofs.EntryLaws.{appended}
 use Rattle.keyentry.proofs.append.Goals as goal
 
-pub slice_bounds-copy-end : goal.slice_bounds-copy-end
+pub slice_bounds-copy_from_slice-end : goal.slice_bounds-copy_from_slice-end
 unfolding lacks
-slice_bounds-copy-end c = omega (arith, key-at-most (cipher_in c.args.e.now))
+slice_bounds-copy_from_slice-end c = omega (arith, key-at-most (cipher_in c.args.e.now))
 
 pub overflow_cast-e : goal.overflow_cast-e
 unfolding lacks
 overflow_cast-e c = omega (arith, key-at-most (cipher_in c.args.e.now))
 
 pub returns : goal.returns
-returns c = appended _ _ c.wide-n.ensures.0 c.copy.ensures
+returns c = appended _ _ c.from-n.ensures c.copy_from_slice.ensures.after

@@ -1,16 +1,20 @@
 -- `keyentry::in_range` meets its contract.
+use mathlib.Core.Path.{◌∙◌}
+use Prim.Native.Nat.{◌<◌}
+use native.Mathlib.Omega.{arith}
 use borrow.Author.Tests.{le-leb, lt-leb}
 use Rattle.keyentry.specs.Entry.{in_range}
 use Rattle.keyentry.proofs.in_range.Goals as goal
+use Rattle.keyentry.proofs.in_range.Goals.{then-cipher-ge-TYPE, else-cipher-ge-TYPE}
 
-pub returns-then-cipher-lt-TYPE : goal.returns-then-cipher-lt-TYPE
+pub returns-then-cipher-le-TYPE : goal.returns-then-cipher-le-TYPE
 unfolding in_range
-returns-then-cipher-lt-TYPE c = rw (lt-leb _ _ c.if-cipher-lt-TYPE.true)
+returns-then-cipher-le-TYPE c = rw (le-leb _ _ c.if-cipher-le-TYPE.true.0, le-leb _ _ c.if-cipher-le-TYPE.true.1)
 
-pub returns-then-cipher-gt-TYPE : goal.returns-then-cipher-gt-TYPE
+pub returns-else-cipher-le-TYPE : goal.returns-else-cipher-le-TYPE
 unfolding in_range
-returns-then-cipher-gt-TYPE c = rw (le-leb _ _ c.if-cipher-lt-TYPE.false, lt-leb _ _ c.if-cipher-gt-TYPE.true)
-
-pub returns : goal.returns
-unfolding in_range
-returns c = rw (le-leb _ _ c.if-cipher-lt-TYPE.false, le-leb _ _ c.if-cipher-gt-TYPE.false)
+returns-else-cipher-le-TYPE c =
+    elim c.if-cipher-ge-TYPE.branch [
+      | then-cipher-ge-TYPE w ↦ w.t-4-is ∙ (let above : 3 < c.args.cipher = omega (arith, c.if-cipher-le-TYPE.either) in rw (le-leb _ _ w.if-cipher-ge-TYPE.true, lt-leb _ _ above))
+      | else-cipher-ge-TYPE w ↦ w.t-4-is ∙ rw (lt-leb _ _ w.if-cipher-ge-TYPE.false)
+    ]

@@ -7,7 +7,11 @@ use borrow.Author.Tests.{eq-eqb, ne_eqb}
 use Rattle.keyentry.specs.Entry.{in_range}
 use Rattle.openings.specs.Ladder.{key_refusals}
 use Rattle.openings.proofs.LadderLaws.{key_refused, key-ready}
-use borrow.Author.Rules.{rules}
+use mathlib.Core.List.{List}
+use Prim.Native.Nat.{ℕ}
+use Rattle.answers.specs.declared.Answer.{Answer}
+use Rattle.answers.specs.Outcomes.{result_of}
+use Rattle.answers.proofs.ResultLaws.{refused}
 use Rattle.openings.proofs.opening_key.Goals as goal
 use Rattle.openings.proofs.opening_key.Goals.{then-not-ranged-via-then-not-ranged, then-not-ranged-via-else-not-ranged+then-not-in_range}
 
@@ -19,51 +23,28 @@ out_of_range true t (inr e) = ap not e
 in_range_lem : (ranged : Bool) {r t : Bool} → ranged ≡ true → r ≡ t → r ≡ true → not (ranged && t) ≡ false
 in_range_lem ranged {r} {t} p e q = rw (p, sym e ∙ q)
 
-pub refused-requires : goal.refused-requires
-unfolding key_refusals
-refused-requires c = search rules
-
 pub returns-then-book-ne-BOOK_OCTETS : goal.returns-then-book-ne-BOOK_OCTETS
 unfolding key_refusals
 returns-then-book-ne-BOOK_OCTETS c =
-    rw (c.refused.ensures.0, c.refused.ensures.1) (key_refused _ _ _ _ _ _ 0 (ap not (ne_eqb _ _ c.if-book-ne-BOOK_OCTETS.true)))
-
-pub in_range-requires : goal.in_range-requires
-unfolding key_refusals
-in_range-requires c = search rules
-
-pub refused-requires-then-not-ranged : goal.refused-requires-then-not-ranged
-unfolding key_refusals
-refused-requires-then-not-ranged c = search rules
+    refused refl (key_refused _ _ _ _ _ _ 0 (ap not (ne_eqb _ _ c.if-book-ne-BOOK_OCTETS.true)))
 
 pub returns-then-not-ranged : goal.returns-then-not-ranged
 unfolding key_refusals
 returns-then-not-ranged c =
-    rw (c.refused-then-not-ranged.ensures.0, c.refused-then-not-ranged.ensures.1) (key_refused _ _ _ _ _ _ 1 (ap not (eq-eqb _ _ c.if-book-ne-BOOK_OCTETS.false), out_of_range c.args.ranged (in_range c.args.cipher c.args.id) (elim c.then-not-ranged.branch [ then-not-ranged-via-then-not-ranged w ↦ inl (ap not w.if-not-ranged.true) | then-not-ranged-via-else-not-ranged+then-not-in_range w ↦ inr (sym w.in_range.ensures ∙ w.if-not-in_range.true) ])))
-
-pub refused-requires-then-bad : goal.refused-requires-then-bad
-unfolding key_refusals
-refused-requires-then-bad c = search rules
+    refused refl (key_refused _ _ _ _ _ _ 1 (ap not (eq-eqb _ _ c.if-book-ne-BOOK_OCTETS.false), out_of_range c.args.ranged (in_range c.args.cipher c.args.id) (elim c.then-not-ranged.branch [ then-not-ranged-via-then-not-ranged w ↦ inl (ap not w.if-not-ranged.true) | then-not-ranged-via-else-not-ranged+then-not-in_range w ↦ inr (sym w.in_range.ensures ∙ w.if-not-in_range.true) ])))
 
 pub returns-then-bad : goal.returns-then-bad
 unfolding key_refusals
 returns-then-bad c =
-    rw (c.refused-then-bad.ensures.0, c.refused-then-bad.ensures.1) (key_refused _ _ _ _ _ _ 2 (ap not (eq-eqb _ _ c.if-book-ne-BOOK_OCTETS.false), (in_range_lem c.args.ranged c.if-not-ranged.false c.in_range.ensures c.if-not-in_range.false, c.if-bad.true)))
-
-pub refused-requires-then-busy : goal.refused-requires-then-busy
-unfolding key_refusals
-refused-requires-then-busy c = search rules
+    refused refl (key_refused _ _ _ _ _ _ 2 (ap not (eq-eqb _ _ c.if-book-ne-BOOK_OCTETS.false), (in_range_lem c.args.ranged c.if-not-ranged.false c.in_range.ensures c.if-not-in_range.false, c.if-bad.true)))
 
 pub returns-then-busy : goal.returns-then-busy
 unfolding key_refusals
 returns-then-busy c =
-    rw (c.refused-then-busy.ensures.0, c.refused-then-busy.ensures.1) (key_refused _ _ _ _ _ _ 3 (ap not (eq-eqb _ _ c.if-book-ne-BOOK_OCTETS.false), (in_range_lem c.args.ranged c.if-not-ranged.false c.in_range.ensures c.if-not-in_range.false, (c.if-bad.false, c.if-busy.true))))
-
-pub ready_key-requires : goal.ready_key-requires
-unfolding key_refusals
-ready_key-requires c = search rules
+    refused refl (key_refused _ _ _ _ _ _ 3 (ap not (eq-eqb _ _ c.if-book-ne-BOOK_OCTETS.false), (in_range_lem c.args.ranged c.if-not-ranged.false c.in_range.ensures c.if-not-in_range.false, (c.if-bad.false, c.if-busy.true))))
 
 pub returns : goal.returns
 unfolding key_refusals
 returns c =
-    c.ready_key.ensures ∙ key-ready _ _ _ _ _ _ c.if-book-ne-BOOK_OCTETS.false (c.if-not-ranged.false) (sym c.in_range.ensures ∙ c.if-not-in_range.false) c.if-bad.false c.if-busy.false
+    c.ready_key.ensures
+    ∙ ap (λ (o : Answer × List ℕ). result_of o) (key-ready _ _ _ _ _ _ c.if-book-ne-BOOK_OCTETS.false (c.if-not-ranged.false) (sym c.in_range.ensures ∙ c.if-not-in_range.false) c.if-bad.false c.if-busy.false)

@@ -1,47 +1,36 @@
 -- `openings::opening_key_with` meets its contract.
-use mathlib.Core.Path.{sym, ◌∙◌}
-use Rattle.openings.specs.Ladder.{vector_refusals}
-use Rattle.answers.proofs.OutcomeLaws.{is_done_lem, not_done}
+use mathlib.Core.Path.{refl, sym, ap, ◌∙◌}
+use Rattle.std.proofs.lemmas.Result.{err_from_is_err_and}
+use Rattle.answers.specs.declared.Answer.{Answer}
+use Rattle.answers.specs.Numbers.{is_done}
+use Rattle.answers.proofs.ResultLaws.{refused, returned, is_returned, is_refused}
+use Rattle.openings.specs.Ladder.{opening_key_of, vector_refusals}
 use Rattle.openings.proofs.LadderLaws.{heard-taken, some_taken, key-none, vector-length, vector-key_refused, vector-zero, vector-ready}
-use borrow.Author.Rules.{rules}
 use Rattle.openings.proofs.opening_key_with.Goals as goal
 use Rattle.openings.proofs.opening_key_with.Goals.{else-sends-via-then-sends+else-is_zero_for, else-sends-via-else-sends}
 
-pub refused-requires : goal.refused-requires
-unfolding vector_refusals
-refused-requires c = search rules
-
 pub returns-then-vector-ne-VECTOR_OCTETS : goal.returns-then-vector-ne-VECTOR_OCTETS
 unfolding vector_refusals
-returns-then-vector-ne-VECTOR_OCTETS c = rw (c.refused.ensures.0, c.refused.ensures.1) (vector-length _ _ _ _ _ _ _ _ c.if-vector-ne-VECTOR_OCTETS.true)
+returns-then-vector-ne-VECTOR_OCTETS c = refused refl (vector-length _ _ _ _ _ _ _ _ c.if-vector-ne-VECTOR_OCTETS.true)
 
-pub opening_key-ready-requires : goal.opening_key-ready-requires
-unfolding vector_refusals
-opening_key-ready-requires c = search rules
-
-pub number-requires : goal.number-requires
-unfolding vector_refusals
-number-requires c = search rules
-
-pub returns-then-number-ne0 : goal.returns-then-number-ne0
-unfolding vector_refusals
-returns-then-number-ne0 c =
-    vector-key_refused _ _ _ _ _ _ _ _ c.if-vector-ne-VECTOR_OCTETS.false c.opening_key-ready.ensures (not_done c.opening_key-ready.result.answer c.number.ensures c.if-number-ne0.true)
-
-pub is_zero_for-requires : goal.is_zero_for-requires
-unfolding vector_refusals
-is_zero_for-requires c = search rules
-
-pub refused-requires-then-is_zero_for : goal.refused-requires-then-is_zero_for
-unfolding vector_refusals
-refused-requires-then-is_zero_for c = search rules
+pub returns-in_err-key : goal.returns-in_err-key
+returns-in_err-key c =
+    let p = err_from_is_err_and c.from_residual.result c.from_residual.ensures.1 in
+    let o = opening_key_of c.args.ranged c.args.bad c.args.busy c.args.cipher c.args.id c.args.book.now in
+    let w = is_refused o c.opening_key.ensures c.in_err-key.was in
+    rw (p.1, p.2)
+    (refused w.1
+    (ap (λ (a : Answer). (a, o.1)) (sym w.0) ∙ vector-key_refused _ _ _ _ _ _ _ _ c.if-vector-ne-VECTOR_OCTETS.false refl (ap is_done w.0 ∙ w.1)))
 
 pub returns-then-is_zero_for : goal.returns-then-is_zero_for
-unfolding vector_refusals
 returns-then-is_zero_for c =
-    rw (c.refused-then-is_zero_for.ensures.0, c.refused-then-is_zero_for.ensures.1) (vector-zero _ _ _ _ _ _ _ _ c.if-vector-ne-VECTOR_OCTETS.false (key-none _ _ _ _ _ _ c.opening_key-ready.ensures (is_done_lem c.opening_key-ready.result.answer c.number.ensures c.if-number-ne0.false)) c.if-sends.true (sym c.is_zero_for.ensures ∙ c.if-is_zero_for.true))
+    let e = is_returned (opening_key_of c.args.ranged c.args.bad c.args.busy c.args.cipher c.args.id c.args.book.now) c.opening_key.ensures c.in_ok-key.was in
+    refused refl
+    (vector-zero _ _ _ _ _ _ _ _ c.if-vector-ne-VECTOR_OCTETS.false (key-none _ _ _ _ _ _ (sym e) refl) c.if-sends.true (sym c.is_zero_for.ensures ∙ c.if-is_zero_for.true))
 
 pub returns : goal.returns
-unfolding vector_refusals
 returns c =
-    vector-ready _ _ _ _ _ _ _ _ c.if-vector-ne-VECTOR_OCTETS.false c.opening_key-ready.ensures (key-none _ _ _ _ _ _ c.opening_key-ready.ensures (is_done_lem c.opening_key-ready.result.answer c.number.ensures c.if-number-ne0.false)) (elim c.else-sends.branch [ else-sends-via-then-sends+else-is_zero_for w ↦ some_taken _ _ _ (sym w.is_zero_for.ensures ∙ w.if-is_zero_for.false) | else-sends-via-else-sends w ↦ heard-taken _ _ _ w.if-sends.false ])
+    let e = is_returned (opening_key_of c.args.ranged c.args.bad c.args.busy c.args.cipher c.args.id c.args.book.now) c.opening_key.ensures c.in_ok-key.was in
+    returned
+    (vector-ready _ _ _ _ _ _ _ _ c.if-vector-ne-VECTOR_OCTETS.false (sym e) (key-none _ _ _ _ _ _ (sym e) refl)
+    (elim c.else-sends.branch [ else-sends-via-then-sends+else-is_zero_for w ↦ some_taken _ _ _ (sym w.is_zero_for.ensures ∙ w.if-is_zero_for.false) | else-sends-via-else-sends w ↦ heard-taken _ _ _ w.if-sends.false ]))

@@ -1,5 +1,4 @@
 -- `report::added` meets its contract.
-use mathlib.Core.Path.{refl}
 use native.Mathlib.Omega.{arith}
 use Rattle.report.specs.Report.{opened, held}
 use Rattle.report.proofs.SumLaws.{count_most, at_most, figured}
@@ -11,4 +10,4 @@ overflow_add-result c =
     omega (arith, c.sum_at-opened.ensures, c.sum_at-held.ensures, most opened, most held)
 
 pub returns : goal.returns
-returns c = (refl, figured _ c.sum_at-opened.ensures c.sum_at-held.ensures c.sum_at-replaced.ensures c.sum_at-lost.ensures)
+returns c = figured _ c.sum_at-opened.ensures c.sum_at-held.ensures c.sum_at-replaced.ensures c.sum_at-lost.ensures

@@ -5,4 +5,4 @@ use Rattle.scramble.proofs.key_number.Goals as goal
 
 pub returns : goal.returns
 unfolding key_number
-returns c = omega arith
+returns c = omega (arith, c.from_be_bytes.ensures)

@@ -9,17 +9,14 @@ use Rattle.scramble.specs.Held.{moved}
 use Rattle.scramble.proofs.MovedBits.{iterate_lt}
 use Rattle.scramble.proofs.octets_later.Goals as goal
 
-pub loop-i-init : goal.loop-i-init
+pub loop-init : goal.loop-init
 unfolding iterate
-loop-i-init c = (search rules, refl)
+loop-init c = refl
 
-pub later-b-requires : goal.later-b-requires
-later-b-requires c = (rw c.loop-i.invariant.1 (iterate_lt (8 * c.loop-i.i) _ (search rules)), omega arith)
+pub later-moved-requires : goal.later-moved-requires
+later-moved-requires c = (rw c.loop.invariant (iterate_lt (8 * c.loop.counter) _ (search rules)), omega arith)
 
-pub loop-i-preserved : goal.loop-i-preserved
-loop-i-preserved c =
-    let z : 8 + 8 * c.loop-i.i ≡ 8 * (c.loop-i.i + 1) = omega arith in
-    (search rules, c.later-b.ensures ∙ ap (iterate moved 8) c.loop-i.invariant.1 ∙ iterate_add moved 8 (8 * c.loop-i.i) _ ∙ ap (λ (k : ℕ). iterate moved k c.args.bits) z)
-
-pub returns : goal.returns
-returns c = let z : c.loop-i.i ≡ c.args.n = omega arith in rw z at c.loop-i.invariant.1
+pub loop-preserved : goal.loop-preserved
+loop-preserved c =
+    let z : 8 + 8 * c.loop.counter ≡ 8 * (c.loop.counter + 1) = omega arith in
+    (c.later-moved.ensures ∙ ap (iterate moved 8) c.loop.invariant ∙ iterate_add moved 8 (8 * c.loop.counter) _ ∙ ap (λ (k : ℕ). iterate moved k c.args.bits) z)

@@ -1,12 +1,9 @@
 -- `scramble::octets_later` meets its contract.
 use mathlib.Core.Path.{◌≡◌}
-use Prim.Native.Nat.{◌-◌, ◌*◌, ◌≤◌}
+use Prim.Native.Nat.{◌*◌}
 use Rattle.octets.specs.Lists.{iterate}
 use Rattle.scramble.specs.Held.{moved}
 use Rattle.scramble.proofs.octets_later.Given as goal
 
-abbrev pub invariant-loop-i : goal.invariant-loop-i
-invariant-loop-i l = (l.i ≤ l.n) × (l.b ≡ iterate moved (8 * l.i) l.bits)
-
-abbrev pub decreases-loop-i : goal.decreases-loop-i
-decreases-loop-i l = l.n - l.i
+abbrev pub invariant-loop : goal.invariant-loop
+invariant-loop l = l.moved ≡ iterate moved (8 * l.counter) l.bits

@@ -6,31 +6,28 @@ use borrow.Author.Rules.{rules}
 use lib.ListN.{length, length-set}
 use Rattle.octets.specs.Lists.{iterate}
 use Rattle.octets.proofs.BitLaws.{length-octets_from}
-use Rattle.octets.proofs.Front.{front_start, front_more, front_done}
+use Rattle.octets.proofs.Front.{front_start, front_more}
 use Rattle.scramble.specs.Held.{held, moved}
 use Rattle.scramble.proofs.HeldBits.{held_lt, held-octet}
 use Rattle.scramble.proofs.MovedBits.{held_moved}
 use Rattle.scramble.proofs.write.Goals as goal
 
-pub loop-i-init : goal.loop-i-init
-loop-i-init c =
+pub loop-octet-init : goal.loop-octet-init
+loop-octet-init c =
     let z : c.args.from ≡ c.args.from + 8 * 0 = omega arith in
     (refl, c.bits_at-bits.ensures ∙ ap (held c.args.key.now) z, front_start _ _ (sym (length-octets_from _ _)))
 
-pub overflow_cast-out : goal.overflow_cast-out
-overflow_cast-out c = omega (arith, held_lt c.args.key.now (c.args.from + 8 * c.loop-i.i))
+pub overflow_cast-octet : goal.overflow_cast-octet
+overflow_cast-octet c = omega (arith, held_lt c.args.key.now (c.args.from + 8 * c.loop-octet.octet-index))
 
 pub later-bits-requires : goal.later-bits-requires
-later-bits-requires c = (rw c.loop-i.invariant.1 (held_lt _ _), omega arith)
+later-bits-requires c = (rw c.loop-octet.invariant.1 (held_lt _ _), omega arith)
 
-pub loop-i-preserved : goal.loop-i-preserved
-loop-i-preserved c =
-    let next : c.args.from + 8 * c.loop-i.i + 8 ≡ c.args.from + 8 * (c.loop-i.i + 1) = omega arith in
-    let inside : c.loop-i.i < length c.args.out.now = search rules in (
-      simp length-set c.loop-i.invariant.0,
-      c.later-bits.ensures ∙ ap (iterate moved 8) c.loop-i.invariant.1 ∙ held_moved c.args.key.now (c.args.from + 8 * c.loop-i.i) 8 ∙ ap (held c.args.key.now) next,
-      front_more _ _ _ _ _ c.loop-i.invariant.2 (simp length-octets_from inside) (held-octet c.args.key.now _ c.args.from _ _ inside c.loop-i.invariant.1),
+pub loop-octet-preserved : goal.loop-octet-preserved
+loop-octet-preserved c =
+    let next : c.args.from + 8 * c.loop-octet.octet-index + 8 ≡ c.args.from + 8 * (c.loop-octet.octet-index + 1) = omega arith in
+    let inside : c.loop-octet.octet-index < length c.args.out.now = search rules in (
+      simp length-set c.loop-octet.invariant.0,
+      c.later-bits.ensures ∙ ap (iterate moved 8) c.loop-octet.invariant.1 ∙ held_moved c.args.key.now (c.args.from + 8 * c.loop-octet.octet-index) 8 ∙ ap (held c.args.key.now) next,
+      front_more _ _ _ _ _ c.loop-octet.invariant.2 (simp length-octets_from inside) (held-octet c.args.key.now _ c.args.from _ _ inside c.loop-octet.invariant.1),
     )
-
-pub returns : goal.returns
-returns c = front_done _ _ _ _ c.loop-i.invariant.2 (simp length-octets_from (search rules))

@@ -1,12 +1,6 @@
 -- `timed::timed_session_slots` is safe and ends.
-use mathlib.Core.Path.{◌≡◌}
-use Prim.Native.Nat.{◌-◌, ◌≤◌}
-use lib.ListN.{length}
 use Rattle.sessions.specs.Session.{Cached}
 use Rattle.timed.proofs.timed_session_slots.Given as goal
 
-abbrev pub invariant-loop-i : goal.invariant-loop-i
-invariant-loop-i l = (l.i ≤ l.n) × (length l.frame ≡ length l.initial.frame) × Cached l.made l.call l.session × (length l.session ≡ 288)
-
-abbrev pub decreases-loop-i : goal.decreases-loop-i
-decreases-loop-i l = l.n - l.i
+abbrev pub invariant-loop : goal.invariant-loop
+invariant-loop l = Cached l.session.made l.call l.session.octets.now

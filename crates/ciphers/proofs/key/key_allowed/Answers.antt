@@ -5,14 +5,6 @@ use Rattle.ciphers.specs.Keys.{key_allowed}
 use Rattle.sizes.proofs.Cases.{of_scramble, of_des, of_aes, of_none}
 use Rattle.ciphers.proofs.key.key_allowed.Goals as goal
 
-pub scramble_key-requires : goal.scramble_key-requires
-unfolding key_allowed
-scramble_key-requires c = search rules
-
-pub des_key-requires : goal.des_key-requires
-unfolding key_allowed
-des_key-requires c = search rules
-
 pub returns-in-1 : goal.returns-in-1
 unfolding key_allowed
 returns-in-1 c = c.scramble_key.ensures ∙ of_scramble _ _ _ _ _ c.in-1.is
@@ -27,4 +19,4 @@ returns-in-3 c = of_aes _ _ _ _ _ c.in-3.is
 
 pub returns-in_default : goal.returns-in_default
 unfolding key_allowed
-returns-in_default c = of_none _ _ _ _ _ c.in_default.in_default-own.rest.0.0.1 c.in_default.in_default-own.rest.0.1 c.in_default.in_default-own.rest.1
+returns-in_default c = of_none c.args.cipher _ _ _ _ (search rules) (search rules) (search rules)

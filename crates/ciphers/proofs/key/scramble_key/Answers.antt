@@ -1,12 +1,10 @@
 -- `ciphers::key::scramble_key` meets its contract.
-use Rattle.ciphers.proofs.KeyLaws.{scramble_top, scramble_high, scramble_low}
+use borrow.Author.Rules.{rules}
+use Rattle.ciphers.proofs.KeyLaws.{scramble-none, scramble-some}
 use Rattle.ciphers.proofs.key.scramble_key.Goals as goal
 
-pub returns-then-key-ge128 : goal.returns-then-key-ge128
-returns-then-key-ge128 c = scramble_top _ c.if-key-ge128.true
+pub returns-then-number-gt0 : goal.returns-then-number-gt0
+returns-then-number-gt0 c = scramble-some c.args.key.now _ c.from_be_bytes-number.ensures (search rules) c.if-number-gt0.true
 
-pub returns-then-key-ne0 : goal.returns-then-key-ne0
-returns-then-key-ne0 c = scramble_high _ c.if-key-ge128.false c.if-key-ne0.true
-
-pub returns : goal.returns
-returns c = scramble_low _ c.if-key-ge128.false c.if-key-ne0.false
+pub returns-else-number-gt0 : goal.returns-else-number-gt0
+returns-else-number-gt0 c = scramble-none c.args.key.now _ c.from_be_bytes-number.ensures (search rules) c.if-number-gt0.false

@@ -1,6 +1,5 @@
 -- `data::message::turn_message` meets its contract.
 use mathlib.Core.Path.{refl, sym}
-use native.Mathlib.Nat.{le_of_lt}
 use native.Mathlib.Omega.{arith}
 use lib.ListN.{replicate}
 use lib.Seq.{length-take-le}
@@ -11,7 +10,7 @@ use Rattle.data.proofs.message.turn_message.Goals as goal
 
 pub overflow_mul-part : goal.overflow_mul-part
 overflow_mul-part c =
-    omega (arith, place-fits _ _ (part_most _ (open_kind _ c.requires.0) c.protected_octets-part.ensures) (le_of_lt c.requires.1))
+    omega (arith, place-fits _ c.from-count.result (part_most _ (open_kind _ c.requires.0) c.protected_octets-part.ensures) (omega arith))
 
 pub slice_bounds-stream-end : goal.slice_bounds-stream-end
 slice_bounds-stream-end c = part_most _ (open_kind _ c.requires.0) c.protected_octets-part.ensures
@@ -22,7 +21,7 @@ slice_bounds-keystream-end c = sym (length-take-le _ _ (part_most _ (open_kind _
 pub keystream-requires : goal.keystream-requires
 keystream-requires c =
     let r = key_ranged _ _ (open_key _ c.requires.0) in
-    (r.0, r.1, omega (arith, place-fits _ _ (part_most _ (open_kind _ c.requires.0) c.protected_octets-part.ensures) (le_of_lt c.requires.1)))
+    (r.0, r.1, omega (arith, place-fits _ c.from-count.result (part_most _ (open_kind _ c.requires.0) c.protected_octets-part.ensures) (omega arith)))
 
 pub slice_bounds-turn_by-end : goal.slice_bounds-turn_by-end
 slice_bounds-turn_by-end c =
@@ -35,4 +34,4 @@ turn_by-requires c =
 
 pub returns : goal.returns
 returns c =
-    by_own c.args.packet _ _ _ _ (replicate 20 0) _ c.protected_octets-part.ensures refl (part_most _ (open_kind _ c.requires.0) c.protected_octets-part.ensures) c.keystream.ensures c.turn_by.ensures
+    by_own c.args.packet _ _ _ _ (replicate 20 0) _ c.protected_octets-part.ensures refl (part_most _ (open_kind _ c.requires.0) c.protected_octets-part.ensures) (rw c.from-count.ensures at c.keystream.ensures) c.turn_by.ensures

@@ -3,6 +3,4 @@ use Rattle.held.proofs.PacketLaws.{reads}
 use Rattle.held.proofs.packet.read.Goals as goal
 
 pub returns : goal.returns
-returns c =
-    reads _ c.copy.ensures c.copy-2.ensures
-    c.two_at.ensures
+returns c = reads _ c.copy_from_slice.ensures.after c.copy_from_slice-2.ensures.after c.two_at.ensures

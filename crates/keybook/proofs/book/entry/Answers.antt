@@ -1,7 +1,7 @@
 -- `book::entry` meets its contract.
-use borrow.Author.Rules.{rules}
-use Rattle.keybook.proofs.BookLaws.{entry_lent, lent_length}
+use mathlib.Core.Path.{◌∙◌}
+use Rattle.keybook.proofs.BookLaws.{entry_lent}
 use Rattle.keybook.proofs.book.entry.Goals as goal
 
 pub returns : goal.returns
-returns c = (entry_lent _ _, lent_length c.args.book.now c.args.k (search rules) (search rules))
+returns c = (rw c.unwrap.ensures at c.as_array.ensures.cases).same ∙ entry_lent _ _

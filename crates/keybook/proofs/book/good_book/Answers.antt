@@ -3,30 +3,25 @@ use mathlib.Core.Path.{sym, ◌∙◌}
 use borrow.Author.Rules.{rules}
 use Rattle.octets.proofs.TestLaws.{all_none, all_more}
 use Rattle.keyentry.specs.Entry.{entry_right}
-use Rattle.keybook.proofs.BookLaws.{of_entry, right-not, right_shared, right_both, good_length, good_fails, good-all}
+use Rattle.keybook.proofs.BookLaws.{of_entry, right-not, right_shared, right_both, good_fails, good-all}
 use Rattle.keybook.proofs.book.good_book.Goals as goal
 
-pub returns-then-book-ne-BOOK_OCTETS : goal.returns-then-book-ne-BOOK_OCTETS
-returns-then-book-ne-BOOK_OCTETS c = good_length _ (search rules)
-
 pub loop-k-init : goal.loop-k-init
-loop-k-init c = (search rules, all_none _)
+loop-k-init c = all_none _
 
 pub returns-then-not-entry_right : goal.returns-then-not-entry_right
 returns-then-not-entry_right c =
-    good_fails _ (search rules) c.loop-k.k (search rules)
-    (right-not _ _ (of_entry entry_right c.entry.ensures.0 c.entry_right.ensures (c.if-not-entry_right.true)))
+    good_fails _ c.told-book c.loop-k.k (search rules)
+    (right-not _ _ (of_entry entry_right c.entry.ensures c.entry_right.ensures (c.if-not-entry_right.true)))
 
 pub returns-then-not-is_apart : goal.returns-then-not-is_apart
 returns-then-not-is_apart c =
-    good_fails _ (search rules) c.loop-k.k (search rules) (right_shared _ _ (sym c.is_apart.ensures ∙ c.if-not-is_apart.true))
+    good_fails _ c.told-book c.loop-k.k (search rules) (right_shared _ _ (sym c.is_apart.ensures ∙ c.if-not-is_apart.true))
 
 pub loop-k-preserved : goal.loop-k-preserved
-loop-k-preserved c = (
-  search rules,
-  all_more _ _ c.loop-k.invariant.1
-      (right_both _ _ (of_entry entry_right c.entry.ensures.0 c.entry_right.ensures (c.if-not-entry_right.false)) (sym c.is_apart.ensures ∙ c.if-not-is_apart.false)),
-)
+loop-k-preserved c =
+    all_more _ _ c.loop-k.invariant
+    (right_both _ _ (of_entry entry_right c.entry.ensures c.entry_right.ensures (c.if-not-entry_right.false)) (sym c.is_apart.ensures ∙ c.if-not-is_apart.false))
 
 pub returns : goal.returns
-returns c = good-all _ (search rules) c.loop-k.invariant.0 (search rules) c.loop-k.invariant.1
+returns c = good-all _ c.told-book (search rules) (search rules) c.loop-k.invariant

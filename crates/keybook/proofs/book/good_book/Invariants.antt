@@ -1,14 +1,9 @@
 -- `book::good_book` meets its contract.
 use mathlib.Core.Path.{◌≡◌}
 use mathlib.Core.Bool.{true}
-use Prim.Native.Nat.{◌-◌, ◌≤◌}
 use Rattle.octets.specs.Tests.{all_below}
-use Rattle.keybook.specs.Book.{entries}
 use Rattle.keybook.proofs.BookLaws.{right_at}
 use Rattle.keybook.proofs.book.good_book.Given as goal
 
 abbrev pub invariant-loop-k : goal.invariant-loop-k
-invariant-loop-k l = (l.k ≤ entries) × (all_below (right_at l.book) l.k ≡ true)
-
-abbrev pub decreases-loop-k : goal.decreases-loop-k
-decreases-loop-k l = entries - l.k
+invariant-loop-k l = all_below (right_at l.book) l.k ≡ true

@@ -1,21 +1,13 @@
 -- `nxdn::book::nxdn_add` meets its contract.
-use borrow.Author.Rules.{rules}
+use mathlib.Core.Path.{ap, ◌∙◌}
+use Rattle.answers.specs.declared.Answer.{Answer}
+use Rattle.answers.proofs.ResultLaws.{told_with}
 use Rattle.keybook.specs.History.{Add, step}
 use Rattle.nxdn.proofs.InterfaceLaws.{booked}
 use Rattle.nxdn.proofs.book.nxdn_add.Goals as goal
 
-pub add-answer-requires : goal.add-answer-requires
-unfolding step
-add-answer-requires c = search rules
-
-pub number-requires : goal.number-requires
-unfolding step
-number-requires c = search rules
-
-pub shape_of-book : goal.shape_of-book
-unfolding step
-shape_of-book c = search rules
-
 pub returns : goal.returns
 unfolding step
-returns c = booked (Add _ _ _) _ c.add-answer.ensures c.number.ensures
+returns c =
+    let o = step (Add c.args.cipher c.args.id c.args.octets.now) c.args.book.now in
+    booked (Add _ _ _) _ (ap (λ (a : Answer). (a, c.add.new.book)) c.from.ensures ∙ told_with o c.add.ensures) c.number.ensures

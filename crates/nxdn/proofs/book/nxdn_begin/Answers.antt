@@ -1,21 +1,13 @@
 -- `nxdn::book::nxdn_begin` meets its contract.
-use borrow.Author.Rules.{rules}
+use mathlib.Core.Path.{ap, ◌∙◌}
+use Rattle.answers.specs.declared.Answer.{Answer}
+use Rattle.answers.proofs.ResultLaws.{told_with}
 use Rattle.keybook.specs.History.{Begin, step}
 use Rattle.nxdn.proofs.InterfaceLaws.{booked}
 use Rattle.nxdn.proofs.book.nxdn_begin.Goals as goal
 
-pub begin-answer-requires : goal.begin-answer-requires
-unfolding step
-begin-answer-requires c = search rules
-
-pub number-requires : goal.number-requires
-unfolding step
-number-requires c = search rules
-
-pub shape_of-book : goal.shape_of-book
-unfolding step
-shape_of-book c = search rules
-
 pub returns : goal.returns
 unfolding step
-returns c = booked (Begin _ _ _) _ c.begin-answer.ensures c.number.ensures
+returns c =
+    let o = step (Begin c.args.cipher c.args.id c.args.name.now) c.args.book.now in
+    booked (Begin _ _ _) _ (ap (λ (a : Answer). (a, c.begin.new.book)) c.from.ensures ∙ told_with o c.begin.ensures) c.number.ensures

@@ -1,33 +1,13 @@
 -- `nxdn::packet::nxdn_packet_lost` meets its contract.
-use mathlib.Core.Path.{ap}
+use mathlib.Core.Path.{refl}
 use mathlib.Core.List.{[]}
-use Rattle.nxdn.specs.Operations.{with_none, LostMessage, packet_step}
-use Rattle.nxdn.proofs.LentLaws.{out_none}
+use Rattle.nxdn.specs.Operations.{LostMessage, packet_step}
 use Rattle.nxdn.proofs.CallLaws.{packet_short, packet-kept}
-use borrow.Author.Rules.{rules}
 use Rattle.nxdn.proofs.packet.nxdn_packet_lost.Goals as goal
 
-pub returns-then-packet-ne-PACKET_OCTETS : goal.returns-then-packet-ne-PACKET_OCTETS
-unfolding packet_step
-returns-then-packet-ne-PACKET_OCTETS c = packet_short _ LostMessage _ [] c.if-packet-ne-PACKET_OCTETS.true
-
-pub read-requires : goal.read-requires
-unfolding packet_step
-read-requires c = search rules
-
-pub lost-taken-requires : goal.lost-taken-requires
-unfolding packet_step
-lost-taken-requires c = search rules
-
-pub keep_packet-requires : goal.keep_packet-requires
-unfolding packet_step
-keep_packet-requires c = search rules
-
-pub shape_of-packet : goal.shape_of-packet
-unfolding packet_step
-shape_of-packet c = search rules
+pub returns-in_default : goal.returns-in_default
+returns-in_default c = packet_short _ LostMessage _ [] c.in_default.ensures
 
 pub returns : goal.returns
 unfolding packet_step
-returns c =
-    packet-kept _ LostMessage _ [] c.if-packet-ne-PACKET_OCTETS.false c.read.ensures (ap with_none c.lost-taken.ensures) c.keep_packet.ensures (out_none _)
+returns c = packet-kept _ LostMessage _ c.in-Some.ensures.0 c.in-Some.ensures.1 c.lost.ensures refl c.keep_packet.ensures

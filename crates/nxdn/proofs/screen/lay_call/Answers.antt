@@ -2,12 +2,13 @@
 use mathlib.Core.Path.{ap, ◌∙◌}
 use mathlib.Core.Bool.{Bool}
 use Rattle.octets.specs.Tests.{pick}
-use Rattle.nxdn.proofs.InterfaceLaws.{call_laid}
+use Rattle.nxdn.proofs.InterfaceLaws.{flag_is, call_laid}
 use Rattle.nxdn.proofs.screen.lay_call.Goals as goal
 
 pub returns : goal.returns
 returns c =
     call_laid _
-    (c.flag.ensures
+    (c.from.ensures
+    ∙ flag_is _
     ∙ ap (λ (b : Bool). pick b 1 0) c.turns_now.ensures)
-    c.copy.ensures
+    c.copy_from_slice.ensures.after

@@ -1,10 +1,14 @@
 -- `records::output::put_frame` meets its contract.
+use mathlib.Core.Path.{sym, ◌∙◌}
+use mathlib.Core.Bool.{true≢false}
 use native.Mathlib.Omega.{arith}
+use borrow.Author.Tests.{eqb-true, eq-eqb}
 use Rattle.records.proofs.OutputLaws.{laid_as, shown-none, shown_frame}
 use Rattle.records.proofs.output.put_frame.Goals as goal
 
-pub returns-then-frame-eq0 : goal.returns-then-frame-eq0
-returns-then-frame-eq0 c = laid_as c.put.ensures (shown-none c.args.frame.now c.if-frame-eq0.true) (omega arith)
+pub returns-then-is_empty : goal.returns-then-is_empty
+returns-then-is_empty c = laid_as c.put.ensures (shown-none c.args.frame.now (eqb-true _ _ (sym c.is_empty.ensures ∙ c.if-is_empty.true))) (omega arith)
 
 pub returns : goal.returns
-returns c = laid_as c.put_octets.ensures (shown_frame _ c.if-frame-eq0.false) (omega arith)
+returns c =
+    laid_as c.put_octets.ensures (shown_frame _ (λ e. true≢false (sym (eq-eqb _ _ e) ∙ sym c.is_empty.ensures ∙ c.if-is_empty.false))) (omega arith)

@@ -6,10 +6,10 @@ use borrow.Author.Rules.{rules}
 use Rattle.records.proofs.output.put_number.Goals as goal
 
 pub put_decimal-requires : goal.put_decimal-requires
-put_decimal-requires c = omega (arith, decimal_size 2 c.args.n (omega arith))
+put_decimal-requires c = rw c.from.ensures (omega (arith, decimal_size 2 c.args.n (omega arith)))
 
 pub overflow_add-result : goal.overflow_add-result
-overflow_add-result c = omega (arith, c.put_decimal.ensures.0, decimal_size 2 c.args.n (omega arith))
+overflow_add-result c = omega (arith, rw c.from.ensures at c.put_decimal.ensures.0, decimal_size 2 c.args.n (omega arith))
 
 pub returns : goal.returns
-returns c = laid-number _ _ _ _ _ (omega arith) (search rules) c.put_decimal.ensures.0 c.put_decimal.ensures.1
+returns c = laid-number _ _ _ _ _ (omega arith) (search rules) (rw c.from.ensures at c.put_decimal.ensures.0) (rw c.from.ensures at c.put_decimal.ensures.1)

@@ -7,12 +7,12 @@ use borrow.Author.Rules.{rules}
 use Rattle.records.proofs.respond.respond.Goals as goal
 
 pub slice_bounds-put_answer-end : goal.slice_bounds-put_answer-end
-slice_bounds-put_answer-end c = sym (length-take-le _ c.step-stepped.new.octets (omega (arith, c.step-stepped.ensures.cached.0)))
+slice_bounds-put_answer-end c = sym (length-take-le _ c.step-done.new.octets (omega (arith, c.step-done.ensures.cached.0)))
 
 pub put_answer-length-requires : goal.put_answer-length-requires
 put_answer-length-requires c =
-    (search rules, rw (length-take-le c.step-stepped.result.shown c.step-stepped.new.octets (omega (arith, c.step-stepped.ensures.cached.0))) c.step-stepped.ensures.cached.0)
+    (search rules, rw (length-take-le c.step-done.result.shown c.step-done.new.octets (omega (arith, c.step-done.ensures.cached.0))) c.step-done.ensures.cached.0)
 
 pub returns : goal.returns
 returns c =
-    record { responded = responded _ _ _ c.read-parsed.ensures.line c.step-stepped.ensures.effect c.put_answer-length.ensures; cached = c.step-stepped.ensures.cached.1 }
+    record { responded = responded _ _ _ c.read-parsed.ensures.line c.step-done.ensures.effect c.put_answer-length.ensures; cached = c.step-done.ensures.cached.1 }

@@ -1,7 +1,5 @@
 -- `text::hex::read_digits` meets its contract.
 use mathlib.Core.Path.{◌≡◌}
-use Prim.Native.Nat.{◌-◌, ◌≤◌}
-use lib.Dec.{ltb}
 use lib.ListN.{length, get_or}
 use Rattle.octets.specs.Tests.{all_below}
 use Rattle.octets.specs.Lists.{tab}
@@ -11,7 +9,4 @@ use Rattle.text.proofs.HexLaws.{digit_at}
 use Rattle.text.proofs.hex.read_digits.Given as goal
 
 abbrev pub invariant-loop-i : goal.invariant-loop-i
-invariant-loop-i l = (l.i ≤ length l.field) × (length l.values ≡ length l.field) × (ltb l.bits 16 ≡ all_below (digit_at l.field) l.i) × Front (tab (λ k. hex_value (get_or l.field k 0)) (length l.field)) l.initial.values l.values l.i
-
-abbrev pub decreases-loop-i : goal.decreases-loop-i
-decreases-loop-i l = length l.field - l.i
+invariant-loop-i l = (l.all ≡ all_below (digit_at l.field) l.i) × Front (tab (λ k. hex_value (get_or l.field k 0)) (length l.field)) l.initial.values l.values l.i

@@ -1,23 +1,20 @@
 -- `text::part::part_end` meets its contract.
+use lib.Dec.{eqb}
 use borrow.Author.Rules.{rules}
-use Rattle.text.proofs.PartedLaws.{passed_start, passed_on, passed_more, passed_stop, passed_all}
+use borrow.Author.Tests.{tests}
+use Rattle.std.proofs.lemmas.Iterator.{YieldsList-from_slice}
+use Rattle.std.proofs.lemmas.Iterator.Search.{position_from_yields_List}
+use Rattle.text.proofs.PartedLaws.{passed_strides, passed_found, passed_none}
 use Rattle.text.proofs.part.part_end.Goals as goal
 
-pub stride-near-requires : goal.stride-near-requires
-stride-near-requires c = (search rules, search rules)
+pub returns-in-Some : goal.returns-in-Some
+returns-in-Some c =
+    passed_found _ c.args.text.now _ (search rules) _ (passed_strides _ _ _ (search rules) _ _ c.stride-near.ensures c.stride-end.ensures) _
+    (position_from_yields_List (λ x. eqb x c.args.separator) _ _ c.position.result c.position.ensures.ran (YieldsList-from_slice _ c.iter.ensures.rest) (λ x b q k. search (rules, tests)))
+    _ c.in-Some.is
 
-pub stride-end-requires : goal.stride-end-requires
-stride-end-requires c = (search rules, search rules)
-
-pub loop-end-init : goal.loop-end-init
-loop-end-init c =
-    passed_on _ _ _ (search rules) _ _ (passed_on _ _ _ (search rules) _ _ (passed_start _ _ _ (search rules)) c.stride-near.ensures.0 c.stride-near.ensures.1 c.stride-near.ensures.2) c.stride-end.ensures.0 c.stride-end.ensures.1 c.stride-end.ensures.2
-
-pub returns-then-text-end : goal.returns-then-text-end
-returns-then-text-end c = (passed_stop _ _ _ (search rules) _ (search rules) (search rules) (search rules), search rules, search rules)
-
-pub loop-end-preserved : goal.loop-end-preserved
-loop-end-preserved c = passed_more _ _ _ (search rules) _ (search rules) (search rules) (search rules)
-
-pub returns : goal.returns
-returns c = (passed_all _ _ _ (search rules) _ (search rules) (search rules), search rules, search rules)
+pub returns-in-None : goal.returns-in-None
+returns-in-None c =
+    passed_none _ c.args.text.now _ (search rules) _ (passed_strides _ _ _ (search rules) _ _ c.stride-near.ensures c.stride-end.ensures) _
+    (position_from_yields_List (λ x. eqb x c.args.separator) _ _ c.position.result c.position.ensures.ran (YieldsList-from_slice _ c.iter.ensures.rest) (λ x b q k. search (rules, tests)))
+    c.in-None.is

@@ -9,8 +9,8 @@ place-fits : (part count : ℕ) → part ≤ 20 → count ≤ 65535 → part * c
 place-fits part count p n = mul-le-mul p n
 
 pub overflow_mul-from : goal.overflow_mul-from
-overflow_mul-from c = omega (arith, place-fits c.protected_octets-part.result c.args.packet.count (omega arith) (omega arith))
+overflow_mul-from c = omega (arith, place-fits c.protected_octets-part.result c.from.result (omega arith) (omega (arith, c.from.ensures)))
 
 pub keystream-requires : goal.keystream-requires
 keystream-requires c =
-    (search rules, search rules, omega (arith, place-fits c.protected_octets-part.result c.args.packet.count (omega arith) (omega arith)))
+    (search rules, search rules, omega (arith, place-fits c.protected_octets-part.result c.from.result (omega arith) (omega (arith, c.from.ensures))))

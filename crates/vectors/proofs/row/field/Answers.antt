@@ -1,19 +1,19 @@
 -- `vectors::row::field` meets its contract.
-use borrow.Author.Rules.{rules}
-use Rattle.vectors.proofs.RowLaws.{walk_start, walk_more, walk_none, walk_done}
+use mathlib.Core.Path.{ap, ◌∙◌}
+use mathlib.Core.List.{List}
+use Prim.Native.Nat.{ℕ}
+use lib.ListN.{length}
+use lib.Seq.{drop-length}
+use Rattle.std.specs.Borrow.{Bor}
+use Rattle.text.specs.Fields.{field_at}
+use Rattle.text.proofs.PartedLaws.{rest_whole}
+use Rattle.text.proofs.FieldLaws.{nth_field}
+use Rattle.vectors.specs.Row.{field_of}
 use Rattle.vectors.proofs.row.field.Goals as goal
 
-pub loop-k-init : goal.loop-k-init
-loop-k-init c = walk_start _ _
-
-pub part_end-at-requires : goal.part_end-at-requires
-part_end-at-requires c = c.loop-k.invariant.inside
-
-pub returns-then-at-row : goal.returns-then-at-row
-returns-then-at-row c = walk_none _ _ _ _ _ c.loop-k.invariant (search rules) (search rules) (search rules)
-
-pub loop-k-preserved : goal.loop-k-preserved
-loop-k-preserved c = walk_more _ _ _ _ _ c.loop-k.invariant (search rules) (search rules) (search rules)
-
 pub returns : goal.returns
-returns c = walk_done _ _ _ _ _ c.loop-k.invariant (search rules) (search rules)
+unfolding field_of
+returns c =
+    ap (λ (b : Bor (List ℕ)). b.now) c.unwrap_or.ensures
+    ∙ nth_field _ _ _ _ _ (rest_whole c.args.row.now (length c.args.row.now) ∙ drop-length c.args.row.now) c.nth.ensures.ran
+    ∙ ap (λ (fs : List (List ℕ)). field_at fs c.args.n) c.of.ensures

@@ -3,30 +3,11 @@ use mathlib.Core.Path.{ap}
 use Prim.Native.Nat.{ℕ, ◌*◌}
 use native.Mathlib.Nat.{add_assoc}
 use native.Mathlib.Omega.{arith}
-use Rattle.octets.proofs.Words.{word-ends}
 use Rattle.voice.proofs.FrameLaws.{word_out, word_in_lem}
 use Rattle.voice.proofs.frame.turn_word.Goals as goal
 
 pub returns-then-mask-w-ne1 : goal.returns-then-mask-w-ne1
 returns-then-mask-w-ne1 c = word_out _ _ _ _ _ (λ j. omega (arith, c.type_inv.frame j)) c.if-mask-w-ne1.true
-
-pub overflow_mul-a : goal.overflow_mul-a
-overflow_mul-a c = omega (arith, word-ends c.word_octets-octets.result c.args.w 4 c.requires.2)
-
-pub overflow_add-a : goal.overflow_add-a
-overflow_add-a c = omega (arith, word-ends c.word_octets-octets.result c.args.w 4 c.requires.2)
-
-pub slice_bounds-turn-end : goal.slice_bounds-turn-end
-slice_bounds-turn-end c = omega (arith, word-ends c.word_octets-octets.result c.args.w 4 c.requires.2)
-
-pub overflow_mul-width : goal.overflow_mul-width
-overflow_mul-width c = omega (arith, word-ends c.args.width c.args.w 4 c.requires.2)
-
-pub overflow_add-from : goal.overflow_add-from
-overflow_add-from c = omega (arith, word-ends c.args.width c.args.w 4 c.requires.2)
-
-pub turn-requires : goal.turn-requires
-turn-requires c = omega (arith, word-ends c.args.width c.args.w 4 c.requires.2)
 
 pub returns : goal.returns
 returns c =

@@ -10,8 +10,8 @@ sender_on-requires c = inside _ c.requires.0 c.requires.1
 pub returns-then-call-eq-SENDING : goal.returns-then-call-eq-SENDING
 returns-then-call-eq-SENDING c = c.sender_on.ensures ∙ rw (is-sender _ c.requires.0 c.if-call-eq-SENDING.true) (sent_alike _ _ _ _)
 
-pub plus-requires : goal.plus-requires
-plus-requires c =
+pub plus-counts-requires : goal.plus-counts-requires
+plus-counts-requires c =
     (below_limit _ c.requires.0 c.requires.2 (or_receiver _ c.requires.0 c.requires.1 c.if-call-eq-SENDING.false), c.requires.3)
 
 pub receiver_on-moved-requires : goal.receiver_on-moved-requires
@@ -20,4 +20,4 @@ receiver_on-moved-requires c =
 
 pub returns : goal.returns
 returns c =
-    c.moved_to.ensures ∙ c.receiver_on-moved.ensures ∙ rw (c.plus.ensures, is_receiver _ c.requires.0 (or_receiver _ c.requires.0 c.requires.1 c.if-call-eq-SENDING.false))
+    c.moved_to.ensures ∙ c.receiver_on-moved.ensures ∙ rw (c.plus-counts.ensures, is_receiver _ c.requires.0 (or_receiver _ c.requires.0 c.requires.1 c.if-call-eq-SENDING.false))

@@ -1,7 +1,0 @@
--- `aes::next_word` meets its contract.
-use borrow.Author.Rules.{rules}
-use Rattle.aes.proofs.ScheduleLaws.{next-is}
-use Rattle.aes.proofs.next_word.Goals as goal
-
-pub returns : goal.returns
-returns c = next-is _ _ _ (search rules) c.temp.ensures

@@ -1,7 +1,0 @@
--- `joineddes::block_of` meets its contract.
-use borrow.Author.Rules.{rules}
-use Rattle.joineddes.proofs.HalfLaws.{bits-block}
-use Rattle.joineddes.proofs.block_of.Goals as goal
-
-pub returns : goal.returns
-returns c = bits-block _ c.inverse.result _ (search rules) (search rules) (search rules) c.inverse.ensures
