@@ -93,7 +93,6 @@ impl Carry {
         ensures none_kept { (self.new.count ≡ 0) × (length self.new.line ≡ kept_octets) }
     {
         let count = self.count;
-        let call = self.call;
         let done = if count > 0 {
             let all = keep(&mut self.line, self.count, octets);
             respond(&self.line[..all], book, self.call, session, out)

@@ -1,6 +1,6 @@
 -- The sum over the calls: how far it can go, and the calls of two reports one after the other.
 use mathlib.Core.Path.{◌≡◌, refl, sym, ap, ap₂, ◌∙◌}
-use mathlib.Core.Bool.{Bool, true, false}
+use mathlib.Core.Bool.{Bool, true, false, ◌&&◌}
 use mathlib.Core.List.{List, [], ◌∷◌, ◌++◌}
 use Prim.Native.Nat.{ℕ, zero, suc, ◌+◌, ◌*◌, ◌%◌, ◌≤◌, ◌<◌}
 use native.Mathlib.Nat.{add-zero, add-suc, mul-zero, mul-suc}
@@ -9,11 +9,10 @@ use native.Mathlib.Decide.{dec_lt}
 use native.Mathlib.Omega.{arith}
 use lib.Dec.{leb}
 use lib.ListN.{length, get_or, length-append, replicate, length-replicate, get_or-replicate, get_or-append, get_or-eq_default}
-use lib.Seq.{get_or-append-add}
+use lib.Seq.{get_or-append-add, get_or_at}
 use borrow.Author.Tests.{leb-true, le-leb, lt-leb}
-use Rattle.octets.proofs.TestLaws.{all-at, all_intro, all_fails}
-use Rattle.std.proofs.Common.{MatchBool}
-use Rattle.std.specs.List.{HoldsAt, AllWithin}
+use Rattle.octets.specs.Tests.{all_below}
+use Rattle.octets.proofs.TestLaws.{all_none, all-step, all-at, all_alike}
 use Rattle.sizes.specs.Frame.{most_words}
 use Rattle.report.specs.Report.{per_call, opened, held, replaced, lost, calls, count_at, most_calls, counts_within, sum_below, sum_at, sums}
 
@@ -110,10 +109,21 @@ sum_alike place p n count =
 
 -- ---- as the code looks the counts over
 
-pub within_cases : (counts : List ℕ) (r : Bool)
-    → MatchBool r (AllWithin (λ x. x ≤ most_words) counts 0 (length counts)) ((k : ℕ) × (k < length counts) × HoldsAt (λ x. most_words < x) counts k)
-    → r ≡ counts_within counts
+pub within-none : counts_within [] ≡ true
 unfolding counts_within
-within_cases counts true h =
-    sym (all_intro (λ i. leb (get_or counts i 0) most_words) (length counts) (λ i l. le-leb _ _ (h i 0 (omega arith) l)))
-within_cases counts false h = sym (all_fails (λ i. leb (get_or counts i 0) most_words) (length counts) h.0 h.1 (lt-leb _ _ (h.2 0)))
+within-none = all_none (λ i. leb (get_or [] i 0) most_words)
+
+pub within_more : (counts : List ℕ) (x : ℕ) (within more : Bool) → within ≡ counts_within counts → more ≡ (within && leb x most_words)
+    → more ≡ counts_within (counts ++ (x ∷ []))
+unfolding counts_within
+within_more counts x within more e is =
+    rw (length-append counts (x ∷ []), is, all-step, get_or_at counts x [] 0 (length counts) refl, e, same)
+  where
+    f : ℕ → Bool
+    f i = leb (get_or counts i 0) most_words
+
+    g : ℕ → Bool
+    g i = leb (get_or (counts ++ (x ∷ [])) i 0) most_words
+
+    same : all_below g (length counts) ≡ all_below f (length counts)
+    same = all_alike g f (length counts) (λ i h. ap (λ (z : ℕ). leb z most_words) (get_or-append counts (x ∷ []) 0 i h))

@@ -33,10 +33,13 @@ pub struct Sums {
     pub whole: u64,
 }
 
+// All are looked at, so the compiler takes many at a time.
 fn counts_within(counts: &[u32]) -> bool
     ensures { result ≡ counts_within counts.now }
 {
-    counts.iter().all(|count| *count <= MOST_WORDS)
+    counts
+        .iter()
+        .fold(true, |within, count| within & (*count <= MOST_WORDS))
 }
 
 fn sum_at(counts: &[u32], place: usize) -> u64

@@ -1,7 +1,7 @@
 // What bench/ measures, for C to call. Blocks are enciphered in a chain, each the input of the next, so that no work can be left out.
 #![tactic(auto)]
 
-use calls::call::{Call, DEFAULT, RECEIVING, TOLD, Terms, no_call};
+use calls::call::{Call, DEFAULT, TOLD, Terms, no_call, receiver};
 use calls::counts::Counts;
 use data::kind::DCALL;
 use data::packet::Packet;
@@ -156,24 +156,13 @@ pub extern "C" fn timed_slots(
 
 // A receiver at the start of a session whose vector it was told. The key is 32 octets, its own first.
 fn receiver_of(cipher: u8, key: [u8; 32], rate: u8, vector: [u8; 8]) -> Call {
-    Call {
-        end: RECEIVING,
-        terms: Terms {
-            cipher,
-            key,
-            rate,
-            strictness: DEFAULT,
-        },
-        position: 0,
-        known: TOLD,
-        vector,
-        counts: Counts {
-            opened: 0,
-            held: 0,
-            replaced: 0,
-            lost: 0,
-        },
-    }
+    let terms = Terms {
+        cipher,
+        key,
+        rate,
+        strictness: DEFAULT,
+    };
+    receiver(terms, 0, TOLD, vector, Counts::default())
 }
 
 // n slots of all words in such a call, which rides on, each session's keystream made once.

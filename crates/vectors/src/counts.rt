@@ -1,6 +1,6 @@
 // Calls of a receiver from their opening to their end: what became of the words of their slots, and what a report makes of two such calls.
 use crate::row::{field, first_octets_of, number};
-use calls::call::{Call, RECEIVING, TOLD, Terms, UNKNOWN, end};
+use calls::call::{Call, TOLD, Terms, UNKNOWN, end, receiver};
 use calls::counts::Counts;
 use calls::vector::announce;
 use report::report;
@@ -32,21 +32,8 @@ fn go_through(call: Call, told: &[u8], frame: &mut [u8]) -> Call {
 
 // A receiver as it comes in: told a vector, or joined and without one.
 fn received(terms: Terms, joined: bool) -> Call {
-    let counts = Counts {
-        opened: 0,
-        held: 0,
-        replaced: 0,
-        lost: 0,
-    };
     let (position, known) = if joined { (4, UNKNOWN) } else { (0, TOLD) };
-    Call {
-        end: RECEIVING,
-        terms,
-        position,
-        known,
-        vector: [0; 8],
-        counts,
-    }
+    receiver(terms, position, known, [0; 8], Counts::default())
 }
 
 // Whether these are the counts of a row, and a report of two such calls has them twice.

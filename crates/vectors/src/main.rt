@@ -209,7 +209,7 @@ fn run_messages(
     )
 }
 
-// The slots under vectors of zeros hold heard and not sent, so that one end taken for the other shows.
+// The slots of each rate, sent and heard.
 fn run_slots(rt: &(impl Files + Print)) -> io::Result<()> {
     run_both(
         rt,
@@ -231,7 +231,11 @@ fn run_slots(rt: &(impl Files + Print)) -> io::Result<()> {
         "voice-slots.tsv",
         "The same, heard, the session's keystream made whole, DES by its joined tables",
         "voice-slots-one-bit-wrong.tsv",
-    )?;
+    )
+}
+
+// The slots under vectors of zeros hold heard and not sent, so that one end taken for the other shows.
+fn run_zeros(rt: &(impl Files + Print)) -> io::Result<()> {
     run(
         rt,
         |row| slots::holds(Way::Heard, row),
@@ -249,7 +253,10 @@ fn run_slots(rt: &(impl Files + Print)) -> io::Result<()> {
         |row| slots::holds(Way::Sent, row),
         "voice-slots-zeros.tsv",
         "The same, sent by ours, which goes by no such vector, where none may hold",
-    )?;
+    )
+}
+
+fn run_counts(rt: &(impl Files + Print)) -> io::Result<()> {
     run(
         rt,
         counts::holds,
@@ -264,21 +271,26 @@ fn run_slots(rt: &(impl Files + Print)) -> io::Result<()> {
     )
 }
 
-fn main(rt: HostRuntime) -> io::Result<()> {
+// The sets of DES by each of its engines, and which selection entries they look at.
+fn run_des(rt: &(impl Files + Print)) -> io::Result<()> {
     run_blocks(
-        &rt,
+        rt,
         DesEngine::Plain,
         "DES, SP 500-20 and SP 800-17",
         "Output feedback, FIPS 81 and SP 800-38A",
     )?;
     run_blocks(
-        &rt,
+        rt,
         DesEngine::Joined,
         "DES by its joined tables, the same",
         "Output feedback, DES by its joined tables, the same",
     )?;
-    say_selection(&rt, "des-known-answers.tsv")?;
-    say_selection(&rt, "des-one-bit-wrong.tsv")?;
+    say_selection(rt, "des-known-answers.tsv")?;
+    say_selection(rt, "des-one-bit-wrong.tsv")
+}
+
+fn main(rt: HostRuntime) -> io::Result<()> {
+    run_des(&rt)?;
     run_both(
         &rt,
         blocks::aes_holds,
@@ -294,6 +306,8 @@ fn main(rt: HostRuntime) -> io::Result<()> {
         "nxdn-one-bit-wrong.tsv",
     )?;
     run_slots(&rt)?;
+    run_zeros(&rt)?;
+    run_counts(&rt)?;
     run_messages(
         &rt,
         DesEngine::Joined,

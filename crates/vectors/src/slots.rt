@@ -2,7 +2,7 @@
 // alone: by default it goes on over each announcement that does not come.
 use crate::row::{field, first_octets_of, has_octets, number, octets_of};
 use answers::Answer;
-use calls::call::{Call, DEFAULT, RECEIVING, SENDING, TOLD, Terms};
+use calls::call::{Call, DEFAULT, TOLD, Terms, receiver, sender};
 use calls::counts::Counts;
 use voice::slot::{Slot, session_stream, voice, voice_by};
 
@@ -68,10 +68,11 @@ fn turns_in(way: Way, row: &[u8], call: Call, mask: u8, room: &mut [u8]) -> bool
     turns_after(way, row, call, mask, &mut room[0..length])
 }
 
-fn end_of(way: Way) -> u8 {
+// A call at the end that a row's slot is turned at, as its first session starts.
+fn call_of(way: Way, terms: Terms, vector: [u8; 8]) -> Call {
     match way {
-        Way::Sent => SENDING,
-        _ => RECEIVING,
+        Way::Sent => sender(terms, 0, vector),
+        _ => receiver(terms, 0, TOLD, vector, Counts::default()),
     }
 }
 
@@ -87,24 +88,12 @@ pub fn holds(way: Way, row: &[u8]) -> bool {
     {
         return false;
     }
-    let call = Call {
-        end: end_of(way),
-        terms: Terms {
-            cipher: number(row, 0),
-            key,
-            rate: number(row, 1),
-            strictness: DEFAULT,
-        },
-        position: 0,
-        known: TOLD,
-        vector,
-        counts: Counts {
-            opened: 0,
-            held: 0,
-            replaced: 0,
-            lost: 0,
-        },
+    let terms = Terms {
+        cipher: number(row, 0),
+        key,
+        rate: number(row, 1),
+        strictness: DEFAULT,
     };
     let mut frame = [0u8; 36];
-    turns_in(way, row, call, mask[0], &mut frame)
+    turns_in(way, row, call_of(way, terms, vector), mask[0], &mut frame)
 }

@@ -1,9 +1,12 @@
 -- `report::counts_within` meets its contract.
-use Rattle.std.proofs.Common.{◌<◌, ◌≤◌, rules, tests}
-use Rattle.std.proofs.lemmas.Iterator.{cases_from_all, YieldsList-from_slice}
-use Rattle.report.proofs.SumLaws.{within_cases}
+use mathlib.Core.Path.{◌≡◌, sym}
+use borrow.Author.Rules.{rules}
+use Rattle.std.proofs.lemmas.Fn.{fold_over, slice_gives, fronts}
+use Rattle.report.specs.Report.{counts_within}
+use Rattle.report.proofs.SumLaws.{within-none, within_more}
 use Rattle.report.proofs.counts_within.Goals as goal
 
 pub returns : goal.returns
 returns c =
-    within_cases c.args.counts.now _ (cases_from_all _ _ _ (λ x. x ≤ 4000000) (λ x. 4000000 < x) c.all.ensures.ran (YieldsList-from_slice c.args.counts.now cc) (λ x q k. search (rules, tests)) (λ x q k. search (rules, tests)))
+    fold_over fronts (λ y. y.now) _ (λ xs within. within ≡ counts_within xs) _ (λ xs within x more f e k. (within_more xs x.now within more e (search rules), search rules))
+    c.iter.result c.args.counts.now _ _ (search (rules, slice_gives)) (sym within-none) c.fold.ensures.ran
