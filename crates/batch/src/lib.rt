@@ -68,7 +68,7 @@ fn kept_on(before: Hearing, call: Call, session: &mut Session<'_>) -> Hearing
     ensures as_they_were { session.new.octets.now ≡ session.old.octets.now }
     ensures made_before { session.new.made ≡ true → (session.old.made ≡ true) × (result.kept ≡ before.kept) }
 {
-    let after = carry(before, call);
+    let after = carry(before, Ok(call));
     if after.kept != before.kept {
         session.made = false;
     }

@@ -1,7 +1,7 @@
 // A call that keeps a vector which it heard for its next session, and announces it by itself as that starts.
 #![tactic(auto)]
 
-ghost use Rattle.std.specs.Prelude.{◌≡◌, true};
+ghost use Rattle.std.specs.Prelude.{◌≡◌, true, IfOk, IsErr};
 ghost use Rattle.calls.specs.Call.{good_call, standing};
 ghost use Rattle.hearing.specs.Hearing.{hears, under_way, kept_right, bad_call, call_of, alone, keeping};
 ghost use Rattle.answers.specs.Outcomes.{result_of};
@@ -107,15 +107,17 @@ fn hand_on(call: Call, vector: [u8; VECTOR_OCTETS]) -> Hearing
     alone(announce(call, &vector).unwrap_or(call))
 }
 
-// What is kept, after an operation that left this call: one that was done, or a slot that was held. What is refused changes nothing.
+// What is kept, after an operation on the call: the call that it left, done or with a slot that was held. What is refused changes nothing.
 #[tactic(auto, unfolding(crate::specs::Heard::handed))]
-pub fn carry(before: Hearing, call: Call) -> Hearing
-    ensures { result ≡ handed before.kept before.next call }
+pub fn carry(before: Hearing, after: Result<Call, Answer>) -> Hearing
+    ensures carried { IfOk after (λ call. result ≡ handed before.kept before.next call) }
+    ensures refused { IsErr after → result ≡ before }
 {
-    if before.kept != ONE {
-        return alone(call);
+    match after {
+        Ok(call) if before.kept != ONE => alone(call),
+        Ok(call) => hand_on(call, before.next),
+        Err(_) => before,
     }
-    hand_on(call, before.next)
 }
 
 // A vector is heard. The last one counts.

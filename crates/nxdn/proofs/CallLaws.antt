@@ -48,7 +48,7 @@ use Rattle.nxdn.specs.Interface.{Asked, Of, Heard, asked_step, end_fits, fits, o
 use Rattle.nxdn.proofs.LentLaws.{out_done, out-not, out_none, misfit, handed-is, not-handed, is-handed, keep_refused, keep_written, undone_refuses, left-is, short, unfit, kept}
 
 -- what an operation doesn't turn it leaves
-out-left : (lent : List ℕ) (a : Answer) (out : List ℕ) → ((number_of a ≡ 0 → ⊥) → out ≡ lent) → out ≡ out_after lent a out
+pub out-left : (lent : List ℕ) (a : Answer) (out : List ℕ) → ((number_of a ≡ 0 → ⊥) → out ≡ lent) → out ≡ out_after lent a out
 out-left lent a out stays = go (ℕ_discrete (number_of a) 0)
   where
     go : Dec (number_of a ≡ 0) → out ≡ out_after lent a out

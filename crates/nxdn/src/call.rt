@@ -59,7 +59,7 @@ pub fn nxdn_voice(call: &mut [u8], mask: u8, frame: &mut [u8]) -> u8
     };
     match voice::slot::voice(call_of(before), mask, frame) {
         Ok(slot) => {
-            write(call, carry(before, slot.call));
+            write(call, carry(before, Ok(slot.call)));
             u8::from(slot.held)
         }
         Err(answer) => answer.number(),
@@ -147,7 +147,7 @@ pub fn nxdn_end(call: &mut [u8], counts: &mut [u32]) -> u8
     match calls::call::end(call_of(before)) {
         Ok((after, counted)) => {
             lay_counts(counts, counted);
-            write(call, carry(before, after));
+            write(call, carry(before, Ok(after)));
             0
         }
         Err(refusal) => refusal.number(),

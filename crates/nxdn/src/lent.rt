@@ -47,7 +47,7 @@ pub(crate) fn operate<F: FnOnce(Call) -> Result<Call, Answer>>(call: &mut [u8], 
     };
     match operation(call_of(before)) {
         Ok(after) => {
-            held::call::write(call, carry(before, after));
+            held::call::write(call, carry(before, Ok(after)));
             0
         }
         Err(answer) => answer.number(),

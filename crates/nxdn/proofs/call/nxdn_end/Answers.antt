@@ -13,7 +13,7 @@ returns-then-counts-ne-COUNTS c = call_unfit _ (Of End) _ _ c.in-Some.ensures.0 
 
 pub returns-in-Ok : goal.returns-in-Ok
 returns-in-Ok c =
-    end-done _ _ c.in-Some.ensures.0 (eq-eqb _ _ c.if-counts-ne-COUNTS.false) c.in-Some.ensures.1 c.call_of.ensures c.end.ensures c.in-Ok.is c.carry.ensures c.write.ensures c.lay_counts.ensures
+    end-done _ _ c.in-Some.ensures.0 (eq-eqb _ _ c.if-counts-ne-COUNTS.false) c.in-Some.ensures.1 c.call_of.ensures c.end.ensures c.in-Ok.is c.carry.ensures.carried c.write.ensures c.lay_counts.ensures
 
 pub returns-in-Err : goal.returns-in-Err
 returns-in-Err c =
