@@ -62,14 +62,17 @@ fn is_apart(book: &[u8; BOOK_OCTETS], k: usize) -> bool
     e[CIPHER] == 0 || find(book, e[CIPHER], e[ID]) == Some(k)
 }
 
-pub fn good_book(book: &[u8; BOOK_OCTETS]) -> bool
+pub fn good_book(book: &[u8]) -> bool
     ensures { result ≡ good_book book.now }
 {
+    let Some(whole) = book.as_array::<BOOK_OCTETS>() else {
+        return false;
+    };
     for k in 0..ENTRIES {
-        if !entry_right(entry(book, k)) {
+        if !entry_right(entry(whole, k)) {
             return false;
         }
-        if !is_apart(book, k) {
+        if !is_apart(whole, k) {
             return false;
         }
     }
@@ -79,19 +82,22 @@ pub fn good_book(book: &[u8; BOOK_OCTETS]) -> bool
 // ---- what every operation asks first
 
 // The number of the entry for a cipher and key ID, or why that cannot be asked of this book. The numbers' range was asked.
-pub fn seek(book: &[u8; BOOK_OCTETS], cipher: u8, id: u8) -> Result<Option<usize>, Answer>
+pub fn seek(book: &[u8], cipher: u8, id: u8) -> Result<Option<usize>, Answer>
     ensures { result ≡ seeking book.now cipher id }
 {
-    if !good_book(book) {
+    let Some(whole) = book.as_array() else {
+        return Err(Answer::Bad);
+    };
+    if !good_book(whole) {
         return Err(Answer::Bad);
     }
-    Ok(find(book, cipher, id))
+    Ok(find(whole, cipher, id))
 }
 
 pub fn look(book: &[u8], cipher: u8, id: u8) -> Result<usize, Answer>
     ensures { result ≡ spotted (lookup book.now cipher id) }
 {
-    let Some(book) = book.as_array() else {
+    let Some(book) = book.as_array::<BOOK_OCTETS>() else {
         return Err(Answer::WrongLength);
     };
     if !in_range(cipher, id) {

@@ -3,6 +3,7 @@ ghost use Rattle.std.specs.Prelude.{◌≡◌};
 ghost use Rattle.answers.specs.Outcomes.{result_of};
 ghost use Rattle.keybook.specs.Screen.{name_of, shown, inventory_of};
 
+use crate::BOOK_OCTETS;
 use crate::book::{ENTRIES, entry, good_book, look};
 use answers::Answer;
 use keyentry::names::NAME_OCTETS;
@@ -45,7 +46,7 @@ fn show(e: &[u8; ENTRY_OCTETS]) -> Shown
 pub fn inventory(book: &[u8], k: usize) -> Result<Shown, Answer>
     ensures { result ≡ result_of (inventory_of book.now k) }
 {
-    let Some(whole) = book.as_array() else {
+    let Some(whole) = book.as_array::<BOOK_OCTETS>() else {
         return Err(Answer::WrongLength);
     };
     if k >= ENTRIES {

@@ -6,4 +6,4 @@ use Rattle.keybook.proofs.BookLaws.{right_at}
 use Rattle.keybook.proofs.book.good_book.Given as goal
 
 abbrev pub invariant-loop-k : goal.invariant-loop-k
-invariant-loop-k l = all_below (right_at l.book) l.k ≡ true
+invariant-loop-k l = all_below (right_at l.whole) l.k ≡ true
