@@ -90,6 +90,8 @@ impl Carry {
         requires { (self.old.count ≤ kept_octets) × (answer_room ≤ length out.old) × Cached session.old.made self.old.call session.old.octets.now }
         ensures responded { Responded line_reader (take self.old.count self.old.line ++ octets.now) (recorder book.old self.old.call) out.old result (recorder book.new self.new.call) out.new }
         ensures cached { Cached session.new.made self.new.call session.new.octets.now }
+        ensures same_octets { session.new.octets.ghost_name ≡ session.old.octets.ghost_name }
+        ensures as_long { length session.new.octets.now ≡ length session.old.octets.now }
         ensures none_kept { (self.new.count ≡ 0) × (length self.new.line ≡ kept_octets) }
     {
         let count = self.count;

@@ -1,5 +1,5 @@
 // A line of text, and the output line that it gives.
-ghost use Rattle.std.specs.Prelude.{◌≤◌, length};
+ghost use Rattle.std.specs.Prelude.{◌≡◌, ◌≤◌, length};
 ghost use Rattle.text.specs.Responded.{Responded};
 ghost use Rattle.sessions.specs.Session.{Cached};
 ghost use Rattle.records.specs.Answered.{answer_room, recorder};
@@ -29,6 +29,8 @@ pub fn respond(
     requires { (answer_room ≤ length out.old) × Cached session.old.made call session.old.octets.now }
     ensures responded { Responded line_reader line.now (recorder book.old call) out.old result.length (recorder book.new result.call) out.new }
     ensures cached { Cached session.new.made result.call session.new.octets.now }
+    ensures same_octets { session.new.octets.ghost_name ≡ session.old.octets.ghost_name }
+    ensures as_long { length session.new.octets.now ≡ length session.old.octets.now }
 {
     let mut octets = [0; RECORD_ROOM];
     let parsed = read(line, &mut octets);

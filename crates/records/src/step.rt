@@ -68,6 +68,8 @@ fn voice_slot(call: Call, mask: u8, frame: &mut [u8], session: &mut Session<'_>)
     ensures slot { (result.answer, (result.call, frame.new)) ≡ voice_of call mask frame.old }
     ensures shown { result.shown ≡ pick (is_done result.answer) record_frame 0 }
     ensures cached { Cached session.new.made result.call session.new.octets.now }
+    ensures same_octets { session.new.octets.ghost_name ≡ session.old.octets.ghost_name }
+    ensures as_long { length session.new.octets.now ≡ length session.old.octets.now }
 {
     match session.voice_slot(call, mask, frame) {
         Ok(slot) if slot.held => no_frame(Answer::Held, slot.call),
@@ -99,6 +101,8 @@ pub fn step(
     requires { (key_count parsed ≤ record_room) × Cached session.old.made call session.old.octets.now }
     ensures effect { as_effect result.answer book.new result.call (take result.shown octets.new) ≡ step_of (record_in parsed octets.old) book.old call }
     ensures cached { (result.shown ≤ record_frame) × Cached session.new.made result.call session.new.octets.now }
+    ensures same_octets { session.new.octets.ghost_name ≡ session.old.octets.ghost_name }
+    ensures as_long { length session.new.octets.now ≡ length session.old.octets.now }
 {
     let Some(parsed) = parsed else {
         return no_frame(Answer::Malformed, call);

@@ -53,6 +53,7 @@ impl Session<'_> {
         requires { Cached self.old.made call self.old.octets.now }
         ensures held { (result ≡ can_hold call self.old.octets.now) × (self.new.made ≡ result) }
         ensures cached { Cached result call self.new.octets.now }
+        ensures same_octets { self.new.octets.ghost_name ≡ self.old.octets.ghost_name }
         ensures as_long { length self.new.octets.now ≡ length self.old.octets.now }
     {
         if !self.made {
@@ -64,6 +65,7 @@ impl Session<'_> {
     // After an operation that begins a session: its keystream is to be made anew. A refusal leaves the call, and its session as it was.
     pub fn anew(&mut self, done: Result<Call, Answer>) -> Result<Call, Answer>
         ensures as_it_was { (result ≡ done) × (self.new.octets.now ≡ self.old.octets.now) }
+        ensures same_octets { self.new.octets.ghost_name ≡ self.old.octets.ghost_name }
         ensures made_if_refused { self.new.made ≡ true → (self.old.made ≡ true) × IsErr done }
         ensures stays_cached { (call : Call) → Cached self.old.made call self.old.octets.now → Cached self.new.made (call_after call done) self.new.octets.now }
     {
@@ -79,6 +81,7 @@ impl Session<'_> {
         requires { Cached self.old.made call self.old.octets.now }
         ensures slot { (result, frame.new) ≡ slot_of (voice_of call mask frame.old) }
         ensures cached { Cached self.new.made (slot_after call result) self.new.octets.now }
+        ensures same_octets { self.new.octets.ghost_name ≡ self.old.octets.ghost_name }
         ensures as_long { length self.new.octets.now ≡ length self.old.octets.now }
     {
         if !self.hold(call) {
@@ -102,6 +105,7 @@ impl Session<'_> {
     pub fn lost_slot(&mut self, call: Call) -> Result<Call, Answer>
         ensures slot { result ≡ result_of (lost_of call) }
         ensures as_they_were { self.new.octets.now ≡ self.old.octets.now }
+        ensures same_octets { self.new.octets.ghost_name ≡ self.old.octets.ghost_name }
         ensures stays_cached { (session : List ℕ) → Cached self.old.made call session → Cached self.new.made (call_after call result) session }
     {
         let after = lost(call)?;

@@ -15,4 +15,4 @@ put_answer-length-requires c =
 
 pub returns : goal.returns
 returns c =
-    record { responded = responded _ _ _ c.read-parsed.ensures.line c.step-done.ensures.effect c.put_answer-length.ensures; cached = c.step-done.ensures.cached.1 }
+    record { responded = responded _ _ _ c.read-parsed.ensures.line c.step-done.ensures.effect c.put_answer-length.ensures; cached = c.step-done.ensures.cached.1; same_octets = c.step-done.ensures.same_octets; as_long = c.step-done.ensures.as_long }
