@@ -123,9 +123,25 @@ module _ (counts : List ℕ) where
   pub done-result : Adds counts → result_of (report_of counts) ≡ Ok (sums counts)
   done-result a = ap result_of (done_sums a)
 
+  -- opened over opened plus held
+  abbrev Proportion : List ℕ → Type 0
+  Proportion l = (get_or l 4 0 ≡ get_or l 0 0) × (get_or l 5 0 ≡ get_or l 0 0 + get_or l 1 0)
+
+  -- of all that a report says, refused or done
+  module _ {a : Answer} {s : Sums} (e : (a, figures s) ≡ report_of counts) where
+    pub said_ratio : (s.part ≡ s.opened) × (s.whole ≡ s.opened + s.held)
+    unfolding sums
+    said_ratio =
+        subst (λ (o : Answer × List ℕ). Proportion o.1) (sym e)
+        (by-case (λ o. Proportion o.1) (λ h. (refl, refl)) (λ h. (refl, refl)) (λ h. (refl, refl)))
+
+    pub said_part_of_whole : s.part ≤ s.whole
+    said_part_of_whole = omega (arith, said_ratio.0, said_ratio.1)
+
+  -- and of the Result, which says nothing but the refusal where it is refused
   module _ (r : Result Sums Answer) (e : result_map_both figures (λ a. a) r ≡ result_of (report_of counts)) where
     abbrev Ratio : Result (List ℕ) Answer → Type 0
-    Ratio r = IfOk r (λ l. (get_or l 4 0 ≡ get_or l 0 0) × (get_or l 5 0 ≡ get_or l 0 0 + get_or l 1 0))
+    Ratio r = IfOk r Proportion
 
     -- opened over opened plus held
     pub ratio : IfOk r (λ s. (s.part ≡ s.opened) × (s.whole ≡ s.opened + s.held))

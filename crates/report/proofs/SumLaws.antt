@@ -8,9 +8,10 @@ use native.Mathlib.Numerals.{add-one}
 use native.Mathlib.Decide.{dec_lt}
 use native.Mathlib.Omega.{arith}
 use lib.Dec.{leb}
-use lib.ListN.{length, get_or, length-append, replicate, length-replicate, get_or-replicate, get_or-append, get_or-eq_default}
+use Rattle.std.proofs.Math.Bool.{and_assoc}
+use lib.ListN.{length, get_or, take, drop, take-append-drop, length-append, replicate, length-replicate, get_or-replicate, get_or-append, get_or-eq_default}
 use lib.Seq.{get_or-append-add, get_or_at}
-use borrow.Author.Tests.{leb-true, le-leb, lt-leb}
+use borrow.Author.Tests.{leb-true}
 use Rattle.octets.specs.Tests.{all_below}
 use Rattle.octets.proofs.TestLaws.{all_none, all-step, all-at, all_alike}
 use Rattle.sizes.specs.Frame.{most_words}
@@ -127,3 +128,42 @@ within_more counts x within more e is =
 
     same : all_below g (length counts) ≡ all_below f (length counts)
     same = all_alike g f (length counts) (λ i h. ap (λ (z : ℕ). leb z most_words) (get_or-append counts (x ∷ []) 0 i h))
+
+-- ---- part after part
+
+all_add : (f : ℕ → Bool) (n m : ℕ) → all_below f (n + m) ≡ (all_below f n && all_below (λ i. f (n + i)) m)
+unfolding all_below
+all_add f n zero = rw (add-zero n) (whole (all_below f n))
+  where
+    whole : (b : Bool) → b ≡ (b && true)
+    whole true = refl
+    whole false = refl
+all_add f n (suc m) = rw add-suc (ap (λ (b : Bool). b && f (n + m)) (all_add f n m) ∙ and_assoc (all_below f n) (all_below (λ i. f (n + i)) m) (f (n + m)))
+
+within_append : (xs ys : List ℕ) → counts_within (xs ++ ys) ≡ (counts_within xs && counts_within ys)
+unfolding counts_within
+within_append xs ys =
+    rw (length-append xs ys)
+    (all_add g (length xs) (length ys)
+    ∙ ap₂ ◌&&◌ (all_alike g (is xs) (length xs) (λ i l. ap small (get_or-append xs ys 0 i l)))
+    (all_alike (λ i. g (length xs + i)) (is ys) (length ys) (λ i l. ap small (get_or-append-add xs ys i 0))))
+  where
+    small : ℕ → Bool
+    small x = leb x most_words
+
+    is : List ℕ → ℕ → Bool
+    is l i = small (get_or l i 0)
+
+    g : ℕ → Bool
+    g = is (xs ++ ys)
+
+-- the first n of them, and the others
+within_split : (n : ℕ) (xs : List ℕ) → counts_within xs ≡ (counts_within (take n xs) && counts_within (drop n xs))
+within_split n xs = ap counts_within (sym (take-append-drop n xs)) ∙ within_append (take n xs) (drop n xs)
+
+pub part_refused : (n : ℕ) (xs : List ℕ) {part : List ℕ} → part ≡ take n xs → counts_within part ≡ false → counts_within xs ≡ false
+part_refused n xs p e = within_split n xs ∙ rw (← p, e)
+
+pub part_passed : (n : ℕ) (xs : List ℕ) {part others : List ℕ} → part ≡ take n xs → others ≡ drop n xs → counts_within part ≡ true
+    → counts_within xs ≡ counts_within others
+part_passed n xs p o e = within_split n xs ∙ rw (← p, ← o, e)

@@ -22,6 +22,9 @@ const LOST: usize = 3;
 
 const MOST_CALLS: usize = 10_000;
 
+// How many counts are looked at before it is asked whether to go on.
+const PART: usize = 32;
+
 // The sums, and opened over opened plus held as part over whole.
 #[derive(Clone, Copy, PartialEq, Eq)]
 pub struct Sums {
@@ -33,13 +36,27 @@ pub struct Sums {
     pub whole: u64,
 }
 
-// All are looked at, so the compiler takes many at a time.
-fn counts_within(counts: &[u32]) -> bool
+// Whether all of a part are within. All are looked at, so the compiler takes many at a time.
+fn part_within(counts: &[u32]) -> bool
     ensures { result ≡ counts_within counts.now }
 {
     counts
         .iter()
         .fold(true, |within, count| within & (*count <= MOST_WORDS))
+}
+
+// Part after part: what stands behind one that isn't within is not looked at.
+fn counts_within(counts: &[u32]) -> bool
+    ensures { result ≡ counts_within counts.now }
+{
+    let mut rest = counts;
+    while let Some((part, others)) = rest.split_first_chunk::<PART>() {
+        if !part_within(part) {
+            return false;
+        }
+        rest = others;
+    }
+    part_within(rest)
 }
 
 fn sum_at(counts: &[u32], place: usize) -> u64
