@@ -49,7 +49,7 @@ fn octet(w: u32, r: usize) -> u8
 // ---- the S-box and the key schedule
 
 // The S-box. A constant that is indexed is made anew at each read, so this is made once.
-#[derive(Drop)]
+#[derive(Clone, Copy)]
 struct Sbox {
     entries: [u8; 256],
     ghost is_sbox: { IsSbox entries },

@@ -12,6 +12,12 @@ ghost use Rattle.ciphers.specs.Keystream.{feedback};
 
 use joineddes::Carried;
 use octets::octets_of;
+use sizes::cipher::{Aes, Des};
+
+// A block of DES, and of AES, in octets.
+const DES_OCTETS: usize = Des::BLOCK_BITS / 8;
+
+const AES_OCTETS: usize = Aes::BLOCK_BITS / 8;
 
 // What enciphers blocks of N octets under a prepared key. From a block to the next one is carried what the engine works on, which need not be the block's octets.
 pub trait Engine<const N: usize> {
@@ -38,8 +44,8 @@ pub trait Engine<const N: usize> {
 }
 
 // Kept: this impl and AES's differ in a type and a size, and one for both would be no plainer: it wants a second trait, of `encipher`, with an impl for each of them.
-impl Engine<8> for des::PreparedKey {
-    type Carried = [u8; 8];
+impl Engine<DES_OCTETS> for des::PreparedKey {
+    type Carried = [u8; DES_OCTETS];
 
     ghost Enciphers = { λ prepared cipher. cipher ≡ des (des_key_of prepared.octets) };
 
@@ -47,22 +53,22 @@ impl Engine<8> for des::PreparedKey {
 
     ghost wide = { inl refl };
 
-    fn first(&self, vector: &[u8; 8]) -> [u8; 8] {
+    fn first(&self, vector: &[u8; DES_OCTETS]) -> [u8; DES_OCTETS] {
         *vector
     }
 
-    fn carry_on(&self, mut block: [u8; 8]) -> [u8; 8] {
+    fn carry_on(&self, mut block: [u8; DES_OCTETS]) -> [u8; DES_OCTETS] {
         self.encipher(&mut block);
         block
     }
 
-    fn block(&self, block: [u8; 8]) -> [u8; 8] {
+    fn block(&self, block: [u8; DES_OCTETS]) -> [u8; DES_OCTETS] {
         block
     }
 }
 
-impl Engine<16> for aes::PreparedKey {
-    type Carried = [u8; 16];
+impl Engine<AES_OCTETS> for aes::PreparedKey {
+    type Carried = [u8; AES_OCTETS];
 
     ghost Enciphers = { λ prepared cipher. cipher ≡ aes (aes_key_of prepared.schedule) };
 
@@ -70,22 +76,22 @@ impl Engine<16> for aes::PreparedKey {
 
     ghost wide = { inr refl };
 
-    fn first(&self, vector: &[u8; 16]) -> [u8; 16] {
+    fn first(&self, vector: &[u8; AES_OCTETS]) -> [u8; AES_OCTETS] {
         *vector
     }
 
-    fn carry_on(&self, mut block: [u8; 16]) -> [u8; 16] {
+    fn carry_on(&self, mut block: [u8; AES_OCTETS]) -> [u8; AES_OCTETS] {
         self.encipher(&mut block);
         block
     }
 
-    fn block(&self, block: [u8; 16]) -> [u8; 16] {
+    fn block(&self, block: [u8; AES_OCTETS]) -> [u8; AES_OCTETS] {
         block
     }
 }
 
 // The halves of a block are carried, and a block is made of them only for output.
-impl Engine<8> for joineddes::PreparedKey {
+impl Engine<DES_OCTETS> for joineddes::PreparedKey {
     type Carried = Carried;
 
     ghost Enciphers = { λ prepared cipher. (key : List ℕ) × Scheduled key prepared.keys × (cipher ≡ des key) };
@@ -94,7 +100,7 @@ impl Engine<8> for joineddes::PreparedKey {
 
     ghost wide = { inl refl };
 
-    fn first(&self, vector: &[u8; 8]) -> Carried {
+    fn first(&self, vector: &[u8; DES_OCTETS]) -> Carried {
         Carried::of(vector)
     }
 
@@ -102,7 +108,7 @@ impl Engine<8> for joineddes::PreparedKey {
         self.carry_on(halves)
     }
 
-    fn block(&self, halves: Carried) -> [u8; 8] {
+    fn block(&self, halves: Carried) -> [u8; DES_OCTETS] {
         octets_of(halves.block())
     }
 }

@@ -116,7 +116,8 @@ impl Carried {
 }
 
 impl PreparedKey {
-    // Prepares a key.
+    // Prepares a key. Inlined, so that the tables are laid once where the key stands: a key that is handed out is laid twice.
+    #[inline(always)]
     pub fn new(key: &[u8; 8]) -> PreparedKey
         ensures { Scheduled key.now result.keys }
     {

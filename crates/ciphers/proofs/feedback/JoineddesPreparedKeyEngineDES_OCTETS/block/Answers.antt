@@ -1,8 +1,8 @@
--- `ciphers::feedback::JoineddesPreparedKeyEngine8::block` meets its contract.
+-- `ciphers::feedback::JoineddesPreparedKeyEngineDES_OCTETS::block` meets its contract.
 use mathlib.Core.Path.{◌∙◌}
 use Rattle.joineddes.proofs.HalfLaws.{octets-block}
 use Rattle.ciphers.proofs.CarriedFeedback.{carried-block}
-use Rattle.ciphers.proofs.feedback.JoineddesPreparedKeyEngine8.block.Goals as goal
+use Rattle.ciphers.proofs.feedback.JoineddesPreparedKeyEngineDES_OCTETS.block.Goals as goal
 
 pub returns : goal.returns
 returns c cipher vector n enciphers is =

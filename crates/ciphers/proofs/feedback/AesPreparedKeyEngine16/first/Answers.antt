@@ -1,8 +1,0 @@
--- `ciphers::feedback::AesPreparedKeyEngine16::first` meets its contract.
-use mathlib.Core.Path.{refl}
-use Rattle.octets.specs.Lists.{iterate}
-use Rattle.ciphers.proofs.feedback.AesPreparedKeyEngine16.first.Goals as goal
-
-pub returns : goal.returns
-unfolding iterate
-returns c = refl

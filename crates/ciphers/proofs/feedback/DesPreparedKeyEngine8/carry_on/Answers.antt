@@ -1,6 +1,0 @@
--- `ciphers::feedback::DesPreparedKeyEngine8::carry_on` meets its contract.
-use Rattle.ciphers.proofs.CarriedFeedback.{iterate_more}
-use Rattle.ciphers.proofs.feedback.DesPreparedKeyEngine8.carry_on.Goals as goal
-
-pub returns : goal.returns
-returns c vector n is = iterate_more _ _ _ _ n is c.encipher.ensures

@@ -1,8 +1,0 @@
--- `ciphers::feedback::DesPreparedKeyEngine8::first` meets its contract.
-use mathlib.Core.Path.{refl}
-use Rattle.octets.specs.Lists.{iterate}
-use Rattle.ciphers.proofs.feedback.DesPreparedKeyEngine8.first.Goals as goal
-
-pub returns : goal.returns
-unfolding iterate
-returns c = refl
