@@ -45,7 +45,7 @@ fn part_within(counts: &[u32]) -> bool
         .fold(true, |within, count| within & (*count <= MOST_WORDS))
 }
 
-// Part after part: what stands behind one that isn't within is not looked at.
+// Kept: a turn goes on by a part, and stops at one that isn't within. A fold over all is as quick and doesn't stop; `all` stops and takes one at a time.
 fn counts_within(counts: &[u32]) -> bool
     ensures { result ≡ counts_within counts.now }
 {
