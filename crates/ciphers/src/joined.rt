@@ -11,7 +11,8 @@ use crate::plain;
 use joineddes::PreparedKey;
 use sizes::cipher::{Des, KEY_ROOM, VECTOR_OCTETS};
 
-// Not inlined: the tables are room on the stack that is cleared at the entry of the function that has it, and another cipher is to have neither.
+// Kept: of one form with plain's. The tables are room on the stack that is cleared at the entry of the function that has it, and another cipher is to have neither:
+// so it is a function of its own, and not inlined.
 #[inline(never)]
 fn des_stream(key: &[u8; KEY_ROOM], vector: &[u8; VECTOR_OCTETS], from: usize, out: &mut [u8])
     ensures { out.new ≡ octets_from (length out.old) (λ k. feedback (des key.now) (block_bits 2) vector.now (8 * from + k)) }
